@@ -1,0 +1,2 @@
+-- What an auditor reads: the specimens, and the demands as statements.
+pub mod Specimens

@@ -1,0 +1,175 @@
+-- The thirteen specimen tags that the requirements mark P, as one table under one claim. Each row gives a tag by its bytes, a
+-- question and the answer that the requirements state. The checker computes every answer from the definitions, by `refl`.
+-- Assumes nothing.
+use mathlib.Core.Path.{_≡_, refl}
+use mathlib.Core.Bool.{Bool, true, false, _&&_, cond}
+use mathlib.Core.List.{List, [], _∷_, _++_}
+use Prim.Native.Nat.{ℕ, _+_, _-_}
+use lib.ListN.{length, take, replicate}
+use Rattle.tag.specs.Bytes.{byte, same}
+use Rattle.tag.specs.Reading.{What, message, empty, being-written, Answer, refusal, answer, answerOf}
+use Rattle.tag.specs.Stores.{cut}
+use Rattle.tag.specs.Plan.{picks}
+use Rattle.tag.specs.TagType.{TagType, held, Output, withheld, output, writing, write, cutUp, commands}
+use Rattle.tag.specs.Judge.{Verdict, accepted, refused, holdsAs, fault, judge, judged}
+use Rattle.tlv.specs.Areas.{without}
+use Rattle.tlv.specs.Walk.{longBy, lengthBy, passValue, areaBy, controlBy, find}
+use Rattle.tlv.specs.Message.{viewBy, viewed, reading}
+use Rattle.tlv.specs.Update.{fitsIn, lengthField}
+use Rattle.type2.specs.Codec.{decode}
+use Rattle.type2.specs.Type2.{type2}
+use Rattle.type3.specs.Message as message3
+use Rattle.type3.specs.Codec as codec3
+use Rattle.type3.specs.Type3.{type3}
+
+-- ---- tags by their bytes
+
+-- a Type 2 tag of n bytes: these from address 12 on, all others 00h
+abbrev tag2 : ℕ → List ℕ → List ℕ
+tag2 n bytes = take n (replicate 12 0x00 ++ bytes ++ replicate n 0x00)
+
+-- the same of 64 bytes, size 6: 48 bytes of data area, which begin with these
+abbrev small : List ℕ → List ℕ
+small bytes = tag2 64 (0xE1 ∷ 0x10 ∷ 0x06 ∷ 0x00 ∷ bytes)
+
+-- 280 bytes, size 33: u bytes of the 264 follow the type byte of a message TLV, and all before it are NULL TLVs
+abbrev large : ℕ → List ℕ
+large u = tag2 280 (0xE1 ∷ 0x10 ∷ 0x21 ∷ 0x00 ∷ replicate (263 - u) 0x00 ++ 0x03 ∷ [])
+
+-- a Type 3 tag with thirteen blocks after block 0, by WriteFlag and the checksum's low byte; Ln is 35
+abbrev tag3 : ℕ → ℕ → List ℕ
+tag3 flag sum =
+    0x10 ∷ 0x04 ∷ 0x01 ∷ 0x00 ∷ 0x0D ∷ 0x00 ∷ 0x00 ∷ 0x00 ∷ 0x00 ∷ flag ∷ 0x01 ∷ 0x00 ∷ 0x00 ∷ 0x23 ∷ 0x00 ∷ sum ∷ replicate 208 0x00
+
+-- a message of n bytes
+abbrev some : ℕ → List ℕ
+some n = replicate n 0xD0
+
+-- ---- questions and answers
+
+pub data Question : Type 0 where
+  -- what does it read as
+  read : Question
+  -- is a message of n bytes written
+  written : ℕ → Question
+  -- what is its byte at an address once a message of n bytes is written
+  written-at : ℕ → ℕ → Question
+  -- is a list judged good for the message
+  judge-list : List ℕ → List ℕ → Question
+
+pub data Outcome : Type 0 where
+  refuses : ℕ → Outcome
+  -- which it is, the message's address and length, whether interrupted, whether writable
+  reads : What → ℕ → ℕ → Bool → Bool → Outcome
+  -- the commands were written, and the tag that took them reads as the message
+  fits : Outcome
+  holds-byte : ℕ → Outcome
+  accepts : ℕ → Outcome
+  refuses-at : ℕ → ℕ → Outcome
+  misread : Outcome
+
+abbrev ofAnswer : Answer → Outcome
+ofAnswer (refusal r) = refuses r
+ofAnswer (answer what a n b w) = reads what a n b w
+
+-- the tag once it took the commands of a list's bytes
+abbrev took : TagType → List ℕ → List ℕ → List ℕ
+took T i bytes = cut (length (commands T i bytes)) i (commands T i bytes)
+
+abbrev ofWrite : TagType → List ℕ → List ℕ → Output → Outcome
+ofWrite T i m (withheld r) = refuses r
+ofWrite T i m (output n bytes) = cond (holdsAs (held T (took T i bytes)) m) fits misread
+
+abbrev ofByte : TagType → List ℕ → ℕ → Output → Outcome
+ofByte T i a (withheld r) = refuses r
+ofByte T i a (output n bytes) = holds-byte (byte (took T i bytes) a)
+
+abbrev ofVerdict : Verdict → Outcome
+ofVerdict (accepted n) = accepts n
+ofVerdict (refused r p) = refuses-at r p
+
+-- a list buffer that is long enough
+abbrev roomy : ℕ
+roomy = 10000
+
+abbrev outcome : TagType → List ℕ → Question → Outcome
+outcome T i read = ofAnswer (answerOf 0 ((T .reading) i))
+outcome T i (written n) = ofWrite T i (some n) (write T roomy i (some n))
+outcome T i (written-at n a) = ofByte T i a (write T roomy i (some n))
+outcome T i (judge-list m bytes) = ofVerdict (judged T i m bytes)
+
+-- an outcome as numbers, to be compared
+abbrev whatNumber : What → ℕ
+whatNumber message = 1
+whatNumber empty = 2
+whatNumber being-written = 3
+
+abbrev numbers : Outcome → List ℕ
+numbers (refuses r) = 0 ∷ r ∷ []
+numbers (reads what a n b w) = 1 ∷ whatNumber what ∷ a ∷ n ∷ cond b 1 0 ∷ cond w 1 0 ∷ []
+numbers fits = 2 ∷ []
+numbers (holds-byte v) = 3 ∷ v ∷ []
+numbers (accepts n) = 4 ∷ n ∷ []
+numbers (refuses-at r p) = 5 ∷ r ∷ p ∷ []
+numbers misread = 6 ∷ []
+
+pub record Row : Type 0 where
+  pub kind : TagType
+  pub image : List ℕ
+  pub question : Question
+  pub expected : Outcome
+
+abbrev row2 : List ℕ → Question → Outcome → Row
+row2 i q e = record { kind = type2; image = i; question = q; expected = e }
+
+abbrev row3 : List ℕ → Question → Outcome → Row
+row3 i q e = record { kind = type3 (replicate 8 0x00); image = i; question = q; expected = e }
+
+-- is every answer the one expected
+pub holds : List Row → Bool
+unfolding picks writing cutUp fault judge without longBy lengthBy passValue areaBy controlBy find viewBy viewed reading fitsIn lengthField decode message3.viewBy message3.reading codec3.namesOf codec3.decodeBy codec3.decode
+holds [] = true
+holds (r ∷ rs) = same (numbers (outcome (r .kind) (r .image) (r .question))) (numbers (r .expected)) && holds rs
+
+-- ---- the table
+
+pub table : List Row
+table =
+    -- a message of three bytes at 18
+    row2 (small (0x03 ∷ 0x03 ∷ 0xD0 ∷ 0x00 ∷ 0x00 ∷ 0xFE ∷ [])) read (reads message 18 3 false true)
+    -- empty
+    ∷ row2 (small (0x03 ∷ 0x00 ∷ 0xFE ∷ [])) read (reads empty 0 0 false true)
+    -- size 0: 8
+    ∷ row2 (tag2 64 (0xE1 ∷ 0x10 ∷ 0x00 ∷ 0x00 ∷ [])) read (refuses 8)
+    -- u = 47: 46 fits, 47 gets 11
+    ∷ row2 (small (0x03 ∷ 0x00 ∷ 0xFE ∷ [])) (written 46) fits
+    ∷ row2 (small (0x03 ∷ 0x00 ∷ 0xFE ∷ [])) (written 47) (refuses 11)
+    -- u = 255 and u = 256: 254 fits; the second leaves room for FEh
+    ∷ row2 (large 255) (written 254) fits
+    ∷ row2 (large 255) (written-at 254 279) (holds-byte 0xD0)
+    ∷ row2 (large 256) (written 254) fits
+    ∷ row2 (large 256) (written-at 254 279) (holds-byte 0xFE)
+    -- u = 257: 255 gets 11; u = 258: 255 fits
+    ∷ row2 (large 257) (written 255) (refuses 11)
+    ∷ row2 (large 258) (written 255) fits
+    -- length FF 00 FE: 7
+    ∷ row2 (small (0x03 ∷ 0xFF ∷ 0x00 ∷ 0xFE ∷ [])) read (refuses 7)
+    -- the last data byte is 03h: 7
+    ∷ row2 (small (replicate 47 0x00 ++ 0x03 ∷ [])) read (refuses 7)
+    -- Type 3: 35 bytes; 208 fits, 209 gets 11
+    ∷ row3 (tag3 0x00 0x46) read (reads message 16 35 false true)
+    ∷ row3 (tag3 0x00 0x46) (written 208) fits
+    ∷ row3 (tag3 0x00 0x46) (written 209) (refuses 11)
+    -- being written
+    ∷ row3 (tag3 0x0F 0x55) read (reads being-written 0 0 false true)
+    -- the checksum is wrong: 2
+    ∷ row3 (tag3 0x00 0x47) read (refuses 2)
+    -- the empty list on a tag that reads as the message, and on another
+    ∷ row2 (small (0x03 ∷ 0x03 ∷ 0xD0 ∷ 0x00 ∷ 0x00 ∷ 0xFE ∷ [])) (judge-list (0xD0 ∷ 0x00 ∷ 0x00 ∷ []) []) (accepts 0)
+    ∷ row2 (small (0x03 ∷ 0x00 ∷ 0xFE ∷ [])) (judge-list (0xD0 ∷ 0x00 ∷ 0x00 ∷ []) []) (refuses-at 23 0)
+    ∷ []
+
+-- every answer of the table is the one that the requirements state
+pub specimens : holds table ≡ true
+unfolding holds table
+specimens = refl

@@ -1,0 +1,78 @@
+-- The judge of command lists made by anyone, for every type of tag. After each command it tests 20, 21 and 22, in this
+-- order; the first command at fault is reported, and 23 where the list ends otherwise than as the message.
+-- Assumes nothing.
+use mathlib.Core.Path.{_≡_}
+use mathlib.Core.Bool.{Bool, true, false, not, _&&_, _||_}
+use mathlib.Core.List.{List, [], _∷_}
+use Prim.Native.Nat.{ℕ, zero, suc}
+use lib.Dec.{eqb}
+use lib.ListN.{length}
+use Rattle.tag.specs.Bytes.{byte, run, same}
+use Rattle.tag.specs.Refusals.{not-well-formed, changes-protected, misreads, ends-otherwise}
+use Rattle.tag.specs.Reading.{Held, broken, nothing, holds}
+use Rattle.tag.specs.Stores.{Store, Command, ill, stores, done, states}
+use Rattle.tag.specs.Plan.{Plan, protected}
+use Rattle.tag.specs.TagType.{TagType, held, Writing, unwritten, written, writing, commands}
+
+-- accepted, with the number of commands; or a refusal and the position of the command, counted from 0
+pub data Verdict : Type 0 where
+  accepted : ℕ → Verdict
+  refused : ℕ → ℕ → Verdict
+
+-- what a list is judged by: how tags are read, the tag handed in, the new message, the protected addresses
+pub record Task : Type 0 where
+  pub held : List ℕ → Held
+  pub start : List ℕ
+  pub wanted : List ℕ
+  pub kept : ℕ → Bool
+
+-- does a tag hold just this message
+abbrev pub holdsAs : Held → List ℕ → Bool
+holdsAs broken m = false
+holdsAs nothing m = false
+holdsAs (holds x) m = same m x
+
+-- does the tag read as the old message, as none, or as the new one
+abbrev pub reads : Task → Held → Bool
+reads t broken = false
+reads t nothing = true
+reads t (holds x) = same x (t .wanted) || holdsAs ((t .held) (t .start)) x
+
+-- does the tag j have the bytes of i at each of the addresses that the test picks
+abbrev pub equalAt : (ℕ → Bool) → List ℕ → List ℕ → List ℕ → Bool
+equalAt test i j [] = true
+equalAt test i j (a ∷ us) = (not (test a) || eqb (byte j a) (byte i a)) && equalAt test i j us
+
+-- is every protected byte unchanged
+abbrev pub keeps : Task → List ℕ → Bool
+keeps t j = equalAt (t .kept) (t .start) j (run 0 (length (t .start)))
+
+abbrev pub every : (List ℕ → Bool) → List (List ℕ) → Bool
+every test [] = true
+every test (x ∷ xs) = test x && every test xs
+
+-- the refusal of a command that is given to the tag j, or 0
+unfoldable pub fault : Task → List ℕ → Command → ℕ
+fault t j ill = not-well-formed
+fault t j (stores ss) =
+    elim (every (keeps t) (states j ss)) [
+      | false ↦ changes-protected
+      | true ↦ elim (every (λ x. reads t ((t .held) x)) (states j ss)) [ false ↦ misreads | true ↦ 0 ]
+    ]
+
+-- the commands from place n on, with the tag j that those before have left
+unfoldable pub judge : Task → ℕ → List ℕ → List Command → Verdict
+judge t n j [] = elim (holdsAs ((t .held) j) (t .wanted)) [ true ↦ accepted n | false ↦ refused ends-otherwise n ]
+judge t n j (c ∷ cs) = elim (fault t j c) [ zero ↦ judge t (suc n) (done j c) cs | suc r ↦ refused (suc r) n ]
+
+abbrev pub taskOf : TagType → List ℕ → List ℕ → Plan → Task
+taskOf T i m p = record { held = held T; start = i; wanted = m; kept = protected p }
+
+-- refusals 1 to 11 first, with position 0; then the list's commands
+abbrev pub judgeBy : TagType → List ℕ → List ℕ → List ℕ → Writing → Verdict
+judgeBy T i m bytes (unwritten r) = refused r 0
+judgeBy T i m bytes (written p) = judge (taskOf T i m p) 0 i (commands T i bytes)
+
+-- the answer of `judge`, for a tag, a message and the bytes of a list
+abbrev pub judged : TagType → List ℕ → List ℕ → List ℕ → Verdict
+judged T i m bytes = judgeBy T i m bytes (writing T i m)

@@ -1,0 +1,27 @@
+-- The tag as a model that takes one command a call: reading's refusals but 13, then 20, else it stores the named blocks,
+-- protected or not. A refusal leaves the image as it is.
+-- Assumes nothing.
+use mathlib.Core.List.{List, [], _∷_}
+use Prim.Native.Nat.{ℕ}
+use Rattle.tag.specs.Refusals.{not-well-formed}
+use Rattle.tag.specs.Reading.{Reading, unreadable, reads}
+use Rattle.tag.specs.Stores.{Store, Command, ill, stores, puts}
+use Rattle.tag.specs.TagType.{TagType}
+
+pub data Modelled : Type 0 where
+  unstored : ℕ → Modelled
+  stored : List ℕ → Modelled
+
+abbrev pub modelBy : List ℕ → Reading → Command → Modelled
+modelBy i (unreadable r) c = unstored r
+modelBy i (reads p) ill = unstored not-well-formed
+modelBy i (reads p) (stores ss) = stored (puts i ss)
+
+-- one call, on the bytes of one command
+abbrev pub model : TagType → List ℕ → List ℕ → Modelled
+model T i bytes = modelBy i ((T .reading) i) ((T .command) i bytes)
+
+-- the image after a call
+abbrev pub imageAfter : List ℕ → Modelled → List ℕ
+imageAfter i (unstored r) = i
+imageAfter i (stored j) = j

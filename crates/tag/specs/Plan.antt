@@ -1,0 +1,72 @@
+-- What writing a message to a tag comes to, for every type of tag: which bytes it sets, and the list of commands that sets
+-- them. The list shuts a guard block first, so that the tag holds no message; it then writes every other block that holds a
+-- byte to set; it opens the guard block last, with all its new bytes.
+-- Assumes nothing.
+use mathlib.Core.Bool.{Bool, true, false, not, _&&_, _||_}
+use mathlib.Core.List.{List, [], _∷_, _++_}
+use Prim.Native.Nat.{ℕ, zero, suc, _+_, _-_, _*_, _/_}
+use lib.Dec.{leb, ltb, eqb}
+use lib.ListN.{length, take, drop}
+use Rattle.tag.specs.Bytes.{overlay, isSet}
+use Rattle.tag.specs.Stores.{Store}
+
+pub record Plan : Type 0 where
+  -- the addresses of the bytes to set, and their values, as far as both go
+  pub addresses : List ℕ
+  pub values : List ℕ
+  -- the bytes of a block, and how many blocks a command may store
+  pub size : ℕ
+  pub width : ℕ
+  -- the guard block, and the image that it is shut with
+  pub guard : ℕ
+  pub closed : List ℕ
+
+-- the tag with all bytes set
+abbrev pub newImage : Plan → List ℕ → List ℕ
+newImage p i = overlay (p .addresses) (p .values) i
+
+-- protected: all bytes but those to set
+abbrev pub protected : Plan → ℕ → Bool
+protected p a = not (isSet (p .addresses) (p .values) a)
+
+-- block b of an image, to be stored
+abbrev pub blockOf : ℕ → List ℕ → ℕ → Store
+blockOf z n b = record { at = z * b; bytes = take z (drop (z * b) n) }
+
+-- does the address lie in block b
+abbrev pub inBlock : ℕ → ℕ → ℕ → Bool
+inBlock z b a = leb (z * b) a && ltb a (z * b + z)
+
+-- does block b hold a byte to set
+abbrev pub touches : ℕ → List ℕ → List ℕ → ℕ → Bool
+touches z [] vs b = false
+touches z (x ∷ us) [] b = false
+touches z (x ∷ us) (v ∷ vs) b = inBlock z b x || touches z us vs b
+
+-- is block b written between the guard's two commands
+abbrev pub between : Plan → ℕ → Bool
+between p b = not (eqb b (p .guard)) && touches (p .size) (p .addresses) (p .values) b
+
+-- of k blocks from b on, those of the image n that the test picks, rising
+unfoldable pub picks : (ℕ → Bool) → ℕ → List ℕ → ℕ → ℕ → List Store
+picks t z n b zero = []
+picks t z n b (suc k) = elim (t b) [ true ↦ blockOf z n b ∷ picks t z n (suc b) k | false ↦ picks t z n (suc b) k ]
+
+-- c commands of w stores each, the last taking what remains
+abbrev pub chunk : ℕ → ℕ → List Store → List (List Store)
+chunk w zero ss = []
+chunk w (suc c) ss = take w ss ∷ chunk w c (drop w ss)
+
+-- as many commands as are needed
+abbrev pub chunks : ℕ → List Store → List (List Store)
+chunks w ss = chunk w ((length ss + (w - 1)) / w) ss
+
+-- the commands between the guard's two
+abbrev pub middle : Plan → List ℕ → List (List Store)
+middle p i = chunks (p .width) (picks (between p) (p .size) (newImage p i) 0 (length i / p .size))
+
+-- the list for the tag i
+abbrev pub list : Plan → List ℕ → List (List Store)
+list p i =
+    (blockOf (p .size) (p .closed) (p .guard) ∷ [])
+    ∷ (middle p i ++ (blockOf (p .size) (newImage p i) (p .guard) ∷ []) ∷ [])

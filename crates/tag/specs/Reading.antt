@@ -1,0 +1,66 @@
+-- What reading a tag answers, for every type of tag. A type gives a `Reading`, which has the message itself; what the
+-- caller of `read` gets (its length, and the gathering buffer) is worked out here.
+-- Assumes nothing.
+use mathlib.Core.Bool.{Bool, true, false, _&&_, cond}
+use mathlib.Core.List.{List}
+use Prim.Native.Nat.{ℕ}
+use lib.Dec.{ltb}
+use lib.ListN.{length}
+use Rattle.tag.specs.Bytes.{overwrite}
+use Rattle.tag.specs.Refusals.{short-gathering}
+
+-- which it is
+pub data What : Type 0 where
+  message empty being-written : What
+
+-- what a tag that reads says of itself; without a message `bytes` is empty and `address` is 0
+pub record Report : Type 0 where
+  pub what : What
+  pub bytes : List ℕ
+  pub address : ℕ
+  -- a skipped address lies between the message's first and last byte
+  pub interrupted : Bool
+  pub writable : Bool
+
+-- one of the refusals 1 to 8, or a report
+pub data Reading : Type 0 where
+  unreadable : ℕ → Reading
+  reads : Report → Reading
+
+-- the answer of `read`: a refusal; or which it is, address, length, interrupted, writable
+pub data Answer : Type 0 where
+  refusal : ℕ → Answer
+  answer : What → ℕ → ℕ → Bool → Bool → Answer
+
+-- an interrupted message that is longer than the gathering buffer
+abbrev pub tooShort : ℕ → Report → Bool
+tooShort room p = p .interrupted && ltb room (length (p .bytes))
+
+-- the answer, by the length of the gathering buffer
+abbrev pub answerOf : ℕ → Reading → Answer
+answerOf room (unreadable r) = refusal r
+answerOf room (reads p) =
+    cond (tooShort room p) (refusal short-gathering)
+    (answer (p .what) (p .address) (length (p .bytes)) (p .interrupted) (p .writable))
+
+-- the gathering buffer afterwards: gathering changes only its front, and only if the message is interrupted and fits
+abbrev pub gatheredInto : List ℕ → Reading → List ℕ
+gatheredInto buffer (unreadable r) = buffer
+gatheredInto buffer (reads p) =
+    cond (tooShort (length buffer) p) buffer
+    (cond (p .interrupted) (overwrite (p .bytes) buffer) buffer)
+
+-- what a tag holds, all that demand 3 compares readings by: empty and being written both hold none
+pub data Held : Type 0 where
+  broken : Held
+  nothing : Held
+  holds : List ℕ → Held
+
+abbrev pub heldAs : What → List ℕ → Held
+heldAs message m = holds m
+heldAs empty m = nothing
+heldAs being-written m = nothing
+
+abbrev pub heldOf : Reading → Held
+heldOf (unreadable r) = broken
+heldOf (reads p) = heldAs (p .what) (p .bytes)

@@ -1,0 +1,66 @@
+-- The refusals, by name. Their numbers are the table 'Refusal numbers' of the requirements.
+-- Assumes nothing.
+use Prim.Native.Nat.{ℕ}
+
+-- the image has a length that its type does not have
+abbrev pub image-length : ℕ
+image-length = 1
+
+-- Type 2: no NDEF mark E1h. Type 3: the checksum is wrong
+abbrev pub no-mark : ℕ
+no-mark = 2
+
+abbrev pub unknown-version : ℕ
+unknown-version = 3
+
+-- an access byte or an attribute has a value that is not defined
+abbrev pub bad-access : ℕ
+bad-access = 4
+
+-- the data area reaches past the image
+abbrev pub past-image : ℕ
+past-image = 5
+
+-- a control TLV has a length other than 3 or a reserved nibble
+abbrev pub bad-control : ℕ
+bad-control = 6
+
+-- a TLV runs past the data area or has a bad length form; Type 3: Ln is over 16·Nmaxb
+abbrev pub bad-length : ℕ
+bad-length = 7
+
+abbrev pub no-message-tlv : ℕ
+no-message-tlv = 8
+
+-- the message to write has length 0
+abbrev pub nothing-to-write : ℕ
+nothing-to-write = 9
+
+abbrev pub not-writable : ℕ
+not-writable = 10
+
+abbrev pub too-long : ℕ
+too-long = 11
+
+-- the list, or a command's bytes, do not fit the buffer
+abbrev pub short-buffer : ℕ
+short-buffer = 12
+
+-- an interrupted message does not fit the gathering buffer
+abbrev pub short-gathering : ℕ
+short-gathering = 13
+
+abbrev pub not-well-formed : ℕ
+not-well-formed = 20
+
+-- the command changes a protected byte
+abbrev pub changes-protected : ℕ
+changes-protected = 21
+
+-- after the command the tag reads neither as old, nor as none, nor as new
+abbrev pub misreads : ℕ
+misreads = 22
+
+-- the list ends and the tag does not read as the message
+abbrev pub ends-otherwise : ℕ
+ends-otherwise = 23

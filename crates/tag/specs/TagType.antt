@@ -1,0 +1,106 @@
+-- What a type of tag fills in, and what follows for all types alike: the order of the refusals of writing, the list's bytes,
+-- and the cutting of a list's bytes into commands.
+-- Assumes nothing.
+use mathlib.Core.Bool.{Bool, true, false, not, cond}
+use mathlib.Core.List.{List, [], _∷_, _++_, map}
+use Prim.Native.Nat.{ℕ, zero, suc}
+use lib.Dec.{leb, eqb}
+use lib.ListN.{length, take, drop}
+use Rattle.tag.specs.Bytes.{overwrite}
+use Rattle.tag.specs.Refusals.{nothing-to-write, not-writable, too-long, short-buffer}
+use Rattle.tag.specs.Checks.{check, Checked, fine, fault, firstOf}
+use Rattle.tag.specs.Reading.{Report, Reading, unreadable, reads, Held, heldOf}
+use Rattle.tag.specs.Stores.{Store, Command, ill, stores}
+use Rattle.tag.specs.Plan.{Plan, list}
+
+-- What the caller states besides, as the manufacturer number of Type 3, is fixed before a record is made: it is the same in
+-- all calls.
+pub record TagType : Type 0 where
+  pub reading : List ℕ → Reading
+  -- has the tag room for a message of n bytes
+  pub fits : List ℕ → ℕ → Bool
+  -- what writing the message sets; looked at only where writing is not refused
+  pub plan : List ℕ → List ℕ → Plan
+  -- one command's bytes: what the tag handed in takes them for
+  pub command : List ℕ → List ℕ → Command
+  -- how many bytes the first command of a list takes
+  pub span : List ℕ → ℕ
+  -- the bytes of a command that is well formed
+  pub encoded : List Store → List ℕ
+
+abbrev pub held : TagType → List ℕ → Held
+held T i = heldOf ((T .reading) i)
+
+-- writing is refused, with one of 1 to 11, or it has a plan
+pub data Writing : Type 0 where
+  unwritten : ℕ → Writing
+  written : Plan → Writing
+
+-- 9, 10, 11, in this order
+abbrev pub writable : TagType → List ℕ → List ℕ → Report → Checked
+writable T i m p =
+    firstOf (
+    check (not (eqb (length m) 0)) nothing-to-write
+    ∷ check (p .writable) not-writable
+    ∷ check ((T .fits) i (length m)) too-long
+    ∷ []
+    )
+
+abbrev pub planned : Plan → Checked → Writing
+planned p fine = written p
+planned p (fault r) = unwritten r
+
+abbrev pub writingBy : TagType → List ℕ → List ℕ → Reading → Writing
+writingBy T i m (unreadable r) = unwritten r
+writingBy T i m (reads p) = planned ((T .plan) i m) (writable T i m p)
+
+unfoldable pub writing : TagType → List ℕ → List ℕ → Writing
+writing T i m = writingBy T i m ((T .reading) i)
+
+-- the commands laid end to end
+abbrev pub joined : List (List ℕ) → List ℕ
+joined [] = []
+joined (b ∷ bs) = b ++ joined bs
+
+-- the bytes of the list for the tag i
+abbrev pub listBytes : TagType → Plan → List ℕ → List ℕ
+listBytes T p i = joined (map (T .encoded) (list p i))
+
+-- what is written to a buffer, with the number that is returned; or a refusal
+pub data Output : Type 0 where
+  withheld : ℕ → Output
+  output : ℕ → List ℕ → Output
+
+-- 12 if the bytes do not fit
+abbrev pub fitted : ℕ → ℕ → List ℕ → Output
+fitted room n bytes = cond (leb (length bytes) room) (output n bytes) (withheld short-buffer)
+
+-- a refusal changes no byte of the buffer
+abbrev pub outputInto : List ℕ → Output → List ℕ
+outputInto buffer (withheld r) = buffer
+outputInto buffer (output n bytes) = overwrite bytes buffer
+
+-- the answer of `write`, by the length of the list buffer: the number of commands
+abbrev pub writeBy : TagType → ℕ → List ℕ → Writing → Output
+writeBy T room i (unwritten r) = withheld r
+writeBy T room i (written p) = fitted room (length (list p i)) (listBytes T p i)
+
+abbrev pub write : TagType → ℕ → List ℕ → List ℕ → Output
+write T room i m = writeBy T room i (writing T i m)
+
+-- a list's bytes cut into commands from the front, each taking the bytes of its span; a rest too short is the last one
+unfoldable pub cutUp : (List ℕ → ℕ) → ℕ → List ℕ → List (List ℕ)
+cutUp span zero bytes = []
+cutUp span (suc fuel) bytes =
+    elim (eqb (length bytes) 0) [
+      | true ↦ []
+      | false ↦ take (span bytes) bytes ∷ cutUp span fuel (drop (span bytes) bytes)
+    ]
+
+-- a span is at least 1, so that there are at most as many commands as bytes
+abbrev pub pieces : TagType → List ℕ → List (List ℕ)
+pieces T bytes = cutUp (T .span) (length bytes) bytes
+
+-- the commands of a list's bytes, by the tag handed in
+abbrev pub commands : TagType → List ℕ → List ℕ → List Command
+commands T i bytes = map ((T .command) i) (pieces T bytes)

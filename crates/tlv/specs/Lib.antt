@@ -1,0 +1,5 @@
+-- The TLV area of a tag: the walk to the message TLV, and what reading and writing a message there come to. Read them in this order.
+pub mod Areas
+pub mod Walk
+pub mod Message
+pub mod Update

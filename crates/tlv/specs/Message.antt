@@ -1,0 +1,61 @@
+-- Reading the message of a tag that has a TLV area.
+-- Assumes nothing.
+use mathlib.Core.Bool.{Bool, true, false, not, cond}
+use mathlib.Core.List.{List, [], _∷_, map}
+use Prim.Native.Nat.{ℕ}
+use lib.Dec.{leb}
+use lib.ListN.{length, take}
+use Rattle.tag.specs.Bytes.{byte, consecutive}
+use Rattle.tag.specs.Refusals.{bad-length}
+use Rattle.tag.specs.Checks.{Check, Checked, fine, fault, firstOf}
+use Rattle.tag.specs.Reading.{message, empty, Report, Reading, unreadable, reads}
+use Rattle.tlv.specs.Walk.{Length, bad, len, lengthOf, Found, lost, found, Layout, messageTlv}
+
+-- a type of tag that has a TLV area
+pub record TlvTag : Type 0 where
+  pub layout : Layout
+  -- refusals 1 to 5
+  pub checks : List ℕ → List Check
+  pub writable : List ℕ → Bool
+  -- the bytes of a block
+  pub block : ℕ
+
+-- a refusal; or the usable addresses after the message TLV's type byte, and those of the message
+pub data View : Type 0 where
+  refuse : ℕ → View
+  view : List ℕ → List ℕ → View
+
+-- the message TLV, once its length is taken
+unfoldable pub viewBy : List ℕ → Length → View
+viewBy us bad = refuse bad-length
+viewBy us (len n vs) = cond (leb n (length vs)) (view us (take n vs)) (refuse bad-length)
+
+abbrev pub viewOf : List ℕ → Found → View
+viewOf i (lost r) = refuse r
+viewOf i (found a us) = viewBy us (lengthOf i us)
+
+abbrev pub viewAfter : TlvTag → List ℕ → Checked → View
+viewAfter T i fine = viewOf i (messageTlv (T .layout) i)
+viewAfter T i (fault r) = refuse r
+
+-- refusals 1 to 5, then the walk, then the message
+unfoldable pub viewed : TlvTag → List ℕ → View
+viewed T i = viewAfter T i (firstOf ((T .checks) i))
+
+-- length 0 reads as empty; else the message is its value bytes, skipped addresses left out
+abbrev pub reportOf : Bool → List ℕ → List ℕ → Report
+reportOf w i [] = record { what = empty; bytes = []; address = 0; interrupted = false; writable = w }
+reportOf w i (a ∷ ms) = record {
+  what = message;
+  bytes = map (byte i) (a ∷ ms);
+  address = a;
+  interrupted = not (consecutive (a ∷ ms));
+  writable = w;
+}
+
+abbrev pub readingOf : Bool → List ℕ → View → Reading
+readingOf w i (refuse r) = unreadable r
+readingOf w i (view us ms) = reads (reportOf w i ms)
+
+unfoldable pub reading : TlvTag → List ℕ → Reading
+reading T i = readingOf ((T .writable) i) i (viewed T i)

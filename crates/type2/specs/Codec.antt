@@ -1,0 +1,44 @@
+-- Type 2's write command as bytes: A2h, the block number, four bytes. The codec is told how many blocks the tag has.
+-- Assumes nothing.
+use mathlib.Core.Bool.{Bool, true, false, _&&_, cond}
+use mathlib.Core.List.{List, [], _∷_}
+use Prim.Native.Nat.{ℕ, _*_, _/_}
+use lib.Dec.{leb, ltb, eqb}
+use lib.ListN.{length, drop}
+use Rattle.tag.specs.Bytes.{byte}
+use Rattle.tag.specs.Refusals.{not-well-formed}
+use Rattle.tag.specs.Stores.{Store, Command, ill, stores}
+use Rattle.tag.specs.TagType.{Output, withheld, fitted}
+
+-- may a command name the block: at least 4, inside the image, and a byte
+abbrev pub nameable : ℕ → ℕ → Bool
+nameable blocks b = leb 4 b && ltb b blocks && leb b 255
+
+abbrev pub commandBytes : ℕ → List ℕ → List ℕ
+commandBytes b bytes = 0xA2 ∷ b ∷ bytes
+
+-- the command written to a buffer with this much room: 20, then 12, else the number of bytes
+abbrev pub encode : ℕ → ℕ → List ℕ → ℕ → Output
+encode blocks b bytes room = cond (nameable blocks b) (fitted room 6 (commandBytes b bytes)) (withheld not-well-formed)
+
+-- a command read: the block and its bytes, or 20
+pub data Decoded : Type 0 where
+  undecoded : ℕ → Decoded
+  decoded : ℕ → List ℕ → Decoded
+
+-- six bytes, A2h, and a block that may be named
+abbrev pub wellFormed : ℕ → List ℕ → Bool
+wellFormed blocks bs = eqb (length bs) 6 && eqb (byte bs 0) 0xA2 && nameable blocks (byte bs 1)
+
+unfoldable pub decode : ℕ → List ℕ → Decoded
+decode blocks bs = cond (wellFormed blocks bs) (decoded (byte bs 1) (drop 2 bs)) (undecoded not-well-formed)
+
+-- what a command stores: one block
+abbrev pub commandOf : Decoded → Command
+commandOf (undecoded r) = ill
+commandOf (decoded b bytes) = stores (record { at = 4 * b; bytes = bytes } ∷ [])
+
+-- the bytes of a command that stores one block
+abbrev pub encoded : List Store → List ℕ
+encoded [] = []
+encoded (s ∷ ss) = commandBytes (s .at / 4) (s .bytes)

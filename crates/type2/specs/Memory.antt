@@ -1,0 +1,41 @@
+-- The memory of a Type 2 tag: blocks of 4 bytes; bytes 12 to 15 are the capability container (mark, version, size, access);
+-- the data area is addresses 16 to 15 + 8·size. Lock bits are not consulted.
+-- Assumes nothing.
+use mathlib.Core.Bool.{Bool, true, _&&_, _||_}
+use mathlib.Core.List.{List, [], _∷_}
+use Prim.Native.Nat.{ℕ, _+_, _*_, _%_}
+use lib.Dec.{leb, eqb}
+use lib.ListN.{length}
+use Rattle.tag.specs.Bytes.{byte}
+use Rattle.tag.specs.Refusals.{image-length, no-mark, unknown-version, bad-access, past-image}
+use Rattle.tag.specs.Checks.{Check, check}
+use Rattle.tag.specs.Version.{knownVersion}
+use Rattle.tlv.specs.Walk.{Layout}
+use Rattle.tlv.specs.Message.{TlvTag}
+
+-- a whole number of blocks, 64 to 1,024 bytes
+abbrev pub imageLength : ℕ → Bool
+imageLength n = eqb (n % 4) 0 && leb 64 n && leb n 1024
+
+-- refusals 1 to 5, by the image's length and the bytes of the capability container
+abbrev pub containerChecks : ℕ → ℕ → ℕ → ℕ → ℕ → List Check
+containerChecks n mark version size access =
+    check (imageLength n) image-length
+    ∷ check (eqb mark 0xE1) no-mark
+    ∷ check (knownVersion version) unknown-version
+    ∷ check (eqb access 0x00 || eqb access 0x0F) bad-access
+    ∷ check (leb (16 + 8 * size) n) past-image
+    ∷ []
+
+-- an area may lie outside the image
+abbrev pub layout : Layout
+layout = record { first = 16; size = λ i. 8 * byte i 14; allowed = λ n r. true }
+
+-- access 00h is writable, 0Fh read-only
+abbrev pub memory : TlvTag
+memory = record {
+  layout = layout;
+  checks = λ i. containerChecks (length i) (byte i 12) (byte i 13) (byte i 14) (byte i 15);
+  writable = λ i. eqb (byte i 15) 0x00;
+  block = 4;
+}

@@ -1,0 +1,9 @@
+// Type 2 tags.
+
+use tag::Block;
+
+// A write command: the block and its four bytes.
+pub struct Command {
+    pub block: Block,
+    pub bytes: [u8; 4],
+}

@@ -1,0 +1,109 @@
+-- Type 3's write command as bytes: 08h, the eight-byte manufacturer number, 01h, 09h 00h, the block count b, b block names,
+-- 16·b bytes. The codec is told our number, Nbw and Nmaxb.
+-- Assumes nothing.
+use mathlib.Core.Bool.{Bool, true, false, not, _&&_, _||_, cond}
+use mathlib.Core.List.{List, [], _∷_, _++_, map}
+use Prim.Native.Nat.{ℕ, zero, suc, _+_, _*_, _/_}
+use lib.Dec.{leb, eqb}
+use lib.ListN.{length, take, drop}
+use Rattle.tag.specs.Bytes.{byte, same}
+use Rattle.tag.specs.Refusals.{not-well-formed}
+use Rattle.tag.specs.Stores.{Store, Command, ill, stores}
+use Rattle.tag.specs.TagType.{Output, withheld, fitted}
+use Rattle.type3.specs.Update.{blocksPerCommand}
+
+-- how a command names a block: 80h and its number, a byte
+abbrev pub nameBytes : ℕ → List ℕ
+nameBytes b = 0x80 ∷ b ∷ []
+
+abbrev pub namesBytes : List ℕ → List ℕ
+namesBytes [] = []
+namesBytes (b ∷ bs) = nameBytes b ++ namesBytes bs
+
+-- the block named at the front, with what follows
+pub data Name : Type 0 where
+  unnamed : Name
+  named : ℕ → List ℕ → Name
+
+abbrev pub nameOf : List ℕ → Name
+nameOf [] = unnamed
+nameOf (t ∷ []) = unnamed
+nameOf (t ∷ b ∷ rest) = cond (eqb t 0x80) (named b rest) unnamed
+
+-- several blocks named at the front, with what follows
+pub data Names : Type 0 where
+  no-names : Names
+  names : List ℕ → List ℕ → Names
+
+abbrev pub withName : ℕ → Names → Names
+withName b no-names = no-names
+withName b (names bs rest) = names (b ∷ bs) rest
+
+unfoldable pub namesOf : ℕ → List ℕ → Names
+namesOf zero bytes = names [] bytes
+namesOf (suc k) bytes = elim (nameOf bytes) [ unnamed ↦ no-names | named b rest ↦ withName b (namesOf k rest) ]
+
+-- does the list have the number in it; is each at most Nmaxb and a byte; is none named twice
+abbrev pub has : ℕ → List ℕ → Bool
+has b [] = false
+has b (c ∷ bs) = eqb b c || has b bs
+
+abbrev pub nameable : ℕ → List ℕ → Bool
+nameable nmaxb [] = true
+nameable nmaxb (b ∷ bs) = leb b nmaxb && leb b 255 && not (has b bs) && nameable nmaxb bs
+
+-- b from 1 to w, blocks at most Nmaxb, none named twice
+abbrev pub wellNamed : ℕ → ℕ → List ℕ → Bool
+wellNamed nbw nmaxb bs = leb 1 (length bs) && leb (length bs) (blocksPerCommand nbw) && nameable nmaxb bs
+
+-- the bytes up to the block count
+abbrev pub opening : List ℕ → List ℕ
+opening number = 0x08 ∷ number ++ 0x01 ∷ 0x09 ∷ 0x00 ∷ []
+
+abbrev pub commandBytes : List ℕ → List ℕ → List ℕ → List ℕ
+commandBytes number bs bytes = opening number ++ length bs ∷ namesBytes bs ++ bytes
+
+-- the first b of the blocks and 16·b of the bytes, written to a buffer with this much room: 20, then 12, else the number of bytes
+abbrev pub encodeBy : List ℕ → ℕ → ℕ → List ℕ → List ℕ → ℕ → Output
+encodeBy number nbw nmaxb bs bytes room =
+    cond (wellNamed nbw nmaxb bs) (fitted room (13 + 18 * length bs) (commandBytes number bs bytes)) (withheld not-well-formed)
+
+abbrev pub encode : List ℕ → ℕ → ℕ → ℕ → List ℕ → List ℕ → ℕ → Output
+encode number nbw nmaxb b bs bytes room =
+    cond (leb b (length bs)) (encodeBy number nbw nmaxb (take b bs) (take (16 * b) bytes) room) (withheld not-well-formed)
+
+-- a command read: the blocks and their bytes, or 20
+pub data Decoded : Type 0 where
+  undecoded : ℕ → Decoded
+  decoded : List ℕ → List ℕ → Decoded
+
+-- by the names, once the opening and the count are taken
+unfoldable pub decodeBy : ℕ → ℕ → Names → Decoded
+decodeBy nbw nmaxb no-names = undecoded not-well-formed
+decodeBy nbw nmaxb (names bs bytes) =
+    cond (wellNamed nbw nmaxb bs && eqb (length bytes) (16 * length bs)) (decoded bs bytes) (undecoded not-well-formed)
+
+unfoldable pub decode : List ℕ → ℕ → ℕ → List ℕ → Decoded
+decode number nbw nmaxb bytes =
+    cond (same (take 12 bytes) (opening number)) (decodeBy nbw nmaxb (namesOf (byte bytes 12) (drop 13 bytes))) (undecoded not-well-formed)
+
+-- what a command stores: sixteen bytes for each block
+abbrev pub storesOf : List ℕ → List ℕ → List Store
+storesOf [] bytes = []
+storesOf (b ∷ bs) bytes = record { at = 16 * b; bytes = take 16 bytes } ∷ storesOf bs (drop 16 bytes)
+
+abbrev pub commandOf : Decoded → Command
+commandOf (undecoded r) = ill
+commandOf (decoded bs bytes) = stores (storesOf bs bytes)
+
+-- the bytes of a command that stores these blocks
+abbrev pub storedBytes : List Store → List ℕ
+storedBytes [] = []
+storedBytes (s ∷ ss) = s .bytes ++ storedBytes ss
+
+abbrev pub encoded : List ℕ → List Store → List ℕ
+encoded number ss = commandBytes number (map (λ s. s .at / 16) ss) (storedBytes ss)
+
+-- how many bytes a command takes, by its own count
+abbrev pub span : List ℕ → ℕ
+span bytes = 13 + 18 * byte bytes 12

@@ -1,0 +1,6 @@
+-- Type 3 tags. Read them in this order.
+pub mod Attributes
+pub mod Message
+pub mod Update
+pub mod Codec
+pub mod Type3

@@ -1,0 +1,44 @@
+-- Reading the message of a Type 3 tag.
+-- Assumes nothing.
+use mathlib.Core.Bool.{Bool, true, false, cond}
+use mathlib.Core.List.{List, [], _∷_}
+use Prim.Native.Nat.{ℕ, zero, suc}
+use lib.Dec.{eqb}
+use lib.ListN.{length, take, drop}
+use Rattle.tag.specs.Checks.{Checked, fine, fault, firstOf}
+use Rattle.tag.specs.Reading.{What, message, empty, being-written, Report, Reading, unreadable, reads}
+use Rattle.type3.specs.Attributes.{Attributes, attributes, attributeChecks, mayWrite}
+
+-- a refusal, being written, or the length of the message
+pub data View : Type 0 where
+  refuse : ℕ → View
+  busy : View
+  view : ℕ → View
+
+-- WriteFlag 0Fh reads as being written
+abbrev pub viewAfter : Attributes → Checked → View
+viewAfter a fine = cond (eqb (a .write-flag) 0x0F) busy (view (a .ln))
+viewAfter a (fault r) = refuse r
+
+unfoldable pub viewBy : ℕ → Attributes → View
+viewBy n a = viewAfter a (firstOf (attributeChecks n a))
+
+abbrev pub viewed : List ℕ → View
+viewed i = viewBy (length i) (attributes i)
+
+-- without a message, a message of Ln bytes from block 1; a Type 3 message is never interrupted
+abbrev pub without : What → Bool → Report
+without what w = record { what = what; bytes = []; address = 0; interrupted = false; writable = w }
+
+abbrev pub withMessage : ℕ → List ℕ → Bool → Report
+withMessage n i w = record { what = message; bytes = take n (drop 16 i); address = 16; interrupted = false; writable = w }
+
+-- Ln 0 reads as empty
+abbrev pub readingOf : Bool → List ℕ → View → Reading
+readingOf w i (refuse r) = unreadable r
+readingOf w i busy = reads (without being-written w)
+readingOf w i (view zero) = reads (without empty w)
+readingOf w i (view (suc n)) = reads (withMessage (suc n) i w)
+
+unfoldable pub reading : List ℕ → Reading
+reading i = readingOf (mayWrite i) i (viewed i)

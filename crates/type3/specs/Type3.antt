@@ -1,0 +1,21 @@
+-- Type 3 as a type of tag, for a caller who states our manufacturer number.
+-- Assumes nothing.
+use mathlib.Core.List.{List}
+use Prim.Native.Nat.{ℕ}
+use Rattle.tag.specs.Bytes.{byte}
+use Rattle.tag.specs.TagType.{TagType}
+use Rattle.type3.specs.Attributes.{nmaxbOf}
+use Rattle.type3.specs.Message.{reading}
+use Rattle.type3.specs.Update.{fits, plan}
+use Rattle.type3.specs.Codec.{decode, commandOf, span, encoded}
+
+-- commands go by Nbw and Nmaxb of the tag handed in
+abbrev pub type3 : List ℕ → TagType
+type3 number = record {
+  reading = reading;
+  fits = fits;
+  plan = plan;
+  command = λ i bytes. commandOf (decode number (byte i 2) (nmaxbOf i) bytes);
+  span = span;
+  encoded = encoded number;
+}

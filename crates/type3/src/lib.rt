@@ -1,0 +1,8 @@
+// Type 3 tags.
+
+// A write command: the numbers of its blocks, of which the first `count` are used, and sixteen bytes for each of them.
+pub struct Command {
+    pub count: usize,
+    pub blocks: [usize; 8],
+    pub bytes: [u8; 128],
+}
