@@ -1,0 +1,5 @@
+-- Laws about the definitions of `tag`. Nothing here states a rule.
+pub mod Logic
+pub mod Checks
+pub mod Images
+pub mod Addresses

@@ -1,0 +1,50 @@
+-- What the tests say: conjunctions, disjunctions, equal lists.
+-- Assumes nothing.
+use mathlib.Core.Path.{_≡_, refl, sym, _∙_}
+use mathlib.Core.Bool.{Bool, true, false, _&&_, _||_, true≢false, false≢true}
+use mathlib.Core.Logic.{_⊎_, inl, inr}
+use mathlib.Core.List.{List, [], _∷_}
+use Prim.Native.Nat.{ℕ}
+use native.Mathlib.Omega.{arith}
+use borrow.Author.Tests.{eqb-true, eq-eqb}
+use lib.Dec.{eqb}
+use Rattle.tag.specs.Bytes.{same}
+
+pub and-l : (a b : Bool) → a && b ≡ true → a ≡ true
+and-l true b e = refl
+and-l false b e = e
+
+pub and-r : (a b : Bool) → a && b ≡ true → b ≡ true
+and-r true b e = e
+and-r false b e = absurd (false≢true e)
+
+pub and-both : {a b : Bool} → a ≡ true → b ≡ true → a && b ≡ true
+and-both {a} {b} p q = rw (p, q)
+
+pub or-cases : (a b : Bool) → a || b ≡ true → (a ≡ true) ⊎ (b ≡ true)
+or-cases true b e = inl refl
+or-cases false b e = inr e
+
+pub or-l : (a b : Bool) → a ≡ true → a || b ≡ true
+or-l a b p = rw p
+
+pub or-r : (a b : Bool) → b ≡ true → a || b ≡ true
+or-r true b p = refl
+or-r false b p = p
+
+pub same-eq : (x y : List ℕ) → same x y ≡ true → x ≡ y
+same-eq [] [] e = refl
+same-eq [] (y ∷ ys) e = absurd (false≢true e)
+same-eq (x ∷ xs) [] e = absurd (false≢true e)
+same-eq (x ∷ xs) (y ∷ ys) e = cc (eqb-true x y (and-l (eqb x y) (same xs ys) e), same-eq xs ys (and-r (eqb x y) (same xs ys) e))
+
+pub same-refl : (x : List ℕ) → same x x ≡ true
+same-refl [] = refl
+same-refl (x ∷ xs) = and-both (eq-eqb x x refl) (same-refl xs)
+
+pub true-false : {b : Bool} → b ≡ true → b ≡ false → ⊥
+true-false p q = true≢false (sym p ∙ q)
+
+-- an impossible case, where `cc` shows two constructors equal: `absurd (nope (cc))`
+pub nope : _≡_ {A = ℕ} 0 1 → ⊥
+nope e = omega arith
