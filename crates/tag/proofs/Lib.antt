@@ -3,3 +3,7 @@ pub mod Logic
 pub mod Checks
 pub mod Images
 pub mod Addresses
+pub mod Judge
+pub mod Guarded
+pub mod Blocks
+pub mod Writes

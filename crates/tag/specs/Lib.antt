@@ -9,3 +9,4 @@ pub mod Plan
 pub mod TagType
 pub mod Judge
 pub mod Model
+pub mod Cuts

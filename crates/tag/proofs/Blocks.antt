@@ -1,0 +1,168 @@
+-- Lists of whole blocks, for every block size and any number of blocks a command: the blocks that a guarded list stores.
+-- Assumes nothing.
+use mathlib.Core.Path.{_≡_, refl, sym, ap, _∙_}
+use mathlib.Core.Bool.{Bool, true, false, _&&_, true≢false}
+use mathlib.Core.Logic.{_⊎_, inl, inr, _↔_, ⊎-elim}
+use mathlib.Core.List.{List, [], _∷_}
+use Prim.Native.Nat.{ℕ, zero, suc, _+_, _-_, _*_, _/_, _%_, _<_, _≤_}
+use native.Mathlib.Nat.{div-add-mod, mod-lt, mul-le-mul-left, div-lt-iff-lt-mul}
+use native.Mathlib.Omega.{arith}
+use native.Mathlib.Decide.{ℕ-discrete, decLt}
+use borrow.Author.Tests.{leb-true, ltb-true, le-leb, lt-ltb}
+use lib.Dec.{leb, ltb}
+use lib.ListN.{length, take, drop, length-drop}
+use lib.Seq.{getD-take, getD-drop, length-take-le}
+use Rattle.tag.specs.Bytes.{byte}
+use Rattle.tag.specs.Stores.{Store}
+use Rattle.tag.specs.Plan.{blockOf, inBlock, picks, chunk, chunks}
+use Rattle.tag.specs.Judge.{Task}
+use Rattle.tag.proofs.Logic.{and-l, and-r, and-both}
+use Rattle.tag.proofs.Guarded.{In, Piece, Each, Eaches, Some, Somes, Guard, Beside, Opens, Tail}
+
+-- ---- stores dealt out to commands
+
+each-take : (P : Store → Type 0) (n : ℕ) (ss : List Store) → Each P ss → Each P (take n ss)
+each-take P zero ss h = tt
+each-take P (suc n) [] h = tt
+each-take P (suc n) (s ∷ ss) h = (h .0, each-take P n ss (h .1))
+
+each-drop : (P : Store → Type 0) (n : ℕ) (ss : List Store) → Each P ss → Each P (drop n ss)
+each-drop P zero ss h = h
+each-drop P (suc n) [] h = tt
+each-drop P (suc n) (s ∷ ss) h = each-drop P n ss (h .1)
+
+chunk-each : (P : Store → Type 0) (w c : ℕ) (ss : List Store) → Each P ss → Eaches P (chunk w c ss)
+chunk-each P w zero ss h = tt
+chunk-each P w (suc c) ss h = (each-take P w ss h, chunk-each P w c (drop w ss) (each-drop P w ss h))
+
+some-split : (a n : ℕ) (ss : List Store) → Some a ss → Some a (take n ss) ⊎ Some a (drop n ss)
+some-split a zero ss h = inr h
+some-split a (suc n) (s ∷ ss) (inl h) = inl (inl h)
+some-split a (suc n) (s ∷ ss) (inr h) = ⊎-elim (λ x. inl (inr x)) inr (some-split a n ss h)
+
+chunk-some : (a w c : ℕ) (ss : List Store) → length ss ≤ w * c → Some a ss → Somes a (chunk w c ss)
+chunk-some a w zero (s ∷ ss) l h = absurd (omega arith)
+chunk-some a w (suc c) ss l h =
+    let k : length (drop w ss) ≤ w * c = rw length-drop (omega arith) in
+    ⊎-elim inl (λ x. inr (chunk-some a w c (drop w ss) k x)) (some-split a w ss h)
+
+chunks-some : (a w : ℕ) (ss : List Store) → 0 < w → Some a ss → Somes a (chunks w ss)
+chunks-some a w ss p h =
+    let e : w * ((length ss + (w - 1)) / w) + (length ss + (w - 1)) % w ≡ length ss + (w - 1) = div-add-mod (length ss + (w - 1)) w in
+    let l : (length ss + (w - 1)) % w < w = mod-lt (length ss + (w - 1)) p in
+    chunk-some a w ((length ss + (w - 1)) / w) ss (omega arith) h
+
+module _ (z : ℕ) (n : List ℕ) where
+  block-length : (b : ℕ) → z * b + z ≤ length n → length (blockOf z n b .bytes) ≡ z
+  block-length b h = length-take-le z (drop (z * b) n) (rw length-drop (omega arith))
+
+  pub block-piece : (b : ℕ) → z * b + z ≤ length n → Piece n (blockOf z n b)
+  block-piece b h k l =
+      getD-take z (drop (z * b) n) k 0 (omega (arith, block-length b h)) ∙ getD-drop (z * b) n k 0
+
+  pub block-in : (b a : ℕ) → z * b + z ≤ length n → In (blockOf z n b) a ↔ (inBlock z b a ≡ true)
+  block-in b a h = (
+    (λ i. and-both (le-leb (z * b) a (i .0)) (lt-ltb a (z * b + z) (omega (arith, i .1, block-length b h)))),
+    (λ e.
+        let lo : z * b ≤ a = leb-true (z * b) a (and-l _ (ltb a (z * b + z)) e) in
+        let up : a < z * b + z = ltb-true a (z * b + z) (and-r (leb (z * b) a) _ e) in
+        (lo, omega (arith, block-length b h))),
+  )
+
+-- an address lies in one block
+pub block-of : (z a : ℕ) → 0 < z → inBlock z (a / z) a ≡ true
+block-of z a p =
+    let e : z * (a / z) + a % z ≡ a = div-add-mod a z in
+    let l : a % z < z = mod-lt a p in
+    and-both (le-leb (z * (a / z)) a (omega arith)) (lt-ltb a (z * (a / z) + z) (omega arith))
+
+block-lt : (z b c a : ℕ) → inBlock z b a ≡ true → inBlock z c a ≡ true → b < c → ⊥
+block-lt z b c a p q l =
+    let up : a < z * b + z = ltb-true a (z * b + z) (and-r (leb (z * b) a) _ p) in
+    let lo : z * c ≤ a = leb-true (z * c) a (and-l _ (ltb a (z * c + z)) q) in
+    let m : z * suc b ≤ z * c = mul-le-mul-left z l in
+    omega arith
+
+pub one-block : (z b c a : ℕ) → inBlock z b a ≡ true → inBlock z c a ≡ true → b ≡ c
+one-block z b c a p q = go (decLt b c) (decLt c b)
+  where
+    go : Dec (b < c) → Dec (c < b) → b ≡ c
+    go (yes l) d = absurd (block-lt z b c a p q l)
+    go (no l) (yes m) = absurd (block-lt z c b a q p m)
+    go (no l) (no m) = omega arith
+
+-- the blocks that a guarded list stores
+module _ (t : Task) (g : Guard t) (z w N A : ℕ) (p : ℕ → Bool)
+    (pos : 0 < z)
+    (some-w : 0 < w)
+    (whole : length (t .start) ≡ z * N)
+    (inside : A < N)
+    (is-block : (a : ℕ) → (g .block) a ≡ inBlock z A a)
+    (closed-length : length (g .closed) ≡ length (t .start))
+    (others : (b : ℕ) → p b ≡ true → b ≡ A → ⊥)
+    (complete : (a b : ℕ) → a < length (t .start) → inBlock z b a ≡ true → (p b ≡ true) ⊎ ((b ≡ A) ⊎ (byte (t .start) a ≡ byte (g .new) a))) where
+  fits : (b : ℕ) → b < N → z * b + z ≤ z * N
+  fits b l = let m : z * suc b ≤ z * N = mul-le-mul-left z l in omega arith
+
+  beside : (b : ℕ) → b < N → p b ≡ true → Beside t g (blockOf z (g .new) b)
+  beside b l q =
+      let h : z * b + z ≤ length (g .new) = omega (arith, fits b l, whole, g .new-length) in
+      record {
+        piece = block-piece z (g .new) b h;
+        clear = λ a i. clear a (block-in z (g .new) b a h .0 i) (inBlock z A a) refl;
+      }
+    where
+      clear : (a : ℕ) → inBlock z b a ≡ true → (c : Bool) → inBlock z A a ≡ c → (g .block) a ≡ false
+      clear a i true e = absurd (others b q (one-block z b A a i e))
+      clear a i false e = is-block a ∙ e
+
+  picks-beside : (k b : ℕ) → b + k ≤ N → Each (Beside t g) (picks p z (g .new) b k)
+  unfolding picks
+  picks-beside zero b l = tt
+  picks-beside (suc k) b l = go (p b) refl (picks-beside k (suc b) (omega arith))
+    where
+      go : (c : Bool) → p b ≡ c → Each (Beside t g) (picks p z (g .new) (suc b) k) → Each (Beside t g) (picks p z (g .new) b (suc k))
+      go true q ih = rw (q, picks) (beside b (omega arith) q, ih)
+      go false q ih = rw (q, picks) ih
+
+  picks-some : (k b c a : ℕ) → b + k ≤ N → b ≤ c → c < b + k → p c ≡ true → inBlock z c a ≡ true → Some a (picks p z (g .new) b k)
+  unfolding picks
+  picks-some zero b c a l lo up q i = absurd (omega arith)
+  picks-some (suc k) b c a l lo up q i = go (p b) refl (ℕ-discrete b c) (λ m. picks-some k (suc b) c a (omega arith) m (omega arith) q i)
+    where
+      go : (d : Bool) → p b ≡ d → Dec (b ≡ c) → (suc b ≤ c → Some a (picks p z (g .new) (suc b) k)) → Some a (picks p z (g .new) b (suc k))
+      go true r (yes e) ih =
+          rw (r, picks) (inl (block-in z (g .new) b a (omega (arith, fits b (omega arith), whole, g .new-length)) .1 (rw e i)))
+      go true r (no e) ih = rw (r, picks) (inr (ih (omega arith)))
+      go false r (yes e) ih = absurd (true≢false (sym q ∙ rw e at r))
+      go false r (no e) ih = rw (r, picks) (ih (omega arith))
+
+  room-A : z * A + z ≤ z * N
+  room-A = fits A inside
+
+  pub block-opens : Opens t g (blockOf z (g .closed) A)
+  block-opens =
+      record {
+        first-piece = block-piece z (g .closed) A (omega (arith, whole, closed-length, room-A));
+        first-in = λ a l. rw is-block (block-in z (g .closed) A a (omega (arith, whole, closed-length, room-A)));
+      }
+
+  pub block-tail : Tail t g (blockOf z (g .new) A) (chunks w (picks p z (g .new) 0 N))
+  block-tail =
+      record {
+        last-piece = block-piece z (g .new) A (omega (arith, whole, g .new-length, room-A));
+        last-in = λ a l q. block-in z (g .new) A a (omega (arith, whole, g .new-length, room-A)) .1 (sym (is-block a) ∙ q);
+        mids-beside = chunk-each (Beside t g) w ((length (picks p z (g .new) 0 N) + (w - 1)) / w) (picks p z (g .new) 0 N) (picks-beside N 0 (omega arith));
+        covered = λ a l q. cover a l q (complete a (a / z) l (block-of z a pos));
+      }
+    where
+      below : (a : ℕ) → a < length (t .start) → a / z < N
+      below a l = div-lt-iff-lt-mul pos .1 (omega (arith, whole))
+
+      cover : (a : ℕ) → a < length (t .start) → (g .block) a ≡ false → (p (a / z) ≡ true) ⊎ ((a / z ≡ A) ⊎ (byte (t .start) a ≡ byte (g .new) a))
+          → (Somes a (chunks w (picks p z (g .new) 0 N))) ⊎ (byte (t .start) a ≡ byte (g .new) a)
+      cover a l q (inl r) =
+          inl (chunks-some a w (picks p z (g .new) 0 N) some-w
+          (picks-some N 0 (a / z) a (omega arith) (omega arith) (omega (arith, below a l)) r (block-of z a pos)))
+      cover a l q (inr (inl e)) = absurd (true≢false (sym (rw e at (block-of z a pos)) ∙ (sym (is-block a) ∙ q)))
+      cover a l q (inr (inr e)) = inr e

@@ -1,0 +1,267 @@
+-- The judge computes what the statements of `Cuts` say: it accepts exactly the lists for which the three things hold, and a
+-- refusal is the first fault with its position. Once for every type of tag.
+-- Assumes nothing.
+use mathlib.Core.Path.{_≡_, refl, sym, ap, _∙_}
+use mathlib.Core.Bool.{Bool, true, false, not, _&&_, _||_, false≢true}
+use mathlib.Core.Logic.{_⊎_, inl, inr, _↔_, ⊎-elim}
+use mathlib.Core.List.{List, [], _∷_}
+use Prim.Native.Nat.{ℕ, zero, suc, _+_, _<_, _≤_, zero-le, suc-le-suc}
+use native.Mathlib.Nat.{add-zero, le-of-suc-le-suc, not-suc-le-zero}
+use native.Mathlib.Omega.{arith}
+use native.Mathlib.Decide.{ℕ-discrete}
+use borrow.Author.Tests.{eqb-true, eq-eqb}
+use lib.Dec.{eqb}
+use lib.ListN.{length, getD}
+use Rattle.tag.specs.Bytes.{byte, run, same}
+use Rattle.tag.specs.Reading.{Held, broken, nothing, holds}
+use Rattle.tag.specs.Stores.{Store, Command, ill, stores, puts, done, states, cut}
+use Rattle.tag.specs.Judge.{Verdict, accepted, refused, Task, holdsAs, reads, equalAt, keeps, every, fault, judge}
+use Rattle.tag.specs.Cuts.{Safe, as-none, as-new, as-old, Kept, Three, Left, KeptBy, SafeBy, Fault, none, form, change, reading, Faultless, First, of-command, of-list}
+use Rattle.tag.proofs.Logic.{and-l, and-r, and-both, or-cases, or-l, or-r, same-eq, same-refl, true-false, nope}
+
+-- ---- the tests say what the statements say
+
+reads-safe : (t : Task) (j : List ℕ) → reads t ((t .held) j) ≡ true → Safe t j
+reads-safe t j e = go ((t .held) j) refl
+  where
+    old : (h : Held) (x : List ℕ) → (t .held) (t .start) ≡ h → (t .held) j ≡ holds x → holdsAs h x ≡ true → Safe t j
+    old broken x p q w = absurd (false≢true w)
+    old nothing x p q w = absurd (false≢true w)
+    old (holds y) x p q w = as-old y p (q ∙ ap holds (same-eq x y w))
+
+    go : (h : Held) → (t .held) j ≡ h → Safe t j
+    go broken q = absurd (false≢true (rw q at e))
+    go nothing q = as-none q
+    go (holds x) q =
+        let e′ : same x (t .wanted) || holdsAs ((t .held) (t .start)) x ≡ true = rw q at e in
+        ⊎-elim (λ w. as-new (q ∙ ap holds (same-eq x (t .wanted) w))) (λ w. old ((t .held) (t .start)) x refl q w) (or-cases _ _ e′)
+
+safe-reads : (t : Task) (j : List ℕ) → Safe t j → reads t ((t .held) j) ≡ true
+safe-reads t j (as-none q) = rw q
+safe-reads t j (as-new q) = rw q (or-l _ _ (same-refl (t .wanted)))
+safe-reads t j (as-old x p q) = rw (q, p) (or-r (same x (t .wanted)) (same x x) (same-refl x))
+
+equal-run : (p : ℕ → Bool) (i j : List ℕ) (s n : ℕ) → equalAt p i j (run s n) ≡ true → (a : ℕ) → s ≤ a → a < s + n → p a ≡ true → byte j a ≡ byte i a
+equal-run p i j s zero e a l u q = absurd (omega arith)
+equal-run p i j s (suc n) e a l u q = go (ℕ-discrete s a) (equal-run p i j (suc s) n (and-r (not (p s) || eqb (byte j s) (byte i s)) _ e) a)
+  where
+    go : Dec (s ≡ a) → (suc s ≤ a → a < suc s + n → p a ≡ true → byte j a ≡ byte i a) → byte j a ≡ byte i a
+    go (yes h) ih =
+        let e₁ : not (p s) || eqb (byte j s) (byte i s) ≡ true = and-l _ (equalAt p i j (run (suc s) n)) e in
+        eqb-true (byte j a) (byte i a) (rw q at (rw h at e₁))
+    go (no h) ih = ih (omega arith) (omega arith) q
+
+run-equal : (p : ℕ → Bool) (i j : List ℕ) (s n : ℕ) → ((a : ℕ) → s ≤ a → a < s + n → p a ≡ true → byte j a ≡ byte i a) → equalAt p i j (run s n) ≡ true
+run-equal p i j s zero h = refl
+run-equal p i j s (suc n) h =
+    and-both (one (p s) (h s (omega arith) (omega arith))) (run-equal p i j (suc s) n (λ a l u. h a (omega arith) (omega arith)))
+  where
+    one : (b : Bool) → (b ≡ true → byte j s ≡ byte i s) → not b || eqb (byte j s) (byte i s) ≡ true
+    one true f = eq-eqb (byte j s) (byte i s) (f refl)
+    one false f = refl
+
+keeps-kept : (t : Task) (j : List ℕ) → keeps t j ≡ true → Kept t j
+keeps-kept t j e a h q = equal-run (t .kept) (t .start) j 0 (length (t .start)) e a (omega arith) (omega arith) q
+
+kept-keeps : (t : Task) (j : List ℕ) → Kept t j → keeps t j ≡ true
+kept-keeps t j h = run-equal (t .kept) (t .start) j 0 (length (t .start)) (λ a l u. h a (omega arith))
+
+-- a test of every tag that a command may leave
+every-left : (p : List ℕ → Bool) (ss : List Store) (j : List ℕ) → every p (states j ss) ≡ true → (x : List ℕ) → Left j (stores ss) x → p x ≡ true
+every-left p ss j e x h = rw h (and-l (p (puts j ss)) true e)
+
+left-every : (p : List ℕ → Bool) (ss : List Store) (j : List ℕ) → ((x : List ℕ) → Left j (stores ss) x → p x ≡ true) → every p (states j ss) ≡ true
+left-every p ss j h = and-both (h (puts j ss) refl) refl
+
+-- the whole command stored is one of the tags that it may leave
+pub left-done : (j : List ℕ) (c : Command) → Left j c (done j c)
+left-done j c = refl
+
+pub stores-ill : {ss : List Store} → stores ss ≡ ill → ⊥
+stores-ill e = nope (cc)
+
+pub fault-is : (t : Task) (j : List ℕ) (c : Command) → Fault t j c (fault t j c)
+unfolding fault
+fault-is t j ill = form refl
+fault-is t j (stores ss) = go (every (keeps t) (states j ss)) refl (every (λ x. reads t ((t .held) x)) (states j ss)) refl
+  where
+    go : (k : Bool) → every (keeps t) (states j ss) ≡ k → (g : Bool) → every (λ x. reads t ((t .held) x)) (states j ss) ≡ g
+        → Fault t j (stores ss) (fault t j (stores ss))
+    go false q g r = rw (q, fault) (change stores-ill (λ h. true-false (left-every (keeps t) ss j (λ x w. kept-keeps t x (h x w))) q))
+    go true q false r = rw (q, r, fault) (reading stores-ill (λ x w. keeps-kept t x (every-left (keeps t) ss j q x w))
+        (λ h. true-false (left-every (λ x. reads t ((t .held) x)) ss j (λ x w. safe-reads t x (h x w))) r))
+    go true q true r = rw (q, r, fault) (none stores-ill (λ x w. keeps-kept t x (every-left (keeps t) ss j q x w))
+        (λ x w. reads-safe t x (every-left (λ x. reads t ((t .held) x)) ss j r x w)))
+
+-- what a command that is not at fault keeps
+pub record Fine (t : Task) (j : List ℕ) (c : Command) : Type 0 where
+  pub formed : c ≡ ill → ⊥
+  pub kept : KeptBy t j c
+  pub safe : SafeBy t j c
+
+fine-of : (t : Task) (j : List ℕ) (c : Command) (f : ℕ) → Fault t j c f → f ≡ 0 → Fine t j c
+fine-of t j c f (none a b s) e = record { formed = a; kept = b; safe = s }
+fine-of t j c f (form a) e = absurd (omega arith)
+fine-of t j c f (change a b) e = absurd (omega arith)
+fine-of t j c f (reading a b s) e = absurd (omega arith)
+
+of-fine : (t : Task) (j : List ℕ) (c : Command) (f : ℕ) → Fault t j c f → Fine t j c → f ≡ 0
+of-fine t j c f (none a b s) h = refl
+of-fine t j c f (form a) h = absurd (h .formed a)
+of-fine t j c f (change a b) h = absurd (b (h .kept))
+of-fine t j c f (reading a b s) h = absurd (s (h .safe))
+
+holds-as : (h : Held) (x : List ℕ) → holdsAs h x ≡ true → h ≡ holds x
+holds-as broken x e = absurd (false≢true e)
+holds-as nothing x e = absurd (false≢true e)
+holds-as (holds y) x e = ap holds (sym (same-eq x y e))
+
+as-holds : (h : Held) (x : List ℕ) → h ≡ holds x → holdsAs h x ≡ true
+as-holds h x e = rw e (same-refl x)
+
+-- ---- cuts
+
+pub cut-done : (k : ℕ) (j : List ℕ) (cs : List Command) → cut (suc k) j cs ≡ done (cut k j cs) (getD cs k ill)
+cut-done zero j [] = refl
+cut-done zero j (c ∷ cs) = refl
+cut-done (suc k) j [] = refl
+cut-done (suc k) j (c ∷ cs) = cut-done k (done j c) cs
+
+-- ---- the judge along a list
+
+-- no command is at fault, and the last tag holds the message
+pub record Clean (t : Task) (j : List ℕ) (cs : List Command) : Type 0 where
+  pub no-fault : (k : ℕ) → k < length cs → fault t (cut k j cs) (getD cs k ill) ≡ 0
+  pub ends : holdsAs ((t .held) (cut (length cs) j cs)) (t .wanted) ≡ true
+
+accept-clean : (t : Task) (n : ℕ) (j : List ℕ) (cs : List Command) (v : ℕ) → judge t n j cs ≡ accepted v → (v ≡ n + length cs) × Clean t j cs
+unfolding judge
+accept-clean t n j [] v e = go (holdsAs ((t .held) j) (t .wanted)) refl
+  where
+    go : (b : Bool) → holdsAs ((t .held) j) (t .wanted) ≡ b → (v ≡ n + 0) × Clean t j []
+    go true q =
+        let e′ : accepted n ≡ accepted v = rw (q, judge) at e in
+        ((cc (add-zero n)), record { no-fault = λ k h. absurd (not-suc-le-zero h); ends = q })
+    go false q = let e′ : refused 23 n ≡ accepted v = rw (q, judge) at e in absurd (nope (cc))
+accept-clean t n j (c ∷ cs) v e = go (fault t j c) refl (accept-clean t (suc n) (done j c) cs v)
+  where
+    go : (f : ℕ) → fault t j c ≡ f → (judge t (suc n) (done j c) cs ≡ accepted v → (v ≡ suc n + length cs) × Clean t (done j c) cs) → (v ≡ n + suc (length cs)) × Clean t j (c ∷ cs)
+    go zero q ih =
+        let r : (v ≡ suc n + length cs) × Clean t (done j c) cs = ih (rw (q, judge) at e) in
+        let nf : (k : ℕ) → k < length (c ∷ cs) → fault t (cut k j (c ∷ cs)) (getD (c ∷ cs) k ill) ≡ 0
+        = λ k. elim k [ zero ↦ λ h. q | suc k ↦ λ h. r .1 .no-fault k (le-of-suc-le-suc h) ] in
+        (omega (arith, r .0), record { no-fault = nf; ends = r .1 .ends })
+    go (suc f) q ih = let e′ : refused (suc f) n ≡ accepted v = rw (q, judge) at e in absurd (nope (cc))
+
+clean-accept : (t : Task) (n : ℕ) (j : List ℕ) (cs : List Command) → Clean t j cs → judge t n j cs ≡ accepted (n + length cs)
+unfolding judge
+clean-accept t n j [] c = rw (c .ends, judge) (ap accepted (sym (add-zero n)))
+clean-accept t n j (c ∷ cs) h =
+    let q : fault t j c ≡ 0 = h .no-fault 0 (suc-le-suc zero-le) in
+    let r : Clean t (done j c) cs = record { no-fault = λ k b. h .no-fault (suc k) (suc-le-suc b); ends = h .ends } in
+    rw (q, judge) (clean-accept t (suc n) (done j c) cs r ∙ ap accepted (omega arith))
+
+-- the first fault, from place n on: of the command at place k, or of the whole list
+data FirstFrom (t : Task) (n : ℕ) (j : List ℕ) (cs : List Command) (r p : ℕ) : Type 0 where
+  at-command : (k : ℕ) → k < length cs → p ≡ n + k → ((l : ℕ) → l < k → fault t (cut l j cs) (getD cs l ill) ≡ 0)
+      → fault t (cut k j cs) (getD cs k ill) ≡ r → (r ≡ 0 → ⊥) → FirstFrom t n j cs r p
+  at-end : p ≡ n + length cs → r ≡ 23 → ((l : ℕ) → l < length cs → fault t (cut l j cs) (getD cs l ill) ≡ 0)
+      → holdsAs ((t .held) (cut (length cs) j cs)) (t .wanted) ≡ false → FirstFrom t n j cs r p
+
+refuse-first : (t : Task) (n : ℕ) (j : List ℕ) (cs : List Command) (r p : ℕ) → judge t n j cs ≡ refused r p → FirstFrom t n j cs r p
+unfolding judge
+refuse-first t n j [] r p e = go (holdsAs ((t .held) j) (t .wanted)) refl
+  where
+    go : (b : Bool) → holdsAs ((t .held) j) (t .wanted) ≡ b → FirstFrom t n j [] r p
+    go false q =
+        let e′ : refused 23 n ≡ refused r p = rw (q, judge) at e in
+        at-end (cc (add-zero n)) (cc) (λ l h. absurd (not-suc-le-zero h)) q
+    go true q = let e′ : accepted n ≡ refused r p = rw (q, judge) at e in absurd (nope (cc))
+refuse-first t n j (c ∷ cs) r p e = go (fault t j c) refl (refuse-first t (suc n) (done j c) cs r p)
+  where
+    shift : fault t j c ≡ 0 → FirstFrom t (suc n) (done j c) cs r p → FirstFrom t n j (c ∷ cs) r p
+    shift q (at-command k b pe nf fe nz) =
+        at-command (suc k) (suc-le-suc b) (omega arith) (λ l. elim l [ zero ↦ λ h. q | suc l ↦ λ h. nf l (le-of-suc-le-suc h) ]) fe nz
+    shift q (at-end pe re nf w) =
+        at-end (omega arith) re (λ l. elim l [ zero ↦ λ h. q | suc l ↦ λ h. nf l (le-of-suc-le-suc h) ]) w
+
+    go : (f : ℕ) → fault t j c ≡ f → (judge t (suc n) (done j c) cs ≡ refused r p → FirstFrom t (suc n) (done j c) cs r p) → FirstFrom t n j (c ∷ cs) r p
+    go zero q ih = shift q (ih (rw (q, judge) at e))
+    go (suc f) q ih =
+        let e′ : refused (suc f) n ≡ refused r p = rw (q, judge) at e in
+        let re : suc f ≡ r = cc in
+        at-command 0 (suc-le-suc zero-le) (cc (add-zero n)) (λ l h. absurd (not-suc-le-zero h)) (q ∙ re) (omega arith)
+
+-- ---- the theorems
+
+-- a tag that reads is safe before any command
+pub start-safe : (t : Task) → ((t .held) (t .start) ≡ broken → ⊥) → Safe t (t .start)
+start-safe t h = go ((t .held) (t .start)) refl
+  where
+    go : (x : Held) → (t .held) (t .start) ≡ x → Safe t (t .start)
+    go broken e = absurd (h e)
+    go nothing e = as-none e
+    go (holds x) e = as-old x e e
+
+-- each command of an accepted list is fine
+pub accepted-fine : (t : Task) (cs : List Command) (n : ℕ) → judge t 0 (t .start) cs ≡ accepted n → (k : ℕ) → k < length cs → Fine t (cut k (t .start) cs) (getD cs k ill)
+accepted-fine t cs n e k h =
+    fine-of t _ _ _ (fault-is t (cut k (t .start) cs) (getD cs k ill)) (accept-clean t 0 (t .start) cs n e .1 .no-fault k h)
+
+pub accepts-exactly : (t : Task) → ((t .held) (t .start) ≡ broken → ⊥) → (cs : List Command) (n : ℕ) → (judge t 0 (t .start) cs ≡ accepted n) ↔ ((n ≡ length cs) × Three t cs)
+accepts-exactly t ok cs n = (to, from)
+  where
+    to : judge t 0 (t .start) cs ≡ accepted n → (n ≡ length cs) × Three t cs
+    to e =
+        let r : (n ≡ 0 + length cs) × Clean t (t .start) cs = accept-clean t 0 (t .start) cs n e in (
+          omega (arith, r .0),
+          record {
+            formed = λ k h. accepted-fine t cs n e k h .formed;
+            safe = λ k. elim k [ zero ↦ λ h. start-safe t ok | suc k ↦ λ h. rw (cut-done k (t .start) cs) (accepted-fine t cs n e k h .safe (done (cut k (t .start) cs) (getD cs k ill)) (left-done (cut k (t .start) cs) (getD cs k ill))) ];
+            kept = λ k. elim k [ zero ↦ λ h a l q. refl | suc k ↦ λ h. rw (cut-done k (t .start) cs) (accepted-fine t cs n e k h .kept (done (cut k (t .start) cs) (getD cs k ill)) (left-done (cut k (t .start) cs) (getD cs k ill))) ];
+            ends = holds-as _ _ (r .1 .ends);
+          },
+        )
+
+    step : Three t cs → (k : ℕ) → k < length cs → Fine t (cut k (t .start) cs) (getD cs k ill)
+    step a k h = record {
+      formed = a .formed k h;
+      kept = λ x e. rw (e, ← cut-done k (t .start) cs) (a .kept (suc k) h);
+      safe = λ x e. rw (e, ← cut-done k (t .start) cs) (a .safe (suc k) h);
+    }
+
+    from : (n ≡ length cs) × Three t cs → judge t 0 (t .start) cs ≡ accepted n
+    from (e, a) =
+        clean-accept t 0 (t .start) cs
+        (record {
+          no-fault = λ k h. of-fine t _ _ _ (fault-is t (cut k (t .start) cs) (getD cs k ill)) (step a k h);
+          ends = as-holds _ _ (a .ends);
+        })
+        ∙ ap accepted (omega arith)
+
+-- a refusal is the first fault
+pub refused-first : (t : Task) (cs : List Command) (r p : ℕ) → judge t 0 (t .start) cs ≡ refused r p → First t cs r p
+refused-first t cs r p e = go (refuse-first t 0 (t .start) cs r p e)
+  where
+    clear : (k : ℕ) → ((l : ℕ) → l < k → fault t (cut l (t .start) cs) (getD cs l ill) ≡ 0) → Faultless t cs k
+    clear k f l h = rw (f l h) at (fault-is t (cut l (t .start) cs) (getD cs l ill))
+
+    go : FirstFrom t 0 (t .start) cs r p → First t cs r p
+    go (at-command k b pe nf fe nz) =
+        let q : p ≡ k = omega (arith, pe) in
+        rw q (of-command b (clear k nf) (rw fe at (fault-is t (cut k (t .start) cs) (getD cs k ill))) nz)
+    go (at-end pe re nf w) =
+        let q : p ≡ length cs = omega (arith, pe) in
+        rw q (of-list refl re (clear (length cs) nf) (λ h. true-false (as-holds _ _ h) w))
+
+-- a step of the judge, for whoever shows that a list is accepted
+pub judge-goes : (t : Task) (n : ℕ) (j : List ℕ) (ss : List Store) (cs : List Command) → KeptBy t j (stores ss) → SafeBy t j (stores ss)
+    → judge t n j (stores ss ∷ cs) ≡ judge t (suc n) (puts j ss) cs
+unfolding judge
+judge-goes t n j ss cs k s =
+    let q : fault t j (stores ss) ≡ 0 = of-fine t j (stores ss) _ (fault-is t j (stores ss)) (record { formed = stores-ill; kept = k; safe = s }) in
+    rw (q, judge)
+
+pub judge-ends : (t : Task) (n : ℕ) (j : List ℕ) → (t .held) j ≡ holds (t .wanted) → judge t n j [] ≡ accepted n
+unfolding judge
+judge-ends t n j e = let q : holdsAs ((t .held) j) (t .wanted) ≡ true = as-holds _ _ e in rw (q, judge)

@@ -1,0 +1,56 @@
+-- What demand 3 says of a list of commands at its cuts, as statements. The judge tests the same by computing; that the two
+-- agree is proved, and nothing here is used by a definition that computes.
+-- Assumes nothing.
+use mathlib.Core.Path.{_≡_}
+use mathlib.Core.Bool.{true}
+use mathlib.Core.List.{List}
+use Prim.Native.Nat.{ℕ, _<_, _≤_}
+use lib.ListN.{length, getD}
+use Rattle.tag.specs.Bytes.{byte}
+use Rattle.tag.specs.Refusals.{not-well-formed, changes-protected, misreads, ends-otherwise}
+use Rattle.tag.specs.Reading.{nothing, holds}
+use Rattle.tag.specs.Stores.{Command, ill, done, cut}
+use Rattle.tag.specs.Judge.{Task}
+
+-- the tag reads as none, as the new message, or as the old one: the one that the tag handed in reads as, if any
+pub data Safe (t : Task) (j : List ℕ) : Type 0 where
+  as-none : (t .held) j ≡ nothing → Safe t j
+  as-new : (t .held) j ≡ holds (t .wanted) → Safe t j
+  as-old : (m : List ℕ) → (t .held) (t .start) ≡ holds m → (t .held) j ≡ holds m → Safe t j
+
+-- protected bytes are unchanged
+abbrev pub Kept : Task → List ℕ → Type 0
+Kept t j = (a : ℕ) → a < length (t .start) → (t .kept) a ≡ true → byte j a ≡ byte (t .start) a
+
+-- the three things, at every cut 0 to c
+pub record Three (t : Task) (cs : List Command) : Type 0 where
+  pub formed : (k : ℕ) → k < length cs → getD cs k ill ≡ ill → ⊥
+  pub safe : (k : ℕ) → k ≤ length cs → Safe t (cut k (t .start) cs)
+  pub kept : (k : ℕ) → k ≤ length cs → Kept t (cut k (t .start) cs)
+  pub ends : (t .held) (cut (length cs) (t .start) cs) ≡ holds (t .wanted)
+
+-- a tag that a command given to the tag j may leave behind: one, with the whole command stored
+abbrev pub Left : List ℕ → Command → List ℕ → Type 0
+Left j c x = x ≡ done j c
+
+abbrev pub KeptBy : Task → List ℕ → Command → Type 0
+KeptBy t j c = (x : List ℕ) → Left j c x → Kept t x
+
+abbrev pub SafeBy : Task → List ℕ → Command → Type 0
+SafeBy t j c = (x : List ℕ) → Left j c x → Safe t x
+
+-- what is wrong with a command that is given to the tag j, tested in this order; 0 where nothing is
+pub data Fault (t : Task) (j : List ℕ) (c : Command) : ℕ → Type 0 where
+  none : (c ≡ ill → ⊥) → KeptBy t j c → SafeBy t j c → Fault t j c 0
+  form : c ≡ ill → Fault t j c not-well-formed
+  change : (c ≡ ill → ⊥) → (KeptBy t j c → ⊥) → Fault t j c changes-protected
+  reading : (c ≡ ill → ⊥) → KeptBy t j c → (SafeBy t j c → ⊥) → Fault t j c misreads
+
+-- no command before place k is at fault
+abbrev pub Faultless : Task → List Command → ℕ → Type 0
+Faultless t cs k = (l : ℕ) → l < k → Fault t (cut l (t .start) cs) (getD cs l ill) 0
+
+-- the first fault of a list: a command's, at its position, or 23 with the number of commands
+pub data First (t : Task) (cs : List Command) (r p : ℕ) : Type 0 where
+  of-command : p < length cs → Faultless t cs p → Fault t (cut p (t .start) cs) (getD cs p ill) r → (r ≡ 0 → ⊥) → First t cs r p
+  of-list : p ≡ length cs → r ≡ ends-otherwise → Faultless t cs p → ((t .held) (cut p (t .start) cs) ≡ holds (t .wanted) → ⊥) → First t cs r p
