@@ -1,2 +1,3 @@
 -- What an auditor reads: the specimens, and the demands as statements.
 pub mod Specimens
+pub mod Demand3

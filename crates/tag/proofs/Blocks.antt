@@ -17,21 +17,12 @@ use Rattle.tag.specs.Stores.{Store}
 use Rattle.tag.specs.Plan.{blockOf, inBlock, picks, chunk, chunks}
 use Rattle.tag.specs.Judge.{Task}
 use Rattle.tag.proofs.Logic.{and-l, and-r, and-both}
-use Rattle.tag.proofs.Guarded.{In, Piece, Each, Eaches, Some, Somes, Guard, Beside, Opens, Tail}
+use Rattle.tag.proofs.Each.{Each, each-take, each-drop}
+use Rattle.tag.proofs.Guarded.{In, Piece, Eaches, Some, Somes, Guard, Beside, Opens, Tail}
 
 -- ---- stores dealt out to commands
 
-each-take : (P : Store → Type 0) (n : ℕ) (ss : List Store) → Each P ss → Each P (take n ss)
-each-take P zero ss h = tt
-each-take P (suc n) [] h = tt
-each-take P (suc n) (s ∷ ss) h = (h .0, each-take P n ss (h .1))
-
-each-drop : (P : Store → Type 0) (n : ℕ) (ss : List Store) → Each P ss → Each P (drop n ss)
-each-drop P zero ss h = h
-each-drop P (suc n) [] h = tt
-each-drop P (suc n) (s ∷ ss) h = each-drop P n ss (h .1)
-
-chunk-each : (P : Store → Type 0) (w c : ℕ) (ss : List Store) → Each P ss → Eaches P (chunk w c ss)
+pub chunk-each : (P : Store → Type 0) (w c : ℕ) (ss : List Store) → Each P ss → Eaches P (chunk w c ss)
 chunk-each P w zero ss h = tt
 chunk-each P w (suc c) ss h = (each-take P w ss h, chunk-each P w c (drop w ss) (each-drop P w ss h))
 

@@ -18,6 +18,7 @@ use Rattle.tag.specs.Reading.{broken, nothing, holds}
 use Rattle.tag.specs.Stores.{Store, Command, stores, put, puts, cut}
 use Rattle.tag.specs.Judge.{Task, accepted, judge}
 use Rattle.tag.specs.Cuts.{Safe, as-none, as-new, Kept, Left}
+use Rattle.tag.proofs.Each.{Each}
 use Rattle.tag.proofs.Images.{sets-below, sets-above, sets-at, length-puts}
 use Rattle.tag.proofs.Judge.{judge-ends, judge-goes, start-safe}
 
@@ -47,13 +48,8 @@ abbrev pub runs : List ℕ → List (List Store) → List ℕ
 runs j [] = j
 runs j (ss ∷ sss) = runs (puts j ss) sss
 
-abbrev pub Each : (Store → Type 0) → List Store → Type 0
-Each P [] = Unit {0}
-Each P (s ∷ ss) = P s × Each P ss
-
 abbrev pub Eaches : (Store → Type 0) → List (List Store) → Type 0
-Eaches P [] = Unit {0}
-Eaches P (ss ∷ sss) = Each P ss × Eaches P sss
+Eaches P sss = Each (Each P) sss
 
 abbrev pub Some : ℕ → List Store → Type 0
 Some a [] = ⊥

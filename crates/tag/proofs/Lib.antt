@@ -1,9 +1,12 @@
 -- Laws about the definitions of `tag`. Nothing here states a rule.
 pub mod Logic
 pub mod Checks
+pub mod Each
 pub mod Images
 pub mod Addresses
 pub mod Judge
 pub mod Guarded
 pub mod Blocks
 pub mod Writes
+pub mod Pieces
+pub mod Laws

@@ -8,9 +8,18 @@ use Prim.Native.Nat.{ℕ, _<_, _≤_}
 use lib.ListN.{length, getD}
 use Rattle.tag.specs.Bytes.{byte}
 use Rattle.tag.specs.Refusals.{not-well-formed, changes-protected, misreads, ends-otherwise}
-use Rattle.tag.specs.Reading.{nothing, holds}
+use Rattle.tag.specs.Reading.{Report, reads, nothing, holds}
 use Rattle.tag.specs.Stores.{Command, ill, done, cut}
+use Rattle.tag.specs.TagType.{TagType}
 use Rattle.tag.specs.Judge.{Task}
+
+-- what demand 3 takes for granted: a tag that reads, is writable, and has room for the new, non-empty message
+pub record Ready (T : TagType) (i m : List ℕ) : Type 0 where
+  pub report : Report
+  pub reads-as : (T .reading) i ≡ reads report
+  pub writable : report .writable ≡ true
+  pub some-bytes : length m ≡ 0 → ⊥
+  pub room : (T .fits) i (length m) ≡ true
 
 -- the tag reads as none, as the new message, or as the old one: the one that the tag handed in reads as, if any
 pub data Safe (t : Task) (j : List ℕ) : Type 0 where

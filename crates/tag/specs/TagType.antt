@@ -8,7 +8,7 @@ use lib.Dec.{leb, eqb}
 use lib.ListN.{length, take, drop}
 use Rattle.tag.specs.Bytes.{overwrite}
 use Rattle.tag.specs.Refusals.{nothing-to-write, not-writable, too-long, short-buffer}
-use Rattle.tag.specs.Checks.{check, Checked, fine, fault, firstOf}
+use Rattle.tag.specs.Checks.{Check, check, Checked, fine, fault, firstOf}
 use Rattle.tag.specs.Reading.{Report, Reading, unreadable, reads, Held, heldOf}
 use Rattle.tag.specs.Stores.{Store, Command, ill, stores}
 use Rattle.tag.specs.Plan.{Plan, list}
@@ -37,14 +37,15 @@ pub data Writing : Type 0 where
   written : Plan → Writing
 
 -- 9, 10, 11, in this order
-abbrev pub writable : TagType → List ℕ → List ℕ → Report → Checked
-writable T i m p =
-    firstOf (
+abbrev pub checksOf : TagType → List ℕ → List ℕ → Report → List Check
+checksOf T i m p =
     check (not (eqb (length m) 0)) nothing-to-write
     ∷ check (p .writable) not-writable
     ∷ check ((T .fits) i (length m)) too-long
     ∷ []
-    )
+
+abbrev pub writable : TagType → List ℕ → List ℕ → Report → Checked
+writable T i m p = firstOf (checksOf T i m p)
 
 abbrev pub planned : Plan → Checked → Writing
 planned p fine = written p

@@ -1,0 +1,88 @@
+-- What each type of tag shows of itself, and no more: from these laws demand 3 follows for every type alike.
+-- Assumes nothing.
+use mathlib.Core.Path.{_≡_, refl, sym, ap, _∙_}
+use mathlib.Core.Bool.{Bool, true, false, not}
+use mathlib.Core.List.{List, [], _∷_, _++_}
+use Prim.Native.Nat.{ℕ, _<_}
+use borrow.Author.Tests.{ne-eqb, eqb-false, not-true}
+use lib.Dec.{eqb}
+use lib.ListN.{length}
+use Rattle.tag.specs.Checks.{Checked, fine, fault, firstOf}
+use Rattle.tag.specs.Reading.{What, message, empty, being-written, Report, Reading, unreadable, reads, broken, nothing, holds}
+use Rattle.tag.specs.Stores.{Store, stores}
+use Rattle.tag.specs.Plan.{Plan, list}
+use Rattle.tag.specs.TagType.{TagType, held, Writing, unwritten, written, checksOf, writable, planned, writing}
+use Rattle.tag.specs.Judge.{taskOf}
+use Rattle.tag.specs.Cuts.{Ready, Kept}
+use Rattle.tag.proofs.Logic.{nope}
+use Rattle.tag.proofs.Checks.{AllPass, fine-all, all-fine}
+use Rattle.tag.proofs.Each.{Each}
+use Rattle.tag.proofs.Writes.{Sound}
+
+-- a command whose bytes are taken for what it stores, at the front of any list
+pub record Sent (T : TagType) (i : List ℕ) (ss : List Store) : Type 0 where
+  pub taken : (T .command) i ((T .encoded) ss) ≡ stores ss
+  pub some-bytes : 0 < length ((T .encoded) ss)
+  pub whole : (r : List ℕ) → (T .span) ((T .encoded) ss ++ r) ≡ length ((T .encoded) ss)
+
+-- a tag that a list, broken off, may leave: of the same length, protected bytes unchanged, and it reads
+pub record Near (T : TagType) (i m j : List ℕ) : Type 0 where
+  pub same-length : length j ≡ length i
+  pub kept : Kept (taskOf T i m ((T .plan) i m)) j
+  pub readable : held T j ≡ broken → ⊥
+
+pub record Laws (T : TagType) : Type 0 where
+  -- with the guard shut the tag holds none, and the new image reads as the message
+  pub sound : (i m : List ℕ) → Ready T i m → Sound T i m ((T .plan) i m)
+  -- protected bytes fix the plan: what is set, and what a command must look like
+  pub still-ready : (i m j : List ℕ) → Ready T i m → Near T i m j → Ready T j m
+  pub same-addresses : (i m j : List ℕ) → Ready T i m → Near T i m j → (T .plan) j m .addresses ≡ (T .plan) i m .addresses
+  pub same-values : (i m j : List ℕ) → Ready T i m → Near T i m j → (T .plan) j m .values ≡ (T .plan) i m .values
+  pub same-command : (i m j : List ℕ) → Ready T i m → Near T i m j → (bytes : List ℕ) → (T .command) j bytes ≡ (T .command) i bytes
+  -- a command takes a byte of a list at least
+  pub some-span : (bytes : List ℕ) → 0 < (T .span) bytes
+  -- our commands are taken for what they store
+  pub sent : (i m : List ℕ) → Ready T i m → Each (Sent T i) (list ((T .plan) i m) i)
+
+-- ---- ready is just what writing does not refuse
+
+pub ready-written : (T : TagType) (i m : List ℕ) → Ready T i m → writing T i m ≡ written ((T .plan) i m)
+unfolding writing
+ready-written T i m r =
+    let e : writable T i m (r .report) ≡ fine = all-fine (checksOf T i m (r .report)) (rw (ne-eqb (length m) 0 (r .some-bytes)), (r .writable, (r .room, tt))) in
+    rw (r .reads-as) (ap (planned ((T .plan) i m)) e)
+
+pub written-ready : (T : TagType) (i m : List ℕ) (p : Plan) → writing T i m ≡ written p → Ready T i m × ((T .plan) i m ≡ p)
+unfolding writing
+written-ready T i m p e = go ((T .reading) i) refl
+  where
+    go : (v : Reading) → (T .reading) i ≡ v → Ready T i m × ((T .plan) i m ≡ p)
+    go (unreadable r) q = let e′ : unwritten r ≡ written p = rw q at e in absurd (nope (cc))
+    go (reads v) q = on (writable T i m v) refl
+      where
+        on : (c : Checked) → writable T i m v ≡ c → Ready T i m × ((T .plan) i m ≡ p)
+        on (fault r) f =
+            let e′ : planned ((T .plan) i m) (writable T i m v) ≡ written p = rw q at e in
+            let e″ : unwritten r ≡ written p = sym (ap (planned ((T .plan) i m)) f) ∙ e′ in
+            absurd (nope (cc))
+        on fine f =
+            let e′ : planned ((T .plan) i m) (writable T i m v) ≡ written p = rw q at e in
+            let e″ : written ((T .plan) i m) ≡ written p = sym (ap (planned ((T .plan) i m)) f) ∙ e′ in
+            let a : AllPass (checksOf T i m v) = fine-all (checksOf T i m v) f in (
+              record {
+                report = v;
+                reads-as = q;
+                writable = a .1 .0;
+                some-bytes = eqb-false (length m) 0 (not-true (eqb (length m) 0) (a .0));
+                room = a .1 .1 .0;
+              },
+              cc,
+            )
+
+pub ready-reads : (T : TagType) (i m : List ℕ) → Ready T i m → held T i ≡ broken → ⊥
+ready-reads T i m r e = go (r .report .what) refl
+  where
+    go : (w : What) → r .report .what ≡ w → ⊥
+    go message q = let e′ : holds (r .report .bytes) ≡ broken = rw (r .reads-as, q) at e in nope (cc)
+    go empty q = let e′ : nothing ≡ broken = rw (r .reads-as, q) at e in nope (cc)
+    go being-written q = let e′ : nothing ≡ broken = rw (r .reads-as, q) at e in nope (cc)
