@@ -16,6 +16,10 @@ pub each-of : {A : Type 0} (P Q : A → Type 0) (xs : List A) → ((x : A) → P
 each-of P Q [] f h = tt
 each-of P Q (x ∷ xs) f h = (f x (h .0), each-of P Q xs f (h .1))
 
+pub each-both : {A : Type 0} (P Q : A → Type 0) (xs : List A) → Each P xs → Each Q xs → Each (λ x. P x × Q x) xs
+each-both P Q [] h k = tt
+each-both P Q (x ∷ xs) h k = ((h .0, k .0), each-both P Q xs (h .1) (k .1))
+
 pub each-append : {A : Type 0} (P : A → Type 0) (xs ys : List A) → Each P xs → Each P ys → Each P (xs ++ ys)
 each-append P [] ys h k = k
 each-append P (x ∷ xs) ys h k = (h .0, each-append P xs ys (h .1) k)

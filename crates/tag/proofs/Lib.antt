@@ -8,5 +8,6 @@ pub mod Judge
 pub mod Guarded
 pub mod Blocks
 pub mod Writes
+pub mod Sending
 pub mod Pieces
 pub mod Laws

@@ -1,0 +1,169 @@
+-- The commands of a list can be sent: each stores whole blocks, of numbers that its type may name, rising, and no more of them
+-- than a command may store. From this a type shows that its commands are well formed.
+-- Assumes nothing.
+use mathlib.Core.Path.{_≡_, refl, sym, ap, _∙_}
+use mathlib.Core.Bool.{Bool, true, false, not, _&&_, _||_, true≢false, false≢true}
+use mathlib.Core.Logic.{_⊎_, inl, inr, ⊎-elim}
+use mathlib.Core.List.{List, [], _∷_, _++_, map}
+use Prim.Native.Nat.{ℕ, zero, suc, _+_, _-_, _*_, _/_, _%_, _<_, _≤_}
+use native.Mathlib.Nat.{div-add-mod, mod-lt, mul-le-mul-left, mul-div-cancel-left}
+use native.Mathlib.Omega.{arith}
+use borrow.Author.Tests.{eqb-false, not-true}
+use lib.Dec.{eqb}
+use lib.ListN.{length, take, drop, length-take, length-drop}
+use lib.Seq.{length-take-le}
+use Rattle.tag.specs.Stores.{Store}
+use Rattle.tag.specs.Plan.{Plan, newImage, blockOf, inBlock, touches, between, picks, chunk, chunks, middle, list}
+use Rattle.tag.proofs.Logic.{and-l, and-r, or-cases}
+use Rattle.tag.proofs.Each.{Each, each-append, each-both, each-of}
+use Rattle.tag.proofs.Images.{length-overlay}
+use Rattle.tag.proofs.Addresses.{Above, Rising, above-less, above-hi, above-rising, above-take, above-drop}
+use Rattle.tag.proofs.Blocks.{chunk-each}
+
+-- ---- whole blocks
+
+-- the number of the block that a store of whole blocks of z bytes stores
+abbrev pub number : ℕ → Store → ℕ
+number z s = s .at / z
+
+-- a store of a whole block whose number has a property
+pub record Whole (z : ℕ) (Q : ℕ → Type 0) (s : Store) : Type 0 where
+  pub block : ℕ
+  pub at-block : s .at ≡ z * block
+  pub full : length (s .bytes) ≡ z
+  pub good : Q block
+
+module _ (z : ℕ) (n : List ℕ) (Q : ℕ → Type 0) where
+  pub block-whole : (b : ℕ) → z * b + z ≤ length n → Q b → Whole z Q (blockOf z n b)
+  block-whole b h q = record { block = b; at-block = refl; full = length-take-le z (drop (z * b) n) (rw length-drop (omega arith)); good = q }
+
+  pub picks-whole : (t : ℕ → Bool) (N b k : ℕ) → b + k ≤ N → z * N ≤ length n → ((c : ℕ) → c < N → t c ≡ true → Q c) → Each (Whole z Q) (picks t z n b k)
+  unfolding picks
+  picks-whole t N b zero l h q = tt
+  picks-whole t N b (suc k) l h q = go (t b) refl (picks-whole t N (suc b) k (omega arith) h q)
+    where
+      go : (c : Bool) → t b ≡ c → Each (Whole z Q) (picks t z n (suc b) k) → Each (Whole z Q) (picks t z n b (suc k))
+      go true e ih =
+          let m : z * suc b ≤ z * N = mul-le-mul-left z (omega arith) in
+          rw (e, picks) (block-whole b (omega arith) (q b (omega arith) e), ih)
+      go false e ih = rw (e, picks) ih
+
+-- ---- rising numbers
+
+module _ (z : ℕ) (pos : 0 < z) (n : List ℕ) (t : ℕ → Bool) (hi : ℕ) where
+  picks-above : (k b x : ℕ) → x < b → b + k ≤ hi → Above hi x (map (number z) (picks t z n b k))
+  unfolding picks
+  picks-above zero b x l h = omega arith
+  picks-above (suc k) b x l h = go (t b) refl (λ y m. picks-above k (suc b) y m (omega arith))
+    where
+      go : (c : Bool) → t b ≡ c → ((y : ℕ) → y < suc b → Above hi y (map (number z) (picks t z n (suc b) k))) → Above hi x (map (number z) (picks t z n b (suc k)))
+      go true e ih =
+          let d : z * b / z ≡ b = mul-div-cancel-left b pos in
+          rw (e, picks) (rw d (l, ih b (omega arith)))
+      go false e ih = rw (e, picks) (ih x (omega arith))
+
+  pub picks-rising : (k : ℕ) → k ≤ hi → Rising hi (map (number z) (picks t z n 0 k))
+  unfolding picks
+  picks-rising zero h = tt
+  picks-rising (suc k) h = go (t 0) refl
+    where
+      go : (c : Bool) → t 0 ≡ c → Rising hi (map (number z) (picks t z n 0 (suc k)))
+      go true e =
+          let d : z * 0 / z ≡ 0 = mul-div-cancel-left 0 pos in
+          rw (e, picks) (rw d (picks-above k 1 0 (omega arith) (omega arith)))
+      go false e = rw (e, picks) (above-rising hi 0 (map (number z) (picks t z n 1 k)) (picks-above k 1 0 (omega arith) (omega arith)))
+
+rising-take : (hi k : ℕ) (us : List ℕ) → Rising hi us → Rising hi (take k us)
+rising-take hi zero us h = tt
+rising-take hi (suc k) [] h = tt
+rising-take hi (suc k) (x ∷ us) h = above-take hi k x us h
+
+rising-drop : (hi k : ℕ) (us : List ℕ) → Rising hi us → Rising hi (drop k us)
+rising-drop hi zero us h = h
+rising-drop hi (suc k) [] h = tt
+rising-drop hi (suc k) (x ∷ us) h = above-rising hi x (drop k us) (above-drop hi x k us h)
+
+map-take : (f : Store → ℕ) (k : ℕ) (ss : List Store) → map f (take k ss) ≡ take k (map f ss)
+map-take f zero ss = refl
+map-take f (suc k) [] = refl
+map-take f (suc k) (s ∷ ss) = ap (λ r. f s ∷ r) (map-take f k ss)
+
+map-drop : (f : Store → ℕ) (k : ℕ) (ss : List Store) → map f (drop k ss) ≡ drop k (map f ss)
+map-drop f zero ss = refl
+map-drop f (suc k) [] = refl
+map-drop f (suc k) (s ∷ ss) = map-drop f k ss
+
+-- ---- commands
+
+-- a command that stores one to w blocks, rising below hi
+abbrev pub Sized : ℕ → ℕ → ℕ → List Store → Type 0
+Sized z w hi ss = (0 < length ss) × (length ss ≤ w) × Rising hi (map (number z) ss)
+
+chunk-sized : (z w hi c : ℕ) (ss : List Store) → 0 < w → w * c < length ss + w → Rising hi (map (number z) ss) → Each (Sized z w hi) (chunk w c ss)
+chunk-sized z w hi zero ss p l r = tt
+chunk-sized z w hi (suc c) ss p l r = (
+  (
+    rw length-take (omega arith),
+    rw length-take (omega arith),
+    rw map-take (rising-take hi w (map (number z) ss) r),
+  ),
+  chunk-sized z w hi c (drop w ss) p (rw length-drop (omega arith)) (rw map-drop (rising-drop hi w (map (number z) ss) r)),
+)
+
+pub chunks-sized : (z w hi : ℕ) (ss : List Store) → 0 < w → Rising hi (map (number z) ss) → Each (Sized z w hi) (chunks w ss)
+chunks-sized z w hi ss p r =
+    let e : w * ((length ss + (w - 1)) / w) + (length ss + (w - 1)) % w ≡ length ss + (w - 1) = div-add-mod (length ss + (w - 1)) w in
+    chunk-sized z w hi ((length ss + (w - 1)) / w) ss p (omega arith) r
+
+-- ---- the blocks that a plan touches
+
+-- a block that is touched holds an address to set
+pub touch-bounds : (z hi x : ℕ) (us vs : List ℕ) (b : ℕ) → Above hi x us → touches z us vs b ≡ true → (y : ℕ) × (x < y) × (y < hi) × (inBlock z b y ≡ true)
+touch-bounds z hi x [] vs b h e = absurd (false≢true e)
+touch-bounds z hi x (y ∷ us) [] b h e = absurd (false≢true e)
+touch-bounds z hi x (y ∷ us) (v ∷ vs) b h e =
+    ⊎-elim (λ q. (y, h .0, above-hi hi y us (h .1), q)) (λ q. touch-bounds z hi x us vs b (above-less hi x y us (omega (arith, h .0)) (h .1)) q)
+    (or-cases (inBlock z b y) (touches z us vs b) e)
+
+-- what a type shows of its plan, for its commands to be sent: Q is what a block's number must have to be named
+pub record Nameable (p : Plan) (i : List ℕ) (Q : ℕ → Type 0) : Type 0 where
+  pub some-size : 0 < p .size
+  pub some-width : 0 < p .width
+  pub whole : length i ≡ p .size * (length i / p .size)
+  pub inside : p .guard < length i / p .size
+  pub closed-length : length (p .closed) ≡ length i
+  pub guard-good : Q (p .guard)
+  pub touched-good : (b : ℕ) → b < length i / p .size → (b ≡ p .guard → ⊥) → touches (p .size) (p .addresses) (p .values) b ≡ true → Q b
+
+module _ (p : Plan) (i : List ℕ) (Q : ℕ → Type 0) (n : Nameable p i Q) where
+  abbrev Good : List Store → Type 0
+  Good ss = Each (Whole (p .size) Q) ss × Sized (p .size) (p .width) (length i / p .size) ss
+
+  guard-command : (j : List ℕ) → length j ≡ length i → Good (blockOf (p .size) j (p .guard) ∷ [])
+  guard-command j l =
+      let m : p .size * suc (p .guard) ≤ p .size * (length i / p .size) = mul-le-mul-left (p .size) (n .inside) in
+      let d : p .size * p .guard / p .size ≡ p .guard = mul-div-cancel-left (p .guard) (n .some-size) in (
+        (block-whole (p .size) j Q (p .guard) (omega (arith, n .whole)) (n .guard-good), tt),
+        (omega arith, omega (arith, n .some-width), rw d (n .inside)),
+      )
+
+  -- each command of the list stores whole blocks that may be named, one to w of them, rising
+  pub list-good : Each Good (list p i)
+  list-good = (
+    guard-command (p .closed) (n .closed-length),
+    each-append Good (middle p i) ((blockOf (p .size) (newImage p i) (p .guard) ∷ []) ∷ [])
+        (each-both (Each (Whole (p .size) Q)) (Sized (p .size) (p .width) (length i / p .size)) (middle p i) whole-blocks
+        (chunks-sized (p .size) (p .width) (length i / p .size) chosen (n .some-width)
+        (picks-rising (p .size) (n .some-size) (newImage p i) (between p) (length i / p .size) (length i / p .size) (omega arith))))
+        (guard-command (newImage p i) (length-overlay (p .addresses) (p .values) i), tt),
+  )
+    where
+      chosen : List Store
+      chosen = picks (between p) (p .size) (newImage p i) 0 (length i / p .size)
+
+      whole-blocks : Each (Each (Whole (p .size) Q)) (middle p i)
+      whole-blocks =
+          chunk-each (Whole (p .size) Q) (p .width) ((length chosen + (p .width - 1)) / p .width) chosen
+          (picks-whole (p .size) (newImage p i) Q (between p) (length i / p .size) 0 (length i / p .size) (omega arith)
+          (omega (arith, n .whole, length-overlay (p .addresses) (p .values) i))
+          (λ b l e. n .touched-good b l (eqb-false b (p .guard) (not-true (eqb b (p .guard)) (and-l (not (eqb b (p .guard))) (touches (p .size) (p .addresses) (p .values) b) e))) (and-r (not (eqb b (p .guard))) (touches (p .size) (p .addresses) (p .values) b) e)))

@@ -1,0 +1,160 @@
+-- The length field. What writing sets at rising addresses with room reads back as the length and the message; and where a
+-- length reads back with as many bytes after it, `fitsIn` says that there is room.
+-- Assumes nothing.
+use mathlib.Core.Path.{_≡_, refl, ap, _∙_}
+use mathlib.Core.Bool.{Bool, true, false}
+use mathlib.Core.Logic.{_⊎_, inl, inr, ⊎-elim}
+use mathlib.Core.List.{List, [], _∷_, _++_, map}
+use Prim.Native.Nat.{ℕ, suc, _+_, _*_, _/_, _%_, _<_, _≤_}
+use native.Mathlib.Omega.{arith}
+use borrow.Author.Tests.{leb-true, leb-false, le-leb, lt-leb, eq-eqb}
+use lib.Dec.{leb, eqb}
+use lib.ListN.{length, set, take, length-set}
+use lib.Seq.{getD-set-same, getD-set-other}
+use Rattle.tag.specs.Bytes.{byte, overlay, isSet}
+use Rattle.tag.proofs.Logic.{or-l, nope}
+use Rattle.tag.proofs.Images.{length-overlay}
+use Rattle.tag.proofs.Addresses.{Above, above-less, above-hi, above-take, above-length, map-out, overlay-reads}
+use Rattle.tlv.specs.Walk.{len, longBy, longOf, lengthBy, lengthOf}
+use Rattle.tlv.specs.Update.{fitsIn, lengthField, content, lengthAt}
+use Rattle.tlv.proofs.Locality.{longBy-is}
+
+-- ---- room
+
+-- u bytes are the length field of n, in its one form or the other, and k more
+abbrev pub Sized : ℕ → ℕ → ℕ → Type 0
+Sized n u k = ((leb n 254 ≡ true) × (u ≡ 1 + k)) ⊎ ((leb n 254 ≡ false) × (u ≡ 3 + k))
+
+pub fits-is : (n u : ℕ) → fitsIn n u ≡ true → ((leb n 254 ≡ true) × (1 + n ≤ u)) ⊎ ((leb n 254 ≡ false) × (3 + n ≤ u))
+unfolding fitsIn
+fits-is n u e = go (leb n 254) refl
+  where
+    go : (b : Bool) → leb n 254 ≡ b → ((leb n 254 ≡ true) × (1 + n ≤ u)) ⊎ ((leb n 254 ≡ false) × (3 + n ≤ u))
+    go true q = inl (q, leb-true (1 + n) u (rw (q, fitsIn) at e))
+    go false q = inr (q, leb-true (3 + n) u (rw (q, fitsIn) at e))
+
+pub fits-pos : (n u : ℕ) → fitsIn n u ≡ true → 0 < u
+fits-pos n u e = ⊎-elim (λ c. omega (arith, c .1)) (λ c. omega (arith, c .1)) (fits-is n u e)
+
+pub fits-of : (n u k : ℕ) → Sized n u k → n ≤ k → fitsIn n u ≡ true
+unfolding fitsIn
+fits-of n u k (inl c) l = rw (c .0, fitsIn) (le-leb (1 + n) u (omega (arith, c .1)))
+fits-of n u k (inr c) l = rw (c .0, fitsIn) (le-leb (3 + n) u (omega (arith, c .1)))
+
+-- a number is read in one form only, so that no longer form is taken for a shorter one
+pub length-size : (j us ws : List ℕ) (n : ℕ) → lengthOf j us ≡ len n ws → Sized n (length us) (length ws)
+unfolding lengthBy
+length-size j [] ws n e = absurd (nope (cc))
+length-size j (a ∷ us) ws n e = go (leb (byte j a) 254) refl
+  where
+    long : (us : List ℕ) → longOf j us ≡ len n ws → (leb n 254 ≡ false) × (length us ≡ 2 + length ws)
+    long [] f = absurd (nope (cc))
+    long (b ∷ []) f = absurd (nope (cc))
+    long (b ∷ c ∷ us) f =
+        let (l, p, u) = longBy-is (256 * byte j b + byte j c) n us ws f in
+        (lt-leb n 254 (omega arith), omega (arith, ap length u))
+
+    go : (t : Bool) → leb (byte j a) 254 ≡ t → Sized n (suc (length us)) (length ws)
+    go true q =
+        let e′ : len (byte j a) us ≡ len n ws = rw (q, lengthBy) at e in
+        let u : us ≡ ws = cc in
+        let p : byte j a ≡ n = cc in
+        inl (rw p at q, omega (arith, ap length u))
+    go false q = let l = long us (rw (q, lengthBy) at e) in inr (l .0, omega (arith, l .1))
+
+-- ---- what is written reads back
+
+-- in the image n, the addresses us have the length of m and then m
+pub record Written (us m n : List ℕ) : Type 0 where
+  -- the addresses after the length
+  pub rest : List ℕ
+  pub field : lengthOf n us ≡ len (length m) rest
+  pub enough : length m ≤ length rest
+  pub bytes : map (byte n) (take (length m) rest) ≡ m
+
+module _ (hi : ℕ) where
+  written-short : (us m r i : List ℕ) (x : ℕ) → Above hi x us → hi ≤ length i → leb (length m) 254 ≡ true → 1 + length m ≤ length us
+      → Written us m (overlay us (length m ∷ (m ++ r)) i)
+  unfolding lengthBy
+  written-short [] m r i x h l q k = absurd (omega arith)
+  written-short (a ∷ us) m r i x h l q k =
+      let o = overlay us (m ++ r) i in
+      let e : byte (set o a (length m)) a ≡ length m
+      = getD-set-same o a (length m) 0 (omega (arith, length-overlay us (m ++ r) i, above-hi hi a us (h .1))) in
+      record {
+        rest = us;
+        field = rw e (rw (q, lengthBy));
+        enough = omega arith;
+        bytes =
+            map-out hi (take (length m) us) o a (length m) (above-take hi (length m) a us (h .1))
+            ∙ overlay-reads hi m r us i a (h .1) l (omega arith);
+      }
+
+  written-long : (us m r i : List ℕ) (x : ℕ) → Above hi x us → hi ≤ length i → leb (length m) 254 ≡ false → length m ≤ 65534
+      → 3 + length m ≤ length us → Written us m (overlay us (0xFF ∷ length m / 256 ∷ length m % 256 ∷ (m ++ r)) i)
+  unfolding lengthBy longBy
+  written-long [] m r i x h l q w k = absurd (omega arith)
+  written-long (a ∷ []) m r i x h l q w k = absurd (omega arith)
+  written-long (a ∷ b ∷ []) m r i x h l q w k = absurd (omega arith)
+  written-long (a ∷ b ∷ c ∷ us) m r i x h l q w k =
+      let n = length m in
+      -- the image with the message, and with each byte of the field from the last on
+      let o = overlay us (m ++ r) i in
+      let oc = set o c (n % 256) in
+      let ob = set oc b (n / 256) in
+      let oa = set ob a 0xFF in
+      let hc : c < length o = omega (arith, length-overlay us (m ++ r) i, above-hi hi c us (h .1 .1 .1)) in
+      let lc : length oc ≡ length o = length-set o c (n % 256) in
+      let lb : length ob ≡ length oc = length-set oc b (n / 256) in
+      let ea : byte oa a ≡ 0xFF = getD-set-same ob a 0xFF 0 (omega (arith, h .1 .0, h .1 .1 .0)) in
+      let eb : byte oa b ≡ n / 256
+      = getD-set-other ob a b 0xFF 0 (omega (arith, h .1 .0)) ∙ getD-set-same oc b (n / 256) 0 (omega (arith, h .1 .1 .0)) in
+      let ec : byte oa c ≡ n % 256
+      = getD-set-other ob a c 0xFF 0 (omega (arith, h .1 .0, h .1 .1 .0))
+      ∙ getD-set-other oc b c (n / 256) 0 (omega (arith, h .1 .1 .0))
+      ∙ getD-set-same o c (n % 256) 0 hc in
+      let sum : 256 * byte oa b + byte oa c ≡ n = rw (eb, ec) (omega arith) in
+      let p : leb 255 n ≡ true = le-leb 255 n (omega (arith, leb-false n 254 q)) in
+      let g : Above hi c (take n us) = above-take hi n c us (h .1 .1 .1) in
+      record {
+        rest = us;
+        field = rw ea (rw sum (rw (p, le-leb n 65534 w, longBy)));
+        enough = omega arith;
+        bytes =
+            map-out hi (take n us) ob a 0xFF (above-less hi a c (take n us) (omega (arith, h .1 .0, h .1 .1 .0)) g)
+            ∙ map-out hi (take n us) oc b (n / 256) (above-less hi b c (take n us) (omega (arith, h .1 .1 .0)) g)
+            ∙ map-out hi (take n us) o c (n % 256) g
+            ∙ overlay-reads hi m r us i c (h .1 .1 .1) l (omega arith);
+      }
+
+  -- the bound on hi keeps the length in the three-byte form's range
+  pub written : (us m i : List ℕ) (x : ℕ) → Above hi x us → hi ≤ length i → hi ≤ 65534 → fitsIn (length m) (length us) ≡ true
+      → Written us m (overlay us (content m) i)
+  unfolding lengthField
+  written us m i x h l w f = go (fits-is (length m) (length us) f)
+    where
+      go : ((leb (length m) 254 ≡ true) × (1 + length m ≤ length us)) ⊎ ((leb (length m) 254 ≡ false) × (3 + length m ≤ length us))
+          → Written us m (overlay us (content m) i)
+      go (inl c) = rw (c .0, lengthField) (written-short us m (0xFE ∷ []) i x h l (c .0) (c .1))
+      go (inr c) =
+          rw (c .0, lengthField)
+          (written-long us m (0xFE ∷ []) i x h l (c .0) (omega (arith, above-length hi x us h, c .1)) (c .1))
+
+-- ---- the first length byte
+
+pub above-first : (hi x : ℕ) (us : List ℕ) → Above hi x us → 0 < length us → (x < lengthAt us) × (lengthAt us < hi)
+above-first hi x [] h l = absurd (omega arith)
+above-first hi x (y ∷ us) h l = (h .0, above-hi hi y us (h .1))
+
+content-cons : (m : List ℕ) → (v : ℕ) × (vs : List ℕ) × (content m ≡ v ∷ vs)
+unfolding lengthField
+content-cons m = go (leb (length m) 254) refl
+  where
+    go : (b : Bool) → leb (length m) 254 ≡ b → (v : ℕ) × (vs : List ℕ) × (content m ≡ v ∷ vs)
+    go true q = (length m, m ++ 0xFE ∷ [], rw (q, lengthField))
+    go false q = (0xFF, length m / 256 ∷ length m % 256 ∷ (m ++ 0xFE ∷ []), rw (q, lengthField))
+
+-- it is one of the bytes to set
+pub first-set : (us m : List ℕ) → 0 < length us → isSet us (content m) (lengthAt us) ≡ true
+first-set [] m l = absurd (omega arith)
+first-set (x ∷ us) m l = let (v, vs, e) = content-cons m in rw e (or-l (eqb x x) (isSet us vs x) (eq-eqb x x refl))

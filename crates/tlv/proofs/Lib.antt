@@ -1,0 +1,5 @@
+-- Laws about the definitions of `tlv`. Nothing here states a rule.
+pub mod Locality
+pub mod Fuel
+pub mod Field
+pub mod Tag

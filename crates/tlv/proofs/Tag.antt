@@ -1,0 +1,217 @@
+-- Tags with a TLV area, for every type of tag that shows the laws `TlvLaws` of itself. Reading looks up to the type byte of
+-- the message TLV and then at the usable addresses after it. So an image that agrees up to that byte is read by its length
+-- field alone: what writing sets holds the message, a first length byte 00h holds none, and a message that does not fit is
+-- held by no such image.
+-- Assumes nothing.
+use mathlib.Core.Path.{_≡_, refl, sym, ap, _∙_}
+use mathlib.Core.Bool.{Bool, true, false, not}
+use mathlib.Core.List.{List, [], _∷_, map}
+use Prim.Native.Nat.{ℕ, suc, _+_, _*_, _/_, _<_, _≤_}
+use native.Mathlib.Omega.{arith}
+use borrow.Author.Tests.{leb-true, le-leb}
+use lib.Dec.{leb, leb·zero}
+use lib.ListN.{length, take, length-map}
+use lib.Seq.{length-take-le}
+use Rattle.tag.specs.Bytes.{byte, run, overlay, isSet}
+use Rattle.tag.specs.Refusals.{bad-length}
+use Rattle.tag.specs.Checks.{Checked, fine, fault, firstOf}
+use Rattle.tag.specs.Reading.{broken, nothing, holds, heldOf}
+use Rattle.tag.proofs.Logic.{true-false, nope}
+use Rattle.tag.proofs.Images.{length-overlay, overlay-out}
+use Rattle.tag.proofs.Addresses.{Above, above-unset, above-run}
+use Rattle.tlv.specs.Walk.{Length, bad, len, lengthBy, lengthOf, Found, lost, found, messageTlv}
+use Rattle.tlv.specs.Message.{TlvTag, View, refuse, view, viewBy, viewed, readingOf, reading}
+use Rattle.tlv.specs.Update.{usable, fitsIn, content, lengthAt}
+use Rattle.tlv.proofs.Locality.{find-above, find-same}
+use Rattle.tlv.proofs.Field.{Written, written, fits-pos, fits-of, length-size, above-first}
+
+-- ---- a message TLV by its length field
+
+viewBy-is : (us ms vs : List ℕ) (l : Length) → viewBy us l ≡ view vs ms → us ≡ vs
+unfolding viewBy
+viewBy-is us ms vs bad e = absurd (nope (cc))
+viewBy-is us ms vs (len n ws) e = go (leb n (length ws)) refl
+  where
+    go : (b : Bool) → leb n (length ws) ≡ b → us ≡ vs
+    go false q = let e′ : refuse bad-length ≡ view vs ms = rw (q, viewBy) at e in absurd (nope (cc))
+    go true q = let e′ : view us (take n ws) ≡ view vs ms = rw (q, viewBy) at e in cc
+
+module _ (w : Bool) where
+  view-holds : (us m j ms : List ℕ) → map (byte j) ms ≡ m → (length m ≡ 0 → ⊥) → heldOf (readingOf w j (view us ms)) ≡ holds m
+  view-holds us m j [] e z = absurd (z (sym (ap length e)))
+  view-holds us m j (a ∷ ms) e z = ap holds e
+
+  view-written : (us m j : List ℕ) → Written us m j → (length m ≡ 0 → ⊥)
+      → heldOf (readingOf w j (viewBy us (lengthOf j us))) ≡ holds m
+  unfolding viewBy
+  view-written us m j r z =
+      let q : leb (length m) (length (r .rest)) ≡ true = le-leb (length m) (length (r .rest)) (r .enough) in
+      rw (r .field) (rw (q, viewBy) (view-holds us m j (take (length m) (r .rest)) (r .bytes) z))
+
+  view-quiet : (us j : List ℕ) → 0 < length us → byte j (lengthAt us) ≡ 0
+      → heldOf (readingOf w j (viewBy us (lengthOf j us))) ≡ nothing
+  unfolding viewBy lengthBy
+  view-quiet [] j l e = absurd (omega arith)
+  view-quiet (a ∷ us) j l e = rw e (rw (leb·zero (length us), viewBy))
+
+  view-fits : (us j m : List ℕ) → heldOf (readingOf w j (viewBy us (lengthOf j us))) ≡ holds m
+      → fitsIn (length m) (length us) ≡ true
+  unfolding viewBy
+  view-fits us j m e = go (lengthOf j us) refl
+    where
+      by-bytes : (ms : List ℕ) → heldOf (readingOf w j (view us ms)) ≡ holds m → length ms ≡ length m
+      by-bytes [] f = absurd (nope (cc))
+      by-bytes (a ∷ ms) f = let g : map (byte j) (a ∷ ms) ≡ m = cc in sym (length-map (a ∷ ms) (byte j)) ∙ ap length g
+
+      go : (l : Length) → lengthOf j us ≡ l → fitsIn (length m) (length us) ≡ true
+      go bad q = let e′ : broken ≡ holds m = rw q at e in absurd (nope (cc))
+      go (len n ws) q = room (leb n (length ws)) refl
+        where
+          room : (t : Bool) → leb n (length ws) ≡ t → fitsIn (length m) (length us) ≡ true
+          room false t = let e′ : broken ≡ holds m = rw (q, t, viewBy) at e in absurd (nope (cc))
+          room true t =
+              let e′ : heldOf (readingOf w j (view us (take n ws))) ≡ holds m = rw (q, t, viewBy) at e in
+              let l : n ≤ length ws = leb-true n (length ws) t in
+              let k : n ≡ length m = sym (length-take-le n ws l) ∙ by-bytes (take n ws) e′ in
+              rw (← k) (fits-of n (length us) (length ws) (length-size j us ws n q) l)
+
+-- ---- what a type shows of itself, and what is known of a tag
+
+pub record TlvLaws (T : TlvTag) : Type 0 where
+  pub block-pos : 0 < T .block
+  -- the address before the data area
+  pub before : ℕ
+  pub first-is : T .layout .first ≡ suc before
+  -- an image whose checks pass: whole blocks, short enough for a length field, and the data area inside
+  pub bound : (i : List ℕ) → firstOf ((T .checks) i) ≡ fine
+      → (length i ≡ T .block * (length i / T .block)) × (length i ≤ 65534) × (before + (T .layout .size) i < length i)
+  -- what reading goes by before the walk lies before the data area
+  pub local : (i j : List ℕ) → length j ≡ length i → ((x : ℕ) → x ≤ before → byte j x ≡ byte i x)
+      → ((T .checks) j ≡ (T .checks) i) × ((T .layout .size) j ≡ (T .layout .size) i) × ((T .writable) j ≡ (T .writable) i)
+
+module _ (T : TlvTag) where
+  -- the checks pass, and the message TLV has the usable addresses us after its type byte
+  pub record Placed (i us : List ℕ) : Type 0 where
+    pub at : ℕ
+    pub sound : firstOf ((T .checks) i) ≡ fine
+    pub tlv-at : messageTlv (T .layout) i ≡ found at us
+
+  -- and the message m may be written there
+  pub record Ready (i m us : List ℕ) : Type 0 where
+    pub placed : Placed i us
+    pub some-bytes : length m ≡ 0 → ⊥
+    pub room : fitsIn (length m) (length us) ≡ true
+
+  pub view-placed : (i us ms : List ℕ) → viewed T i ≡ view us ms → Placed i us
+  unfolding viewed
+  view-placed i us ms e = go (firstOf ((T .checks) i)) refl (messageTlv (T .layout) i) refl
+    where
+      go : (c : Checked) → firstOf ((T .checks) i) ≡ c → (f : Found) → messageTlv (T .layout) i ≡ f → Placed i us
+      go (fault r) p f q = let e′ : refuse r ≡ view us ms = rw p at e in absurd (nope (cc))
+      go fine p (lost r) q = let e′ : refuse r ≡ view us ms = rw (p, q) at e in absurd (nope (cc))
+      go fine p (found a vs) q =
+          let e′ : viewBy vs (lengthOf i vs) ≡ view us ms = rw (p, q) at e in
+          record { at = a; sound = p; tlv-at = q ∙ ap (found a) (viewBy-is vs ms us (lengthOf i vs) e′) }
+
+  -- a tag that reads has a view
+  pub ready-of : (i : List ℕ) → (heldOf (reading T i) ≡ broken → ⊥)
+      → (us : List ℕ) × (ms : List ℕ) × (viewed T i ≡ view us ms) × Placed i us
+  unfolding reading
+  ready-of i h = go (viewed T i) refl
+    where
+      go : (v : View) → viewed T i ≡ v → (us : List ℕ) × (ms : List ℕ) × (viewed T i ≡ view us ms) × Placed i us
+      go (refuse r) q = absurd (h (rw q))
+      go (view us ms) q = (us, ms, q, view-placed i us ms q)
+
+  -- its usable addresses are those of the message TLV
+  pub usable-is : (i us : List ℕ) → Placed i us → (heldOf (reading T i) ≡ broken → ⊥) → usable (viewed T i) ≡ us
+  usable-is i us p h =
+      let (vs, ms, q, r) = ready-of i h in
+      let e : found (r .at) vs ≡ found (p .at) us = sym (r .tlv-at) ∙ p .tlv-at in
+      let u : vs ≡ us = cc in
+      ap usable q ∙ u
+
+-- ---- the laws
+
+module _ (T : TlvTag) (laws : TlvLaws T) where
+  module _ (i us : List ℕ) (p : Placed T i us) where
+    pub bounds : (length i ≡ T .block * (length i / T .block)) × (length i ≤ 65534)
+        × (laws .before + (T .layout .size) i < length i)
+    bounds = laws .bound i (p .sound)
+
+    started : (hi : ℕ) → laws .before + (T .layout .size) i < hi
+        → Above hi (laws .before) (run (T .layout .first) ((T .layout .size) i))
+    started hi l = rw (laws .first-is) (above-run ((T .layout .size) i) (laws .before) hi l)
+
+    -- the type byte lies in the data area, and so do the usable addresses after it, rising: take for hi the data area's end
+    pub within : (hi : ℕ) → laws .before + (T .layout .size) i < hi → (laws .before < p .at) × Above hi (p .at) us
+    within hi l =
+        find-above hi ((T .layout .allowed) (length i)) ((T .layout .size) i) i (run (T .layout .first) ((T .layout .size) i))
+        (p .at) (laws .before) us (p .tlv-at) (started hi l)
+
+    pub beyond : (laws .before < p .at) × Above (length i) (p .at) us
+    beyond = within (length i) (bounds .2)
+
+    pub front : 0 < length us → (p .at < lengthAt us) × (lengthAt us < length i)
+    front = above-first (length i) (p .at) us (beyond .1)
+
+    -- an image that agrees up to and with the type byte
+    module _ (j : List ℕ) (same-length : length j ≡ length i) (agree : (x : ℕ) → x ≤ p .at → byte j x ≡ byte i x) where
+      alike : ((T .checks) j ≡ (T .checks) i) × ((T .layout .size) j ≡ (T .layout .size) i) × ((T .writable) j ≡ (T .writable) i)
+      alike = laws .local i j same-length (λ x l. agree x (omega (arith, beyond .0)))
+
+      pub same-writable : (T .writable) j ≡ (T .writable) i
+      same-writable = alike .2
+
+      pub same-placed : Placed T j us
+      same-placed = record {
+        at = p .at;
+        sound = ap firstOf (alike .0) ∙ p .sound;
+        tlv-at =
+            rw (alike .1, same-length)
+            (find-same (length i) ((T .layout .allowed) (length i)) ((T .layout .size) i) i j
+            (run (T .layout .first) ((T .layout .size) i)) (p .at) (laws .before) us (started (length i) (bounds .2)) (p .tlv-at) agree);
+      }
+
+      pub same-viewed : viewed T j ≡ viewBy us (lengthOf j us)
+      unfolding viewed
+      same-viewed = rw (same-placed .sound) (rw (same-placed .tlv-at))
+
+      same-held : heldOf (reading T j) ≡ heldOf (readingOf ((T .writable) j) j (viewBy us (lengthOf j us)))
+      unfolding reading
+      same-held = rw same-viewed
+
+      -- with a first length byte 00h it holds no message
+      pub first-quiet : 0 < length us → byte j (lengthAt us) ≡ 0 → heldOf (reading T j) ≡ nothing
+      first-quiet l e = same-held ∙ view-quiet ((T .writable) j) us j l e
+
+      -- what it holds fits
+      pub held-fits : (m : List ℕ) → heldOf (reading T j) ≡ holds m → fitsIn (length m) (length us) ≡ true
+      held-fits m e = view-fits ((T .writable) j) us j m (sym same-held ∙ e)
+
+      -- so that it holds no message that does not fit
+      pub too-long : (m : List ℕ) → fitsIn (length m) (length us) ≡ false → heldOf (reading T j) ≡ holds m → ⊥
+      too-long m f e = true-false (held-fits m e) f
+
+  -- what writing sets
+  module _ (i m us : List ℕ) (r : Ready T i m us) where
+    pub new-agrees : (x : ℕ) → x ≤ r .placed .at → byte (overlay us (content m) i) x ≡ byte i x
+    new-agrees x l =
+        overlay-out us (content m) i x (above-unset (length i) us (content m) (r .placed .at) x (beyond i us (r .placed) .1) l)
+
+    pub reads-new : heldOf (reading T (overlay us (content m) i)) ≡ holds m
+    reads-new =
+        let j = overlay us (content m) i in
+        let p = r .placed in
+        let b : length i ≤ 65534 = bounds i us p .1 in
+        let w : Written us m j = written (length i) us m i (p .at) (beyond i us p .1) (omega arith) b (r .room) in
+        same-held i us p j (length-overlay us (content m) i) new-agrees ∙ view-written ((T .writable) j) us m j w (r .some-bytes)
+
+    pub some-room : 0 < length us
+    some-room = fits-pos (length m) (length us) (r .room)
+
+    -- a message that fits is held by an image of equal length that agrees wherever no byte is to be set
+    pub long-enough : (length (overlay us (content m) i) ≡ length i)
+        × ((x : ℕ) → not (isSet us (content m) x) ≡ true → byte (overlay us (content m) i) x ≡ byte i x)
+        × (heldOf (reading T (overlay us (content m) i)) ≡ holds m)
+    long-enough = (length-overlay us (content m) i, overlay-out us (content m) i, reads-new)

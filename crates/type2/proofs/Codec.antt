@@ -1,0 +1,87 @@
+-- Type 2's codec: what is encoded decodes to itself, what decodes was encoded, and the lists of stores that a command can
+-- carry are exactly those that commands decode to.
+-- Assumes nothing.
+use mathlib.Core.Path.{_≡_, refl, sym, ap}
+use mathlib.Core.Bool.{Bool, true, false, _&&_}
+use mathlib.Core.List.{List, [], _∷_}
+use Prim.Native.Nat.{ℕ, _*_, _/_}
+use native.Mathlib.Omega.{arith}
+use borrow.Author.Tests.{eqb-true, eq-eqb}
+use lib.Dec.{eqb}
+use lib.ListN.{length}
+use Rattle.tag.specs.Refusals.{not-well-formed}
+use Rattle.tag.specs.Stores.{Store, stores}
+use Rattle.tag.proofs.Logic.{and-l, and-r, nope}
+use Rattle.tag.proofs.Pieces.{Piece}
+use Rattle.type2.specs.Codec.{nameable, commandBytes, Decoded, undecoded, decoded, wellFormed, decode, commandOf, encoded}
+
+pub decode-encode : (blocks b : ℕ) (bytes : List ℕ) → nameable blocks b ≡ true → length bytes ≡ 4
+    → decode blocks (commandBytes b bytes) ≡ decoded b bytes
+unfolding decode
+decode-encode blocks b bytes h l =
+    let q : eqb (length (commandBytes b bytes)) 6 ≡ true = eq-eqb (length (commandBytes b bytes)) 6 (omega arith) in
+    rw (q, h)
+
+pub encode-decode : (blocks : ℕ) (bs : List ℕ) (b : ℕ) (bytes : List ℕ) → decode blocks bs ≡ decoded b bytes
+    → (nameable blocks b ≡ true) × (length bytes ≡ 4) × (bs ≡ commandBytes b bytes)
+unfolding decode
+encode-decode blocks [] b bytes e = absurd (nope (cc))
+encode-decode blocks (t ∷ []) b bytes e = absurd (nope (cc))
+encode-decode blocks (t ∷ c ∷ r) b bytes e = go (wellFormed blocks (t ∷ c ∷ r)) refl
+  where
+    go : (w : Bool) → wellFormed blocks (t ∷ c ∷ r) ≡ w
+        → (nameable blocks b ≡ true) × (length bytes ≡ 4) × (t ∷ c ∷ r ≡ commandBytes b bytes)
+    go false q = let z : undecoded not-well-formed ≡ decoded b bytes = rw q at e in absurd (nope (cc))
+    go true q =
+        let z : decoded c r ≡ decoded b bytes = rw q at e in
+        let same-block : c ≡ b = cc in
+        let same-bytes : r ≡ bytes = cc in
+        let six : eqb (length (t ∷ c ∷ r)) 6 && eqb t 0xA2 ≡ true = and-l _ (nameable blocks c) q in
+        let named : nameable blocks c ≡ true = and-r (eqb (length (t ∷ c ∷ r)) 6 && eqb t 0xA2) _ q in
+        let long : length (t ∷ c ∷ r) ≡ 6 = eqb-true (length (t ∷ c ∷ r)) 6 (and-l _ (eqb t 0xA2) six) in
+        let write : t ≡ 0xA2 = eqb-true t 0xA2 (and-r (eqb (length (t ∷ c ∷ r)) 6) _ six) in
+        (rw same-block at named, omega (arith, ap length same-bytes), cc)
+
+-- ---- what a command can carry
+
+-- a store of one block that may be named
+pub record Sent (blocks : ℕ) (s : Store) : Type 0 where
+  pub block : ℕ
+  pub there : s .at ≡ 4 * block
+  pub nameable-block : nameable blocks block ≡ true
+  pub four : length (s .bytes) ≡ 4
+
+-- exactly one such store
+abbrev pub Sendable : ℕ → List Store → Type 0
+Sendable blocks [] = ⊥
+Sendable blocks (s ∷ []) = Sent blocks s
+Sendable blocks (s ∷ t ∷ ss) = ⊥
+
+pub sent : (blocks : ℕ) (ss : List Store) → Sendable blocks ss → commandOf (decode blocks (encoded ss)) ≡ stores ss
+sent blocks [] h = absurd h
+sent blocks (s ∷ []) h =
+    let e : s .at / 4 ≡ h .block = omega (arith, h .there) in
+    rw (e, decode-encode blocks (h .block) (s .bytes) (h .nameable-block) (h .four))
+    (ap (λ a. stores (record { at = a; bytes = s .bytes } ∷ [])) (sym (h .there)))
+sent blocks (s ∷ t ∷ ss) h = absurd h
+
+-- the span of Type 2 is 6, whatever r follows
+pub span-sent : (blocks : ℕ) (ss : List Store) → Sendable blocks ss → (r : List ℕ) → length (encoded ss) ≡ 6
+span-sent blocks [] h r = absurd h
+span-sent blocks (s ∷ []) h r = omega (arith, h .four)
+span-sent blocks (s ∷ t ∷ ss) h r = absurd h
+
+pub piece-sent : (blocks : ℕ) (ss : List Store) → Sendable blocks ss → Piece (λ bs. 6) (encoded ss)
+piece-sent blocks ss h = (λ r. sym (span-sent blocks ss h r), omega (arith, span-sent blocks ss h []))
+
+pub decode-sendable : (blocks : ℕ) (bs : List ℕ) (ss : List Store) → commandOf (decode blocks bs) ≡ stores ss
+    → Sendable blocks ss × (encoded ss ≡ bs)
+decode-sendable blocks bs ss e = go (decode blocks bs) refl
+  where
+    go : (d : Decoded) → decode blocks bs ≡ d → Sendable blocks ss × (encoded ss ≡ bs)
+    go (undecoded r) q = absurd (nope (cc))
+    go (decoded b bytes) q =
+        let h = encode-decode blocks bs b bytes q in
+        let one : ss ≡ record { at = 4 * b; bytes = bytes } ∷ [] = cc in
+        let same-block : 4 * b / 4 ≡ b = omega arith in
+        rw one (record { block = b; there = refl; nameable-block = h .0; four = h .1 }, rw same-block (sym (h .2)))

@@ -1,0 +1,3 @@
+-- Laws of Type 2.
+pub mod Memory
+pub mod Codec

@@ -1,0 +1,40 @@
+-- Type 2's memory has the laws of a tag with a TLV area: all that the checks and the data area's size go by lies in bytes 12
+-- to 15, before the data area.
+-- Assumes nothing.
+use mathlib.Core.Path.{_≡_, refl}
+use mathlib.Core.Bool.{true, _&&_}
+use Prim.Native.Nat.{ℕ, _+_, _*_, _/_, _%_, _≤_}
+use native.Mathlib.Omega.{arith}
+use borrow.Author.Tests.{eqb-true, leb-true}
+use lib.Dec.{leb, eqb}
+use lib.ListN.{length}
+use Rattle.tag.specs.Bytes.{byte}
+use Rattle.tag.proofs.Logic.{and-l, and-r}
+use Rattle.tag.proofs.Checks.{AllPass, fine-all}
+use Rattle.tlv.proofs.Tag.{TlvLaws}
+use Rattle.type2.specs.Memory.{imageLength, containerChecks, memory}
+
+length-is : (n : ℕ) → imageLength n ≡ true → (n ≡ 4 * (n / 4)) × (n ≤ 1024)
+length-is n e =
+    let d : eqb (n % 4) 0 && leb 64 n ≡ true = and-l (eqb (n % 4) 0 && leb 64 n) (leb n 1024) e in
+    let w : n % 4 ≡ 0 = eqb-true (n % 4) 0 (and-l (eqb (n % 4) 0) (leb 64 n) d) in
+    (omega arith, leb-true n 1024 (and-r (eqb (n % 4) 0 && leb 64 n) (leb n 1024) e))
+
+pub memory-laws : TlvLaws memory
+memory-laws = record {
+  block-pos = omega arith;
+  before = 15;
+  first-is = refl;
+  bound = λ i e.
+      let c : AllPass (containerChecks (length i) (byte i 12) (byte i 13) (byte i 14) (byte i 15))
+      = fine-all ((memory .checks) i) e in
+      let l = length-is (length i) (c .0) in
+      let v : 16 + 8 * byte i 14 ≤ length i = leb-true (16 + 8 * byte i 14) (length i) (c .1 .1 .1 .1 .0) in
+      (l .0, omega arith, omega arith);
+  local = λ i j l h.
+      let e12 : byte j 12 ≡ byte i 12 = h 12 (omega arith) in
+      let e13 : byte j 13 ≡ byte i 13 = h 13 (omega arith) in
+      let e14 : byte j 14 ≡ byte i 14 = h 14 (omega arith) in
+      let e15 : byte j 15 ≡ byte i 15 = h 15 (omega arith) in
+      (rw (l, e12, e13, e14, e15), rw e14, rw e15);
+}

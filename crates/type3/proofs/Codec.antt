@@ -1,0 +1,245 @@
+-- Type 3's codec: what is encoded decodes to itself, what decodes was encoded, the lists of stores that a command can carry
+-- are exactly those that commands decode to, a command tells its own length, and rising block numbers may be named.
+-- A number of eight bytes is a premise only where bytes are made: what decodes shows that the number has eight.
+-- Assumes nothing.
+use mathlib.Core.Path.{_≡_, refl, sym, ap, _∙_}
+use mathlib.Core.Bool.{Bool, true, false, _&&_, cond}
+use mathlib.Core.List.{List, [], _∷_, _++_, map, append-assoc}
+use Prim.Native.Nat.{ℕ, zero, suc, _+_, _*_, _/_, _<_, _≤_}
+use native.Mathlib.Omega.{arith}
+use borrow.Author.Tests.{leb-true, le-leb, eqb-true, eq-eqb, ne-eqb}
+use lib.Dec.{leb, eqb}
+use lib.ListN.{length, take, drop, length-append, length-take, length-drop, length-map, take-append-drop}
+use lib.Seq.{take-at, drop-at, drop-drop, getD-at, split-at}
+use Rattle.tag.specs.Bytes.{byte, same}
+use Rattle.tag.specs.Refusals.{not-well-formed}
+use Rattle.tag.specs.Stores.{Store, stores}
+use Rattle.tag.proofs.Logic.{and-l, and-r, same-eq, same-refl, nope}
+use Rattle.tag.proofs.Addresses.{Above, Rising, above-hi, above-rising}
+use Rattle.tag.proofs.Each.{Each}
+use Rattle.tag.proofs.Pieces.{Piece}
+use Rattle.type3.specs.Update.{blocksPerCommand}
+use Rattle.type3.specs.Codec.{namesBytes, Names, no-names, names, withName, namesOf, has, nameable, wellNamed, opening, commandBytes, Decoded, undecoded, decoded, decodeBy, decode, storesOf, commandOf, storedBytes, encoded, span}
+
+-- ---- block names
+
+pub names-bytes : (bs r : List ℕ) → namesOf (length bs) (namesBytes bs ++ r) ≡ names bs r
+unfolding namesOf
+names-bytes [] r = refl
+names-bytes (b ∷ bs) r = ap (withName b) (names-bytes bs r)
+
+pub names-is : (k : ℕ) (bytes bs r : List ℕ) → namesOf k bytes ≡ names bs r → (length bs ≡ k) × (bytes ≡ namesBytes bs ++ r)
+unfolding namesOf
+names-is zero bytes bs r e =
+    let none : bs ≡ [] = cc in
+    rw none (refl, cc)
+names-is (suc k) [] bs r e = absurd (nope (cc))
+names-is (suc k) (t ∷ []) bs r e = absurd (nope (cc))
+names-is (suc k) (t ∷ b ∷ rest) bs r e = go (eqb t 0x80) refl (namesOf k rest) refl (names-is k rest)
+  where
+    go : (q : Bool) → eqb t 0x80 ≡ q → (ns : Names) → namesOf k rest ≡ ns
+        → ((cs r′ : List ℕ) → namesOf k rest ≡ names cs r′ → (length cs ≡ k) × (rest ≡ namesBytes cs ++ r′))
+        → (length bs ≡ suc k) × (t ∷ b ∷ rest ≡ namesBytes bs ++ r)
+    go false q ns f ih = let z : no-names ≡ names bs r = rw (q, namesOf) at e in absurd (nope (cc))
+    go true q no-names f ih = let z : no-names ≡ names bs r = rw (q, f, namesOf) at e in absurd (nope (cc))
+    go true q (names cs r′) f ih =
+        let z : names (b ∷ cs) r′ ≡ names bs r = rw (q, f, namesOf) at e in
+        let more : bs ≡ b ∷ cs = cc in
+        let rests : r′ ≡ r = cc in
+        let h = ih cs r′ f in
+        let type : t ≡ 0x80 = eqb-true t 0x80 q in
+        rw more (ap suc (h .0), cc (h .1))
+
+pub length-names : (bs : List ℕ) → length (namesBytes bs) ≡ 2 * length bs
+length-names [] = refl
+length-names (b ∷ bs) = omega (arith, length-names bs)
+
+-- a number below rising ones is none of them, so that none is named twice
+above-has : (hi x y : ℕ) (us : List ℕ) → Above hi x us → y ≤ x → has y us ≡ false
+above-has hi x y [] h l = refl
+above-has hi x y (z ∷ us) h l =
+    rw (ne-eqb y z (λ e. omega (arith, h .0)), above-has hi z y us (h .1) (omega (arith, h .0)))
+
+pub rising-nameable : (hi nmaxb : ℕ) (bs : List ℕ) → Rising hi bs → hi ≤ suc nmaxb → hi ≤ 256 → nameable nmaxb bs ≡ true
+rising-nameable hi nmaxb [] h l m = refl
+rising-nameable hi nmaxb (b ∷ bs) h l m =
+    let below : b < hi = above-hi hi b bs h in
+    let small : leb b nmaxb ≡ true = le-leb b nmaxb (omega arith) in
+    let a-byte : leb b 255 ≡ true = le-leb b 255 (omega arith) in
+    rw (small, a-byte, above-has hi b b bs h (omega arith)) (rising-nameable hi nmaxb bs (above-rising hi b bs h) l m)
+
+-- a command names at least one block
+named-some : (nbw nmaxb : ℕ) (bs : List ℕ) → wellNamed nbw nmaxb bs ≡ true → 1 ≤ length bs
+named-some nbw nmaxb bs h =
+    leb-true 1 (length bs) (and-l (leb 1 (length bs)) (leb (length bs) (blocksPerCommand nbw)) (and-l _ (nameable nmaxb bs) h))
+
+-- ---- commands
+
+length-opening : (number : List ℕ) → length (opening number) ≡ 4 + length number
+length-opening number = omega (arith, length-append number (0x01 ∷ 0x09 ∷ 0x00 ∷ []))
+
+-- a command taken apart, whatever opens it
+opened : (o : List ℕ) (nbw nmaxb c : ℕ) (rest : List ℕ) → length o ≡ 12
+    → cond (same (take 12 (o ++ c ∷ rest)) o) (decodeBy nbw nmaxb (namesOf (byte (o ++ c ∷ rest) 12) (drop 13 (o ++ c ∷ rest)))) (undecoded not-well-formed)
+    ≡ decodeBy nbw nmaxb (namesOf c rest)
+opened o nbw nmaxb c rest l =
+    let past : drop 13 (o ++ c ∷ rest) ≡ rest = sym (drop-drop 1 12 (o ++ c ∷ rest)) ∙ ap (drop 1) (drop-at o (c ∷ rest) 12 l) in
+    rw (take-at o (c ∷ rest) 12 l, same-refl o, getD-at o c rest 0 12 l, past)
+
+-- the opening, the count and the rest, which the definition groups otherwise
+grouped : (number bs bytes : List ℕ) → commandBytes number bs bytes ≡ opening number ++ length bs ∷ (namesBytes bs ++ bytes)
+grouped number bs bytes = append-assoc (opening number) (length bs ∷ namesBytes bs) bytes
+
+pub decode-encode : (number : List ℕ) (nbw nmaxb : ℕ) (bs bytes : List ℕ) → length number ≡ 8 → wellNamed nbw nmaxb bs ≡ true
+    → length bytes ≡ 16 * length bs → decode number nbw nmaxb (commandBytes number bs bytes) ≡ decoded bs bytes
+unfolding decode decodeBy
+decode-encode number nbw nmaxb bs bytes n h l =
+    ap (decode number nbw nmaxb) (grouped number bs bytes)
+    ∙ opened (opening number) nbw nmaxb (length bs) (namesBytes bs ++ bytes) (omega (arith, length-opening number))
+    ∙ rw (names-bytes bs bytes, decodeBy, h, eq-eqb (length bytes) (16 * length bs) l)
+
+-- what was decoded by its names
+decoded-names : (nbw nmaxb : ℕ) (ns : Names) (bs bytes : List ℕ) → decodeBy nbw nmaxb ns ≡ decoded bs bytes
+    → (ns ≡ names bs bytes) × (wellNamed nbw nmaxb bs ≡ true) × (length bytes ≡ 16 * length bs)
+unfolding decodeBy
+decoded-names nbw nmaxb no-names bs bytes e = absurd (nope (cc))
+decoded-names nbw nmaxb (names cs r) bs bytes e = go (wellNamed nbw nmaxb cs && eqb (length r) (16 * length cs)) refl
+  where
+    go : (w : Bool) → wellNamed nbw nmaxb cs && eqb (length r) (16 * length cs) ≡ w
+        → (names cs r ≡ names bs bytes) × (wellNamed nbw nmaxb bs ≡ true) × (length bytes ≡ 16 * length bs)
+    go false q = let z : undecoded not-well-formed ≡ decoded bs bytes = rw q at e in absurd (nope (cc))
+    go true q =
+        let z : decoded cs r ≡ decoded bs bytes = rw q at e in
+        let same-names : cs ≡ bs = cc in
+        let same-bytes : r ≡ bytes = cc in
+        rw (← same-names, ← same-bytes) (
+          refl,
+          and-l (wellNamed nbw nmaxb cs) (eqb (length r) (16 * length cs)) q,
+          eqb-true (length r) (16 * length cs) (and-r (wellNamed nbw nmaxb cs) (eqb (length r) (16 * length cs)) q),
+        )
+
+-- what decodes opens as our commands do, and past that are the names
+decoded-opening : (number : List ℕ) (nbw nmaxb : ℕ) (all bs bytes : List ℕ) → decode number nbw nmaxb all ≡ decoded bs bytes
+    → (take 12 all ≡ opening number) × (decodeBy nbw nmaxb (namesOf (byte all 12) (drop 13 all)) ≡ decoded bs bytes)
+unfolding decode
+decoded-opening number nbw nmaxb all bs bytes e = go (same (take 12 all) (opening number)) refl
+  where
+    go : (q : Bool) → same (take 12 all) (opening number) ≡ q
+        → (take 12 all ≡ opening number) × (decodeBy nbw nmaxb (namesOf (byte all 12) (drop 13 all)) ≡ decoded bs bytes)
+    go false q = let z : undecoded not-well-formed ≡ decoded bs bytes = rw q at e in absurd (nope (cc))
+    go true q = (same-eq (take 12 all) (opening number) q, rw q at e)
+
+-- a byte that is not 0 lies inside its list
+inside : (l : List ℕ) (n : ℕ) → 0 < byte l n → n < length l
+inside [] n h = omega arith
+inside (a ∷ l) zero h = omega arith
+inside (a ∷ l) (suc n) h = omega (arith, inside l n h)
+
+-- a count of 0 does not decode, so that the count is there, and with it all twelve bytes of the opening
+pub encode-decode : (number : List ℕ) (nbw nmaxb : ℕ) (all bs bytes : List ℕ) → decode number nbw nmaxb all ≡ decoded bs bytes
+    → (wellNamed nbw nmaxb bs ≡ true) × (length bytes ≡ 16 * length bs) × (all ≡ commandBytes number bs bytes) × (length number ≡ 8)
+encode-decode number nbw nmaxb all bs bytes e =
+    let o = decoded-opening number nbw nmaxb all bs bytes e in
+    let d = decoded-names nbw nmaxb (namesOf (byte all 12) (drop 13 all)) bs bytes (o .1) in
+    let n = names-is (byte all 12) (drop 13 all) bs bytes (d .0) in
+    let some : 1 ≤ length bs = named-some nbw nmaxb bs (d .1) in
+    let long : 12 < length all = inside all 12 (omega (arith, n .0)) in
+    let parts : all ≡ opening number ++ length bs ∷ (namesBytes bs ++ bytes) = split-at all 12 0 long ∙ rw (o .0, n .1, ← n .0) in (
+      d .1,
+      d .2,
+      parts ∙ sym (grouped number bs bytes),
+      omega (arith, length-take 12 all, ap length (o .0), length-opening number),
+    )
+
+pub length-command : (number bs bytes : List ℕ) → length number ≡ 8 → length bytes ≡ 16 * length bs
+    → length (commandBytes number bs bytes) ≡ 13 + 18 * length bs
+length-command number bs bytes n l =
+    omega (
+      arith,
+      length-append (opening number ++ length bs ∷ namesBytes bs) bytes,
+      length-append (opening number) (length bs ∷ namesBytes bs),
+      length-opening number,
+      length-names bs,
+    )
+
+-- the count stands at byte 12, whatever follows the command
+pub count-at : (number bs bytes r : List ℕ) → length number ≡ 8 → byte (commandBytes number bs bytes ++ r) 12 ≡ length bs
+count-at number bs bytes r n =
+    ap (λ l. byte (l ++ r) 12) (grouped number bs bytes)
+    ∙ ap (λ l. byte l 12) (append-assoc (opening number) (length bs ∷ (namesBytes bs ++ bytes)) r)
+    ∙ getD-at (opening number) (length bs) (namesBytes bs ++ bytes ++ r) 0 12 (omega (arith, length-opening number))
+
+-- ---- what a command can carry
+
+-- a store of one block
+pub record Whole (s : Store) : Type 0 where
+  pub block : ℕ
+  pub there : s .at ≡ 16 * block
+  pub sixteen : length (s .bytes) ≡ 16
+
+abbrev pub blocksOf : List Store → List ℕ
+blocksOf ss = map (λ s. s .at / 16) ss
+
+-- such stores, whose blocks may be named together
+abbrev pub Sendable : ℕ → ℕ → List Store → Type 0
+Sendable nbw nmaxb ss = Each Whole ss × (wellNamed nbw nmaxb (blocksOf ss) ≡ true)
+
+length-stored : (ss : List Store) → Each Whole ss → length (storedBytes ss) ≡ 16 * length ss
+length-stored [] h = refl
+length-stored (s ∷ ss) h = omega (arith, length-append (s .bytes) (storedBytes ss), h .0 .sixteen, length-stored ss (h .1))
+
+stores-stored : (ss : List Store) → Each Whole ss → storesOf (blocksOf ss) (storedBytes ss) ≡ ss
+stores-stored [] h = refl
+stores-stored (s ∷ ss) h =
+    let back : 16 * (s .at / 16) ≡ s .at = omega (arith, h .0 .there) in
+    rw (back, take-at (s .bytes) (storedBytes ss) 16 (h .0 .sixteen), drop-at (s .bytes) (storedBytes ss) 16 (h .0 .sixteen))
+    (ap (λ r. s ∷ r) (stores-stored ss (h .1)))
+
+stored-stores : (bs bytes : List ℕ) → length bytes ≡ 16 * length bs
+    → Each Whole (storesOf bs bytes) × (blocksOf (storesOf bs bytes) ≡ bs) × (storedBytes (storesOf bs bytes) ≡ bytes)
+stored-stores [] [] l = (tt, refl, refl)
+stored-stores [] (a ∷ bytes) l = absurd (omega arith)
+stored-stores (b ∷ bs) bytes l =
+    let ih = stored-stores bs (drop 16 bytes) (omega (arith, length-drop 16 bytes)) in
+    let back : 16 * b / 16 ≡ b = omega arith in (
+      (record { block = b; there = refl; sixteen = omega (arith, length-take 16 bytes) }, ih .0),
+      cc (ih .1),
+      ap (λ r. take 16 bytes ++ r) (ih .2) ∙ take-append-drop 16 bytes,
+    )
+
+-- the bytes are as many as the names ask for
+length-sent : (ss : List Store) → Each Whole ss → length (storedBytes ss) ≡ 16 * length (blocksOf ss)
+length-sent ss h = omega (arith, length-stored ss h, length-map ss (λ s. s .at / 16))
+
+pub sent : (number : List ℕ) (nbw nmaxb : ℕ) (ss : List Store) → length number ≡ 8 → Sendable nbw nmaxb ss
+    → commandOf (decode number nbw nmaxb (encoded number ss)) ≡ stores ss
+sent number nbw nmaxb ss n h =
+    ap commandOf (decode-encode number nbw nmaxb (blocksOf ss) (storedBytes ss) n (h .1) (length-sent ss (h .0)))
+    ∙ ap stores (stores-stored ss (h .0))
+
+pub span-sent : (number : List ℕ) (nbw nmaxb : ℕ) (ss : List Store) → length number ≡ 8 → Sendable nbw nmaxb ss → (r : List ℕ)
+    → span (encoded number ss ++ r) ≡ length (encoded number ss)
+span-sent number nbw nmaxb ss n h r =
+    omega (
+      arith,
+      count-at number (blocksOf ss) (storedBytes ss) r n,
+      length-command number (blocksOf ss) (storedBytes ss) n (length-sent ss (h .0)),
+    )
+
+pub some-sent : (number : List ℕ) (ss : List Store) → 0 < length (encoded number ss)
+some-sent number ss = omega arith
+
+pub piece-sent : (number : List ℕ) (nbw nmaxb : ℕ) (ss : List Store) → length number ≡ 8 → Sendable nbw nmaxb ss → Piece span (encoded number ss)
+piece-sent number nbw nmaxb ss n h = (span-sent number nbw nmaxb ss n h, some-sent number ss)
+
+pub decode-sendable : (number : List ℕ) (nbw nmaxb : ℕ) (all : List ℕ) (ss : List Store) → commandOf (decode number nbw nmaxb all) ≡ stores ss
+    → Sendable nbw nmaxb ss × (encoded number ss ≡ all) × (length number ≡ 8)
+decode-sendable number nbw nmaxb all ss e = go (decode number nbw nmaxb all) refl
+  where
+    go : (d : Decoded) → decode number nbw nmaxb all ≡ d → Sendable nbw nmaxb ss × (encoded number ss ≡ all) × (length number ≡ 8)
+    go (undecoded r) q = absurd (nope (cc))
+    go (decoded bs bytes) q =
+        let h = encode-decode number nbw nmaxb all bs bytes q in
+        let all-stores : ss ≡ storesOf bs bytes = cc in
+        let w = stored-stores bs bytes (h .1) in
+        rw all-stores ((w .0, rw (w .1) (h .0)), rw (w .1, w .2) (sym (h .2)), h .3)
