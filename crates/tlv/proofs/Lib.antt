@@ -3,3 +3,4 @@ pub mod Locality
 pub mod Fuel
 pub mod Field
 pub mod Tag
+pub mod Writes

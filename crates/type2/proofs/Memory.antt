@@ -3,12 +3,14 @@
 -- Assumes nothing.
 use mathlib.Core.Path.{_≡_, refl}
 use mathlib.Core.Bool.{true, _&&_}
+use mathlib.Core.List.{List}
 use Prim.Native.Nat.{ℕ, _+_, _*_, _/_, _%_, _≤_}
 use native.Mathlib.Omega.{arith}
 use borrow.Author.Tests.{eqb-true, leb-true}
 use lib.Dec.{leb, eqb}
 use lib.ListN.{length}
 use Rattle.tag.specs.Bytes.{byte}
+use Rattle.tag.specs.Checks.{fine, firstOf}
 use Rattle.tag.proofs.Logic.{and-l, and-r}
 use Rattle.tag.proofs.Checks.{AllPass, fine-all}
 use Rattle.tlv.proofs.Tag.{TlvLaws}
@@ -38,3 +40,14 @@ memory-laws = record {
       let e15 : byte j 15 ≡ byte i 15 = h 15 (omega arith) in
       (rw (l, e12, e13, e14, e15), rw e14, rw e15);
 }
+
+-- the data area begins at 16
+pub before-is : memory-laws .before ≡ 15
+unfolding memory-laws
+before-is = refl
+
+-- and there are at most 256 blocks
+pub few-blocks : (i : List ℕ) → firstOf ((memory .checks) i) ≡ fine → length i ≤ 1024
+few-blocks i e =
+    let c : AllPass (containerChecks (length i) (byte i 12) (byte i 13) (byte i 14) (byte i 15)) = fine-all ((memory .checks) i) e in
+    length-is (length i) (c .0) .1

@@ -1,0 +1,138 @@
+-- Tags with a TLV area as types of tag: whatever their commands look like, the plan is sound, and protected bytes fix it.
+-- Assumes nothing.
+use mathlib.Core.Path.{_≡_, refl, sym, ap, _∙_}
+use mathlib.Core.Bool.{Bool, true, false, not, true≢false}
+use mathlib.Core.List.{List, [], _∷_}
+use Prim.Native.Nat.{ℕ, _*_, _/_, _<_, _≤_}
+use native.Mathlib.Nat.{div-lt-iff-lt-mul}
+use native.Mathlib.Omega.{arith}
+use lib.ListN.{length, length-set}
+use lib.Seq.{getD-set-same, getD-set-other}
+use Rattle.tag.specs.Bytes.{byte, overlay, isSet}
+use Rattle.tag.specs.Reading.{Report, Reading, unreadable, reads, broken, nothing}
+use Rattle.tag.specs.Stores.{Store, Command}
+use Rattle.tag.specs.Plan.{Plan, inBlock}
+use Rattle.tag.specs.TagType.{TagType}
+use Rattle.tag.specs.Judge.{taskOf}
+use Rattle.tag.specs.Cuts.{Ready, Kept}
+use Rattle.tag.proofs.Logic.{nope, true-false}
+use Rattle.tag.proofs.Addresses.{above-unset}
+use Rattle.tag.proofs.Guarded.{Cell, shut, old, fresh, Between}
+use Rattle.tag.proofs.Blocks.{block-of}
+use Rattle.tag.proofs.Writes.{Sound}
+use Rattle.tag.proofs.Laws.{Near, ready-reads}
+use Rattle.tlv.specs.Message.{TlvTag, View, refuse, view, viewed, reportOf, readingOf, reading}
+use Rattle.tlv.specs.Update.{usable, fitsIn, content, lengthAt, planBy, fits, plan}
+use Rattle.tlv.proofs.Field.{first-set}
+use Rattle.tlv.proofs.Tag as tlv
+use Rattle.tlv.proofs.Tag.{TlvLaws, Placed, view-placed, ready-of, usable-is}
+
+-- a tag of kind K whose commands are these
+abbrev pub tagOf : TlvTag → (List ℕ → List ℕ → Command) → (List ℕ → ℕ) → (List Store → List ℕ) → TagType
+tagOf K command span encoded = record {
+  reading = reading K;
+  fits = fits K;
+  plan = plan K;
+  command = command;
+  span = span;
+  encoded = encoded;
+}
+
+report-writable : (w : Bool) (i ms : List ℕ) → reportOf w i ms .writable ≡ w
+report-writable w i [] = refl
+report-writable w i (a ∷ ms) = refl
+
+module _ (K : TlvTag) (laws : TlvLaws K) (command : List ℕ → List ℕ → Command) (span : List ℕ → ℕ) (encoded : List Store → List ℕ) where
+  abbrev T : TagType
+  T = tagOf K command span encoded
+
+  -- the usable addresses after the type byte
+  abbrev pub room : List ℕ → List ℕ
+  room i = usable (viewed K i)
+
+  pub placed : (i : List ℕ) (p : Report) → reading K i ≡ reads p → Placed K i (room i) × (p .writable ≡ (K .writable) i)
+  unfolding reading
+  placed i p e = go (viewed K i) refl
+    where
+      go : (v : View) → viewed K i ≡ v → Placed K i (room i) × (p .writable ≡ (K .writable) i)
+      go (refuse r) q = let e′ : unreadable r ≡ reads p = rw q at e in absurd (nope (cc))
+      go (view us ms) q =
+          let e′ : reads (reportOf ((K .writable) i) i ms) ≡ reads p = rw q at e in
+          let f : reportOf ((K .writable) i) i ms ≡ p = cc in
+          (rw q (view-placed K i us ms q), ap (λ r. r .writable) (sym f) ∙ report-writable ((K .writable) i) i ms)
+
+  pub prepared : (i m : List ℕ) → Ready T i m → tlv.Ready K i m (room i)
+  prepared i m r = record { placed = placed i (r .report) (r .reads-as) .0; some-bytes = r .some-bytes; room = r .room }
+
+  module _ (i m : List ℕ) (r : Ready T i m) where
+    abbrev us : List ℕ
+    us = room i
+
+    abbrev at : Placed K i (room i)
+    at = prepared i m r .placed
+
+    pub some : 0 < length (room i)
+    some = tlv.some-room K laws i m (room i) (prepared i m r)
+
+    pub front : (at .at < lengthAt (room i)) × (lengthAt (room i) < length i)
+    front = tlv.front K laws i (room i) at some
+
+    -- up to the type byte every tag in between is as it was
+    agrees : (j : List ℕ) → Between (inBlock (K .block) (plan K i m .guard)) i (plan K i m .closed) (overlay us (content m) i) j
+        → (x : ℕ) → x ≤ at .at → byte j x ≡ byte i x
+    agrees j b x l = go (b .1 x (omega (arith, front)))
+      where
+        go : Cell (inBlock (K .block) (plan K i m .guard)) i (plan K i m .closed) (overlay us (content m) i) j x → byte j x ≡ byte i x
+        go (shut q e) = e ∙ getD-set-other i (lengthAt us) x 0 0 (omega (arith, front .0))
+        go (old q e) = e
+        go (fresh q e) = e ∙ tlv.new-agrees K laws i m us (prepared i m r) x l
+
+    quiet : (j : List ℕ) → Between (inBlock (K .block) (plan K i m .guard)) i (plan K i m .closed) (overlay us (content m) i) j
+        → Rattle.tag.specs.TagType.held T j ≡ nothing
+    quiet j b = tlv.first-quiet K laws i us at j (b .0) (agrees j b) some (go (b .1 (lengthAt us) (front .1)))
+      where
+        go : Cell (inBlock (K .block) (plan K i m .guard)) i (plan K i m .closed) (overlay us (content m) i) j (lengthAt us) → byte j (lengthAt us) ≡ 0
+        go (shut q e) = e ∙ getD-set-same i (lengthAt us) 0 0 (front .1)
+        go (old q e) = absurd (true-false (block-of (K .block) (lengthAt us) (laws .block-pos)) q)
+        go (fresh q e) = absurd (true-false (block-of (K .block) (lengthAt us) (laws .block-pos)) q)
+
+    pub whole : length i ≡ K .block * (length i / K .block)
+    whole = tlv.bounds K laws i us at .0
+
+    pub guard-inside : plan K i m .guard < length i / K .block
+    guard-inside = div-lt-iff-lt-mul (laws .block-pos) .1 (omega (arith, front .1, whole))
+
+    pub sound : Sound T i m (plan K i m)
+    sound = record {
+      some-size = laws .block-pos;
+      some-width = omega arith;
+      whole = whole;
+      inside = guard-inside;
+      closed-length = length-set i (lengthAt us) 0;
+      closed-kept = λ a l q. getD-set-other i (lengthAt us) a 0 0 (λ e. true≢false (sym q ∙ rw (e, first-set us m some)));
+      quiet = quiet;
+      new-reads = tlv.reads-new K laws i m us (prepared i m r);
+    }
+
+    -- ---- a tag whose protected bytes are unchanged, and that reads
+
+    module _ (j : List ℕ) (n : Near T i m j) where
+      near : (x : ℕ) → x ≤ at .at → byte j x ≡ byte i x
+      near x l = n .kept x (omega (arith, front)) (above-unset (length i) us (content m) (at .at) x (tlv.beyond K laws i us at .1) l)
+
+      pub same-room : room j ≡ room i
+      same-room = usable-is K j us (tlv.same-placed K laws i us at j (n .same-length) near) (n .readable)
+
+      pub still-ready : Ready T j m
+      unfolding reading
+      still-ready =
+          let (vs, ms, q, p) = ready-of K j (n .readable) in
+          record {
+            report = reportOf ((K .writable) j) j ms;
+            reads-as = rw q;
+            writable =
+                report-writable ((K .writable) j) j ms ∙ tlv.same-writable K laws i us at j (n .same-length) near
+                ∙ sym (placed i (r .report) (r .reads-as) .1) ∙ r .writable;
+            some-bytes = r .some-bytes;
+            room = ap (λ vs. fitsIn (length m) (length vs)) same-room ∙ r .room;
+          }
