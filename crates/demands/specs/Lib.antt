@@ -1,3 +1,4 @@
 -- What an auditor reads: the specimens, and the demands as statements.
 pub mod Specimens
 pub mod Demand3
+pub mod Demand2

@@ -1,5 +1,6 @@
 -- Laws about the definitions of `tag`. Nothing here states a rule.
 pub mod Logic
+pub mod Cases
 pub mod Checks
 pub mod Each
 pub mod Images

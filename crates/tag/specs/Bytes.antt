@@ -23,6 +23,11 @@ same [] (y ∷ ys) = false
 same (x ∷ xs) [] = false
 same (x ∷ xs) (y ∷ ys) = eqb x y && same xs ys
 
+-- is the number in the list
+abbrev pub has : ℕ → List ℕ → Bool
+has x [] = false
+has x (y ∷ ys) = eqb x y || has x ys
+
 -- is each address the one before it plus one
 abbrev pub consecutive : List ℕ → Bool
 consecutive [] = true

@@ -10,3 +10,4 @@ pub mod TagType
 pub mod Judge
 pub mod Model
 pub mod Cuts
+pub mod Answers

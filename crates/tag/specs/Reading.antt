@@ -2,10 +2,10 @@
 -- caller of `read` gets (its length, and the gathering buffer) is worked out here.
 -- Assumes nothing.
 use mathlib.Core.Bool.{Bool, true, false, _&&_, cond}
-use mathlib.Core.List.{List}
-use Prim.Native.Nat.{ℕ}
-use lib.Dec.{ltb}
-use lib.ListN.{length}
+use mathlib.Core.List.{List, []}
+use Prim.Native.Nat.{ℕ, _+_}
+use lib.Dec.{leb, ltb}
+use lib.ListN.{length, take, drop}
 use Rattle.tag.specs.Bytes.{overwrite}
 use Rattle.tag.specs.Refusals.{short-gathering}
 
@@ -49,6 +49,17 @@ gatheredInto buffer (unreadable r) = buffer
 gatheredInto buffer (reads p) =
     cond (tooShort (length buffer) p) buffer
     (cond (p .interrupted) (overwrite (p .bytes) buffer) buffer)
+
+-- n bytes of a slice from a on; the empty part where they do not lie in it
+abbrev pub part : ℕ → ℕ → List ℕ → List ℕ
+part a n s = cond (leb (a + n) (length s)) (take n (drop a s)) []
+
+-- the part shown: of the image or, if interrupted, of the gathered copy; empty without a message and after a refusal
+abbrev pub shown : List ℕ → List ℕ → Answer → List ℕ
+shown image gathered (refusal r) = []
+shown image gathered (answer message a n interrupted w) = cond interrupted (part 0 n gathered) (part a n image)
+shown image gathered (answer empty a n interrupted w) = []
+shown image gathered (answer being-written a n interrupted w) = []
 
 -- what a tag holds, all that demand 3 compares readings by: empty and being written both hold none
 pub data Held : Type 0 where

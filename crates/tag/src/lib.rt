@@ -1,8 +1,9 @@
-// What every type of tag shares. Byte addresses and block numbers are two kinds of number; the functions below are the only
-// way from one to the other.
+// What every type of tag shares: addresses and blocks, and the answers of the public functions. A refusal is its number.
 
 ghost use mathlib.Core.Path.{_≡_};
 ghost use Prim.Native.Nat.{_*_, _/_, _^_, _<_};
+
+// Byte addresses and block numbers are two kinds of number; the two methods below are the only way from one to the other.
 
 // The address of a byte in a tag's memory.
 pub struct Address(pub usize);
@@ -28,4 +29,44 @@ impl Block {
     {
         Address(size * self.0)
     }
+}
+
+// Which of the three a tag that reads is.
+pub enum What {
+    Message,
+    Empty,
+    BeingWritten,
+}
+
+// What a tag that reads says of itself. Without a message, address and length are 0.
+pub struct Report {
+    pub what: What,
+    pub address: Address,
+    pub length: usize,
+    pub interrupted: bool,
+    pub writable: bool,
+}
+
+// The answer of reading.
+pub enum ReadAnswer {
+    Refused(u8),
+    Reads(Report),
+}
+
+// The answer of writing, the number of commands, and of encoding, the number of bytes.
+pub enum CountAnswer {
+    Refused(u8),
+    Count(usize),
+}
+
+// The answer of judging: a refusal with the position of the command, or the number of commands.
+pub enum JudgeAnswer {
+    Refused(u8, usize),
+    Accepted(usize),
+}
+
+// The answer of the tag as a model.
+pub enum ModelAnswer {
+    Refused(u8),
+    Stored,
 }

@@ -4,3 +4,4 @@ pub mod Fuel
 pub mod Field
 pub mod Tag
 pub mod Writes
+pub mod Skipping

@@ -13,6 +13,10 @@ pub record Area : Type 0 where
   pub start : ℕ
   pub size : ℕ
 
+-- which areas may be declared: any, also one outside the image
+abbrev pub anyArea : Area → Bool
+anyArea r = true
+
 abbrev pub covers : Area → ℕ → Bool
 covers r a = leb (r .start) a && ltb a (r .start + r .size)
 

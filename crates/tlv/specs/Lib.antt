@@ -3,3 +3,5 @@ pub mod Areas
 pub mod Walk
 pub mod Message
 pub mod Update
+pub mod Table
+pub mod Views

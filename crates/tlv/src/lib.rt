@@ -1,10 +1,6 @@
-// The TLV area of a tag.
-
-use tag::Address;
-
-// The place reached in the data area: the next address to look at, the data area's end, and how many areas were declared so far.
-pub struct Walk {
-    pub at: Address,
-    pub end: Address,
-    pub areas: usize,
-}
+// The TLV area of a tag: the walk to the message TLV, and reading and setting what lies behind it.
+//
+// The place reached is a small value, `walk::Walk`, that each step hands back moved on. The addresses that control TLVs take
+// out are kept in a skip table that the caller lends, one number an address.
+pub mod table;
+pub mod walk;

@@ -1,7 +1,7 @@
 -- The memory of a Type 2 tag: blocks of 4 bytes; bytes 12 to 15 are the capability container (mark, version, size, access);
 -- the data area is addresses 16 to 15 + 8·size. Lock bits are not consulted.
 -- Assumes nothing.
-use mathlib.Core.Bool.{Bool, true, _&&_, _||_}
+use mathlib.Core.Bool.{Bool, _&&_, _||_}
 use mathlib.Core.List.{List, [], _∷_}
 use Prim.Native.Nat.{ℕ, _+_, _*_, _%_}
 use lib.Dec.{leb, eqb}
@@ -10,6 +10,7 @@ use Rattle.tag.specs.Bytes.{byte}
 use Rattle.tag.specs.Refusals.{image-length, no-mark, unknown-version, bad-access, past-image}
 use Rattle.tag.specs.Checks.{Check, check}
 use Rattle.tag.specs.Version.{knownVersion}
+use Rattle.tlv.specs.Areas.{anyArea}
 use Rattle.tlv.specs.Walk.{Layout}
 use Rattle.tlv.specs.Message.{TlvTag}
 
@@ -29,7 +30,7 @@ containerChecks n mark version size access =
 
 -- an area may lie outside the image
 abbrev pub layout : Layout
-layout = record { first = 16; size = λ i. 8 * byte i 14; allowed = λ n r. true }
+layout = record { first = 16; size = λ i. 8 * byte i 14; allowed = λ n. anyArea }
 
 -- access 00h is writable, 0Fh read-only
 abbrev pub memory : TlvTag

@@ -1,0 +1,102 @@
+-- Demand 2: reading, writing and the codec, as theorems about the definitions. That reading answers as the documents say and
+-- that writing gives exactly these commands is what the definitions are; what follows from them is stated here.
+-- This file states; the proofs of the same names prove.
+-- Assumes nothing.
+use mathlib.Core.Path.{_≡_}
+use mathlib.Core.Bool.{Bool, true, false, cond}
+use mathlib.Core.Logic.{_↔_}
+use mathlib.Core.List.{List}
+use Prim.Native.Nat.{ℕ, zero, suc, _+_, _-_, _*_, _/_, _<_, _≤_}
+use lib.ListN.{length, take}
+use Rattle.tag.specs.Bytes.{byte, has}
+use Rattle.tag.specs.Refusals.{too-long}
+use Rattle.tag.specs.Reading.{Report, reads, answerOf, tooShort, gatheredInto, shown, holds}
+use Rattle.tag.specs.Plan.{Plan, touches, list}
+use Rattle.tag.specs.TagType.{TagType, held, writing, unwritten, output, write, commands}
+use Rattle.tag.specs.Cuts.{Ready}
+use Rattle.tlv.specs.Walk.{found, messageTlv}
+use Rattle.type2.specs.Memory.{layout}
+use Rattle.type2.specs.Type2.{type2}
+use Rattle.type2.specs.Codec as codec2
+use Rattle.type3.specs.Type3.{type3}
+use Rattle.type3.specs.Update.{blocksFor, blocksPerCommand}
+use Rattle.type3.specs.Codec as codec3
+use Rattle.demands.specs.Demand3.{cutOf}
+
+-- ---- for every type of tag
+
+pub record Demand2 (T : TagType) : Type 0 where
+  -- the tag that took the commands written reads as the message, and as many were written as the answer says
+  pub written-reads : (room n : ℕ) (i m bytes : List ℕ) → write T room i m ≡ output n bytes
+      → (n ≡ length (commands T i bytes)) × (held T (cutOf T i bytes n) ≡ holds m)
+  -- the part shown after reading is the message
+  pub shown-is : (i buffer : List ℕ) (p : Report) → (T .reading) i ≡ reads p → tooShort (length buffer) p ≡ false
+      → shown i (gatheredInto buffer ((T .reading) i)) (answerOf (length buffer) ((T .reading) i)) ≡ p .bytes
+
+-- ---- refusal 11, exactly
+
+-- a tag that reads, that is writable, and a message that is not empty: only 11 is left to refuse
+pub record Asked (T : TagType) (i m : List ℕ) : Type 0 where
+  pub report : Report
+  pub reads-as : (T .reading) i ≡ reads report
+  pub writable : report .writable ≡ true
+  pub some-bytes : length m ≡ 0 → ⊥
+
+-- Type 2: images of equal length, equal up to and with the type byte, at t, and at all skipped addresses: those of the data
+-- area after it that are not among the usable ones, us
+pub record Alike2 (t : ℕ) (us i j : List ℕ) : Type 0 where
+  pub same-length : length j ≡ length i
+  pub same-start : (a : ℕ) → a ≤ t → byte j a ≡ byte i a
+  pub same-skipped : (a : ℕ) → t < a → a < 16 + 8 * byte i 14 → has a us ≡ false → byte j a ≡ byte i a
+
+abbrev pub TooLong2 : Type 0
+TooLong2 = (i m : List ℕ) → Asked type2 i m → (t : ℕ) (us : List ℕ) → messageTlv layout i ≡ found t us
+    → (writing type2 i m ≡ unwritten too-long) ↔ ((j : List ℕ) → Alike2 t us i j → held type2 j ≡ holds m → ⊥)
+
+-- Type 3: images of equal length with the same bytes 0 to 8 and 10
+pub record Alike3 (i j : List ℕ) : Type 0 where
+  pub same-length : length j ≡ length i
+  pub same-start : (a : ℕ) → a ≤ 8 → byte j a ≡ byte i a
+  pub same-access : byte j 10 ≡ byte i 10
+
+abbrev pub TooLong3 : List ℕ → Type 0
+TooLong3 number = (i m : List ℕ) → Asked (type3 number) i m
+    → (writing (type3 number) i m ≡ unwritten too-long) ↔ ((j : List ℕ) → Alike3 i j → held (type3 number) j ≡ holds m → ⊥)
+
+-- ---- the codec loses nothing
+
+pub record Codec2 : Type 0 where
+  -- what is encoded is read again as the same command, of as many bytes as the answer says
+  pub decode-encode : (blocks b : ℕ) (bytes : List ℕ) (room n : ℕ) (all : List ℕ) → length bytes ≡ 4
+      → codec2.encode blocks b bytes room ≡ output n all → (codec2.decode blocks all ≡ codec2.decoded b bytes) × (n ≡ length all)
+  -- what is read as a command is what that command encodes to
+  pub encode-decode : (blocks : ℕ) (all : List ℕ) (b : ℕ) (bytes : List ℕ) (room : ℕ) → length all ≤ room
+      → codec2.decode blocks all ≡ codec2.decoded b bytes → codec2.encode blocks b bytes room ≡ output (length all) all
+
+pub record Codec3 (number : List ℕ) : Type 0 where
+  pub decode-encode : (nbw nmaxb b : ℕ) (bs bytes : List ℕ) (room n : ℕ) (all : List ℕ) → 16 * b ≤ length bytes
+      → codec3.encode number nbw nmaxb b bs bytes room ≡ output n all
+      → (codec3.decode number nbw nmaxb all ≡ codec3.decoded (take b bs) (take (16 * b) bytes)) × (n ≡ length all)
+  pub encode-decode : (nbw nmaxb : ℕ) (all bs bytes : List ℕ) (room : ℕ) → length all ≤ room
+      → codec3.decode number nbw nmaxb all ≡ codec3.decoded bs bytes → codec3.encode number nbw nmaxb (length bs) bs bytes room ≡ output (length all) all
+
+-- ---- the number of commands
+
+-- how many of the k blocks from b on pass the test
+abbrev pub count : (ℕ → Bool) → ℕ → ℕ → ℕ
+count test b zero = 0
+count test b (suc k) = cond (test b) 1 0 + count test (suc b) k
+
+-- the blocks of a tag that hold a byte to set
+abbrev pub touched : Plan → List ℕ → ℕ
+touched p i = count (touches (p .size) (p .addresses) (p .values)) 0 (length i / p .size)
+
+-- Type 2: blocks touched + 1
+abbrev pub Count2 : Type 0
+Count2 = (i m : List ℕ) → Ready type2 i m → length (list ((type2 .plan) i m) i) ≡ touched ((type2 .plan) i m) i + 1
+
+-- Type 3: 2 + k/w rounded up
+abbrev pub Count3 : List ℕ → Type 0
+Count3 number = (i m : List ℕ) → Ready (type3 number) i m
+    → length (list ((type3 number .plan) i m) i)
+    ≡ 2 + (blocksFor (length m) + (blocksPerCommand (byte i 2) - 1)) / blocksPerCommand (byte i 2)

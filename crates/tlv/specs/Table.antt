@@ -1,0 +1,13 @@
+-- The skip table of the code: at each address 0, or where a declared area that covers the address ends. The usable addresses
+-- still to come are those whose entry is 0.
+-- Assumes nothing.
+use mathlib.Core.Bool.{true, false}
+use mathlib.Core.List.{List, [], _∷_}
+use Prim.Native.Nat.{ℕ, zero, suc}
+use lib.Dec.{eqb}
+use Rattle.tag.specs.Bytes.{byte}
+
+-- the usable addresses among the n from a on
+unfoldable pub unskipped : List ℕ → ℕ → ℕ → List ℕ
+unskipped table a zero = []
+unskipped table a (suc n) = elim (eqb (byte table a) 0) [ true ↦ a ∷ unskipped table (suc a) n | false ↦ unskipped table (suc a) n ]

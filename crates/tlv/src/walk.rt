@@ -1,0 +1,38 @@
+// The walk over the TLVs of a data area. Each method takes the place reached by value and hands it back moved on.
+
+use crate::table;
+use tag::Address;
+ghost use mathlib.Core.Path.{_≡_};
+ghost use Rattle.tlv.specs.Walk.{takeByte};
+ghost use Rattle.tlv.specs.Views.{ahead, Placed, takenAs, TakenPlaced};
+
+// The place reached: the next address to look at, and the data area's end.
+pub struct Walk {
+    pub at: Address,
+    pub end: Address,
+}
+
+// A byte taken: its value, its address, and the walk past it.
+pub enum Taken {
+    Nothing,
+    Byte(u8, Address, Walk),
+}
+
+impl Walk {
+    // The next usable byte.
+    pub fn take_byte(self, image: &[u8], table: &[u16]) -> Taken
+        requires { ⌜ Placed (now image) (now table) self ⌝ }
+        ensures is { λ r. ⌜ takenAs (now (table .entry)) r ≡ takeByte (now (image .entry)) (ahead (now (table .entry)) self) ⌝ }
+        ensures placed { λ r. ⌜ TakenPlaced (now (image .entry)) (now (table .entry)) self r ⌝ }
+    {
+        let end = self.end;
+        let found = table::next_usable(table, self.at, end);
+        let a = found.0;
+        if a < end.0 {
+            let next = Address(a + 1);
+            Taken::Byte(image[a], found, Walk { at: next, end })
+        } else {
+            Taken::Nothing
+        }
+    }
+}
