@@ -62,10 +62,10 @@ module _ (T : TagType) (L : Laws T) where
   taken i [] h = refl
   taken i (ss ∷ sss) h = cc (h .0 .taken, taken i sss (h .1))
 
-  our-commands : (i m : List ℕ) → Ready T i m → commands T i (ourBytes T i m) ≡ map stores (list ((T .plan) i m) i)
+  pub our-commands : (i m : List ℕ) → Ready T i m → commands T i (ourBytes T i m) ≡ map stores (list ((T .plan) i m) i)
   our-commands i m r = ap (map ((T .command) i)) (our-pieces i m r) ∙ taken i (list ((T .plan) i m) i) (L .sent i m r)
 
-  our-image : (i m : List ℕ) → Ready T i m → ourImage T i m ≡ newImage ((T .plan) i m) i
+  pub our-image : (i m : List ℕ) → Ready T i m → ourImage T i m ≡ newImage ((T .plan) i m) i
   our-image i m r =
       rw (our-commands i m r, length-map (list ((T .plan) i m) i) stores) (list-ends T i m ((T .plan) i m) (L .sound i m r))
 

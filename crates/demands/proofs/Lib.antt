@@ -1,2 +1,3 @@
 -- The proofs of the demands.
 pub mod Demand3
+pub mod Demand2

@@ -3,15 +3,15 @@
 -- This file states; the proofs of the same names prove.
 -- Assumes nothing.
 use mathlib.Core.Path.{_≡_}
-use mathlib.Core.Bool.{Bool, true, false, cond}
+use mathlib.Core.Bool.{true, false}
 use mathlib.Core.Logic.{_↔_}
-use mathlib.Core.List.{List}
-use Prim.Native.Nat.{ℕ, zero, suc, _+_, _-_, _*_, _/_, _<_, _≤_}
+use mathlib.Core.List.{List, [], _∷_}
+use Prim.Native.Nat.{ℕ, _+_, _-_, _*_, _/_, _<_, _≤_}
 use lib.ListN.{length, take}
 use Rattle.tag.specs.Bytes.{byte, has}
 use Rattle.tag.specs.Refusals.{too-long}
 use Rattle.tag.specs.Reading.{Report, reads, answerOf, tooShort, gatheredInto, shown, holds}
-use Rattle.tag.specs.Plan.{Plan, touches, list}
+use Rattle.tag.specs.Plan.{touched, list}
 use Rattle.tag.specs.TagType.{TagType, held, writing, unwritten, output, write, commands}
 use Rattle.tag.specs.Cuts.{Ready}
 use Rattle.tlv.specs.Walk.{found, messageTlv}
@@ -35,12 +35,19 @@ pub record Demand2 (T : TagType) : Type 0 where
 
 -- ---- refusal 11, exactly
 
+-- lists of bytes
+abbrev pub Octets : List ℕ → Type 0
+Octets [] = Unit {0}
+Octets (b ∷ bs) = (b < 256) × Octets bs
+
 -- a tag that reads, that is writable, and a message that is not empty: only 11 is left to refuse
 pub record Asked (T : TagType) (i m : List ℕ) : Type 0 where
   pub report : Report
   pub reads-as : (T .reading) i ≡ reads report
   pub writable : report .writable ≡ true
   pub some-bytes : length m ≡ 0 → ⊥
+  pub image-octets : Octets i
+  pub message-octets : Octets m
 
 -- Type 2: images of equal length, equal up to and with the type byte, at t, and at all skipped addresses: those of the data
 -- area after it that are not among the usable ones, us
@@ -51,7 +58,7 @@ pub record Alike2 (t : ℕ) (us i j : List ℕ) : Type 0 where
 
 abbrev pub TooLong2 : Type 0
 TooLong2 = (i m : List ℕ) → Asked type2 i m → (t : ℕ) (us : List ℕ) → messageTlv layout i ≡ found t us
-    → (writing type2 i m ≡ unwritten too-long) ↔ ((j : List ℕ) → Alike2 t us i j → held type2 j ≡ holds m → ⊥)
+    → (writing type2 i m ≡ unwritten too-long) ↔ ((j : List ℕ) → Octets j → Alike2 t us i j → held type2 j ≡ holds m → ⊥)
 
 -- Type 3: images of equal length with the same bytes 0 to 8 and 10
 pub record Alike3 (i j : List ℕ) : Type 0 where
@@ -61,7 +68,7 @@ pub record Alike3 (i j : List ℕ) : Type 0 where
 
 abbrev pub TooLong3 : List ℕ → Type 0
 TooLong3 number = (i m : List ℕ) → Asked (type3 number) i m
-    → (writing (type3 number) i m ≡ unwritten too-long) ↔ ((j : List ℕ) → Alike3 i j → held (type3 number) j ≡ holds m → ⊥)
+    → (writing (type3 number) i m ≡ unwritten too-long) ↔ ((j : List ℕ) → Octets j → Alike3 i j → held (type3 number) j ≡ holds m → ⊥)
 
 -- ---- the codec loses nothing
 
@@ -81,15 +88,6 @@ pub record Codec3 (number : List ℕ) : Type 0 where
       → codec3.decode number nbw nmaxb all ≡ codec3.decoded bs bytes → codec3.encode number nbw nmaxb (length bs) bs bytes room ≡ output (length all) all
 
 -- ---- the number of commands
-
--- how many of the k blocks from b on pass the test
-abbrev pub count : (ℕ → Bool) → ℕ → ℕ → ℕ
-count test b zero = 0
-count test b (suc k) = cond (test b) 1 0 + count test (suc b) k
-
--- the blocks of a tag that hold a byte to set
-abbrev pub touched : Plan → List ℕ → ℕ
-touched p i = count (touches (p .size) (p .addresses) (p .values)) 0 (length i / p .size)
 
 -- Type 2: blocks touched + 1
 abbrev pub Count2 : Type 0

@@ -8,7 +8,7 @@ use borrow.Author.Tests.{ne-eqb, eqb-false, not-true}
 use lib.Dec.{eqb}
 use lib.ListN.{length}
 use Rattle.tag.specs.Checks.{Checked, fine, fault, firstOf}
-use Rattle.tag.specs.Reading.{What, message, empty, being-written, Report, Reading, unreadable, reads, broken, nothing, holds}
+use Rattle.tag.specs.Reading.{What, message, empty, being-written, Report, Reading, unreadable, reads, broken, nothing, holds, part}
 use Rattle.tag.specs.Stores.{Store, stores}
 use Rattle.tag.specs.Plan.{Plan, list}
 use Rattle.tag.specs.TagType.{TagType, held, Writing, unwritten, written, checksOf, writable, planned, writing}
@@ -39,6 +39,10 @@ pub record Laws (T : TagType) : Type 0 where
   pub same-addresses : (i m j : List ℕ) → Ready T i m → Near T i m j → (T .plan) j m .addresses ≡ (T .plan) i m .addresses
   pub same-values : (i m j : List ℕ) → Ready T i m → Near T i m j → (T .plan) j m .values ≡ (T .plan) i m .values
   pub same-command : (i m j : List ℕ) → Ready T i m → Near T i m j → (bytes : List ℕ) → (T .command) j bytes ≡ (T .command) i bytes
+  -- without a message there are no bytes, and a message that is not interrupted is a part of the image
+  pub wordless : (i : List ℕ) (p : Report) → (T .reading) i ≡ reads p → (p .what ≡ message → ⊥) → p .bytes ≡ []
+  pub in-place : (i : List ℕ) (p : Report) → (T .reading) i ≡ reads p → p .what ≡ message → p .interrupted ≡ false
+      → part (p .address) (length (p .bytes)) i ≡ p .bytes
   -- a command takes a byte of a list at least
   pub some-span : (bytes : List ℕ) → 0 < (T .span) bytes
   -- our commands are taken for what they store

@@ -10,5 +10,6 @@ pub mod Guarded
 pub mod Blocks
 pub mod Writes
 pub mod Sending
+pub mod Counts
 pub mod Pieces
 pub mod Laws

@@ -36,7 +36,7 @@ pub record Sound (T : TagType) (i m : List ℕ) (p : Plan) : Type 0 where
   pub new-reads : held T (newImage p i) ≡ holds m
 
 -- a block that holds a byte to set is touched
-touch-of : (z : ℕ) (us vs : List ℕ) (a b : ℕ) → isSet us vs a ≡ true → inBlock z b a ≡ true → touches z us vs b ≡ true
+pub touch-of : (z : ℕ) (us vs : List ℕ) (a b : ℕ) → isSet us vs a ≡ true → inBlock z b a ≡ true → touches z us vs b ≡ true
 touch-of z [] vs a b s h = absurd (false≢true s)
 touch-of z (x ∷ us) [] a b s h = absurd (false≢true s)
 touch-of z (x ∷ us) (v ∷ vs) a b s h =

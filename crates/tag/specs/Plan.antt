@@ -2,7 +2,7 @@
 -- them. The list shuts a guard block first, so that the tag holds no message; it then writes every other block that holds a
 -- byte to set; it opens the guard block last, with all its new bytes.
 -- Assumes nothing.
-use mathlib.Core.Bool.{Bool, true, false, not, _&&_, _||_}
+use mathlib.Core.Bool.{Bool, true, false, not, _&&_, _||_, cond}
 use mathlib.Core.List.{List, [], _∷_, _++_}
 use Prim.Native.Nat.{ℕ, zero, suc, _+_, _-_, _*_, _/_}
 use lib.Dec.{leb, ltb, eqb}
@@ -70,3 +70,12 @@ abbrev pub list : Plan → List ℕ → List (List Store)
 list p i =
     (blockOf (p .size) (p .closed) (p .guard) ∷ [])
     ∷ (middle p i ++ (blockOf (p .size) (newImage p i) (p .guard) ∷ []) ∷ [])
+
+-- how many of the k blocks from b on pass the test
+abbrev pub counted : (ℕ → Bool) → ℕ → ℕ → ℕ
+counted test b zero = 0
+counted test b (suc k) = cond (test b) 1 0 + counted test (suc b) k
+
+-- how many blocks of the tag i hold a byte to set
+abbrev pub touched : Plan → List ℕ → ℕ
+touched p i = counted (touches (p .size) (p .addresses) (p .values)) 0 (length i / p .size)

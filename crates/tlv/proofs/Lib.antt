@@ -4,4 +4,5 @@ pub mod Fuel
 pub mod Field
 pub mod Tag
 pub mod Writes
+pub mod Shown
 pub mod Skipping

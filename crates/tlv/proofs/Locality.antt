@@ -131,6 +131,10 @@ module _ (hi : ℕ) where
   length-local i [] ws n e = absurd (nope (cc))
   length-local i (a ∷ us) ws n e = after-byte (λ x j. lengthBy x j us) (lengthBy-local (byte i a) i us ws n e)
 
+  -- the addresses after a length lie above what those before it do
+  pub length-above : (i us ws : List ℕ) (n : ℕ) → lengthOf i us ≡ len n ws → (x : ℕ) → Above hi x us → Above hi x ws
+  length-above i us ws n e = length-local i us ws n e .up
+
   value-local : (i us ws : List ℕ) → passValue (lengthOf i us) ≡ more ws → Local (λ j. passValue (lengthOf j us)) (more ws) i us ws
   value-local i us ws e =
       let (n, vs, q, u) = passValue-is (lengthOf i us) ws e in

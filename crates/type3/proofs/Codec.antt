@@ -11,15 +11,15 @@ use borrow.Author.Tests.{leb-true, le-leb, eqb-true, eq-eqb, ne-eqb}
 use lib.Dec.{leb, eqb}
 use lib.ListN.{length, take, drop, length-append, length-take, length-drop, length-map, take-append-drop}
 use lib.Seq.{take-at, drop-at, drop-drop, getD-at, split-at}
-use Rattle.tag.specs.Bytes.{byte, same}
+use Rattle.tag.specs.Bytes.{byte, same, has}
 use Rattle.tag.specs.Refusals.{not-well-formed}
 use Rattle.tag.specs.Stores.{Store, stores}
 use Rattle.tag.proofs.Logic.{and-l, and-r, same-eq, same-refl, nope}
-use Rattle.tag.proofs.Addresses.{Above, Rising, above-hi, above-rising}
+use Rattle.tag.proofs.Addresses.{Above, Rising, above-rising}
 use Rattle.tag.proofs.Each.{Each}
 use Rattle.tag.proofs.Pieces.{Piece}
 use Rattle.type3.specs.Update.{blocksPerCommand}
-use Rattle.type3.specs.Codec.{namesBytes, Names, no-names, names, withName, namesOf, has, nameable, wellNamed, opening, commandBytes, Decoded, undecoded, decoded, decodeBy, decode, storesOf, commandOf, storedBytes, encoded, span}
+use Rattle.type3.specs.Codec.{namesBytes, Names, no-names, names, withName, namesOf, nameable, wellNamed, opening, commandBytes, Decoded, undecoded, decoded, decodeBy, decode, storesOf, commandOf, storedBytes, encoded, span}
 
 -- ---- block names
 
@@ -60,13 +60,12 @@ above-has hi x y [] h l = refl
 above-has hi x y (z ∷ us) h l =
     rw (ne-eqb y z (λ e. omega (arith, h .0)), above-has hi z y us (h .1) (omega (arith, h .0)))
 
-pub rising-nameable : (hi nmaxb : ℕ) (bs : List ℕ) → Rising hi bs → hi ≤ suc nmaxb → hi ≤ 256 → nameable nmaxb bs ≡ true
+pub rising-nameable : (hi nmaxb : ℕ) (bs : List ℕ) → Rising hi bs → Each (λ b. b ≤ nmaxb) bs → nmaxb ≤ 255 → nameable nmaxb bs ≡ true
 rising-nameable hi nmaxb [] h l m = refl
 rising-nameable hi nmaxb (b ∷ bs) h l m =
-    let below : b < hi = above-hi hi b bs h in
-    let small : leb b nmaxb ≡ true = le-leb b nmaxb (omega arith) in
-    let a-byte : leb b 255 ≡ true = le-leb b 255 (omega arith) in
-    rw (small, a-byte, above-has hi b b bs h (omega arith)) (rising-nameable hi nmaxb bs (above-rising hi b bs h) l m)
+    let small : leb b nmaxb ≡ true = le-leb b nmaxb (l .0) in
+    let a-byte : leb b 255 ≡ true = le-leb b 255 (omega (arith, l .0)) in
+    rw (small, a-byte, above-has hi b b bs h (omega arith)) (rising-nameable hi nmaxb bs (above-rising hi b bs h) (l .1) m)
 
 -- a command names at least one block
 named-some : (nbw nmaxb : ℕ) (bs : List ℕ) → wellNamed nbw nmaxb bs ≡ true → 1 ≤ length bs

@@ -1,2 +1,7 @@
 -- Laws about the definitions of `type3`. Nothing here states a rule.
 pub mod Codec
+pub mod Message
+pub mod Update
+pub mod Shown
+pub mod Laws
+pub mod Counts

@@ -6,7 +6,7 @@ use mathlib.Core.List.{List, [], _∷_, _++_, map}
 use Prim.Native.Nat.{ℕ, zero, suc, _+_, _*_, _/_}
 use lib.Dec.{leb, eqb}
 use lib.ListN.{length, take, drop}
-use Rattle.tag.specs.Bytes.{byte, same}
+use Rattle.tag.specs.Bytes.{byte, same, has}
 use Rattle.tag.specs.Refusals.{not-well-formed}
 use Rattle.tag.specs.Stores.{Store, Command, ill, stores}
 use Rattle.tag.specs.TagType.{Output, withheld, fitted}
@@ -43,11 +43,7 @@ unfoldable pub namesOf : ℕ → List ℕ → Names
 namesOf zero bytes = names [] bytes
 namesOf (suc k) bytes = elim (nameOf bytes) [ unnamed ↦ no-names | named b rest ↦ withName b (namesOf k rest) ]
 
--- does the list have the number in it; is each at most Nmaxb and a byte; is none named twice
-abbrev pub has : ℕ → List ℕ → Bool
-has b [] = false
-has b (c ∷ bs) = eqb b c || has b bs
-
+-- each is at most Nmaxb and a byte, and none is named twice
 abbrev pub nameable : ℕ → List ℕ → Bool
 nameable nmaxb [] = true
 nameable nmaxb (b ∷ bs) = leb b nmaxb && leb b 255 && not (has b bs) && nameable nmaxb bs

@@ -1,0 +1,75 @@
+-- Demand 2 for every type of tag, from its laws: the tag that took our commands reads as the message, and the part shown after
+-- reading is the message.
+-- Assumes nothing.
+use mathlib.Core.Path.{_≡_, refl, sym, ap, _∙_}
+use mathlib.Core.Bool.{Bool, true, false, _&&_, cond}
+use mathlib.Core.List.{List, [], _∷_, _++_}
+use Prim.Native.Nat.{ℕ, _+_, _≤_}
+use native.Mathlib.Omega.{arith}
+use borrow.Author.Tests.{leb-true, ltb-false, le-leb}
+use lib.Dec.{leb, ltb}
+use lib.ListN.{length, take, drop, length-map, length-append}
+use lib.Seq.{take-append-seam}
+use Rattle.tag.specs.Bytes.{overwrite}
+use Rattle.tag.specs.Refusals.{short-buffer}
+use Rattle.tag.specs.Reading.{What, message, empty, being-written, Report, reads, tooShort, answerOf, gatheredInto, part, shown, holds}
+use Rattle.tag.specs.Stores.{stores}
+use Rattle.tag.specs.Plan.{Plan, list}
+use Rattle.tag.specs.TagType.{TagType, held, Writing, unwritten, written, writing, Output, withheld, output, fitted, writeBy, write, listBytes, commands}
+use Rattle.tag.specs.Cuts.{Ready}
+use Rattle.tag.proofs.Logic.{nope}
+use Rattle.tag.proofs.Writes.{Sound}
+use Rattle.tag.proofs.Laws.{Laws, written-ready}
+use Rattle.demands.specs.Demand3.{cutOf, ourBytes, ourImage}
+use Rattle.demands.specs.Demand2.{Demand2}
+use Rattle.demands.proofs.Demand3.{our-commands, our-image}
+
+-- what fits a buffer is put out as it is
+fitted-is : (room k n : ℕ) (bytes all : List ℕ) → fitted room k bytes ≡ output n all → (k ≡ n) × (bytes ≡ all)
+fitted-is room k n bytes all e = go (leb (length bytes) room) refl
+  where
+    go : (b : Bool) → leb (length bytes) room ≡ b → (k ≡ n) × (bytes ≡ all)
+    go false q = let f : withheld short-buffer ≡ output n all = rw q at e in absurd (nope (cc))
+    go true q = let f : output k bytes ≡ output n all = rw q at e in (cc, cc)
+
+-- the front of a buffer that was written over
+part-front : (bytes buffer : List ℕ) → length bytes ≤ length buffer → part 0 (length bytes) (overwrite bytes buffer) ≡ bytes
+part-front bytes buffer l =
+    let k : 0 + length bytes ≤ length (overwrite bytes buffer) = rw length-append (omega arith) in
+    rw (le-leb (0 + length bytes) (length (overwrite bytes buffer)) k) (take-append-seam bytes (drop (length bytes) buffer))
+
+module _ (T : TagType) (L : Laws T) where
+  reads-back : (room n : ℕ) (i m bytes : List ℕ) → write T room i m ≡ output n bytes
+      → (n ≡ length (commands T i bytes)) × (held T (cutOf T i bytes n) ≡ holds m)
+  reads-back room n i m bytes e = go (writing T i m) refl
+    where
+      go : (w : Writing) → writing T i m ≡ w → (n ≡ length (commands T i bytes)) × (held T (cutOf T i bytes n) ≡ holds m)
+      go (unwritten r) q = let f : withheld r ≡ output n bytes = rw q at e in absurd (nope (cc))
+      go (written p) q =
+          let (r, u) = written-ready T i m p q in
+          let f : fitted room (length (list p i)) (listBytes T p i) ≡ output n bytes = rw q at e in
+          let (k, b) = fitted-is room (length (list p i)) n (listBytes T p i) bytes f in
+          let b′ : ourBytes T i m ≡ bytes = ap (λ p. listBytes T p i) u ∙ b in
+          let c : n ≡ length (commands T i (ourBytes T i m))
+          = sym k ∙ ap (λ p. length (list p i)) (sym u) ∙ sym (ap length (our-commands T L i m r) ∙ length-map (list ((T .plan) i m) i) stores) in
+          (c ∙ ap (λ all. length (commands T i all)) b′, rw (← b′, c) (ap (held T) (our-image T L i m r) ∙ L .sound i m r .new-reads))
+
+  shown-part : (i buffer : List ℕ) (p : Report) → (T .reading) i ≡ reads p → tooShort (length buffer) p ≡ false
+      → shown i (gatheredInto buffer (reads p)) (answerOf (length buffer) (reads p)) ≡ p .bytes
+  shown-part i buffer p e f = rw f (go (p .what) refl (p .interrupted) refl)
+    where
+      go : (w : What) → p .what ≡ w → (b : Bool) → p .interrupted ≡ b
+          → shown i (cond (p .interrupted) (overwrite (p .bytes) buffer) buffer)
+          (Rattle.tag.specs.Reading.answer (p .what) (p .address) (length (p .bytes)) (p .interrupted) (p .writable)) ≡ p .bytes
+      go message q true r =
+          let l : length (p .bytes) ≤ length buffer = ltb-false (length buffer) (length (p .bytes)) (rw r at f) in
+          rw (q, r) (part-front (p .bytes) buffer l)
+      go message q false r = rw (q, r) (L .in-place i p e q r)
+      go empty q b r = rw q (sym (L .wordless i p e (λ z. let y : empty ≡ message = sym q ∙ z in nope (cc))))
+      go being-written q b r = rw q (sym (L .wordless i p e (λ z. let y : being-written ≡ message = sym q ∙ z in nope (cc))))
+
+  pub claim : Demand2 T
+  claim = record {
+    written-reads = reads-back;
+    shown-is = λ i buffer p e f. rw e (shown-part i buffer p e f);
+  }

@@ -1,0 +1,97 @@
+-- How many commands a list has: two for the guard block and, between them, as many as the chosen blocks fill. The chosen
+-- blocks are those for which the test is true, counted; a test that is true just on a run of blocks counts that run.
+-- Assumes nothing.
+use mathlib.Core.Path.{_≡_, refl, ap, _∙_}
+use mathlib.Core.Bool.{Bool, true, false, not, _&&_, cond}
+use mathlib.Core.List.{List, [], _∷_}
+use Prim.Native.Nat.{ℕ, zero, suc, _+_, _-_, _/_, _<_, _≤_}
+use native.Mathlib.Omega.{arith}
+use borrow.Author.Tests.{eq-eqb, ne-eqb}
+use lib.Dec.{eqb}
+use lib.ListN.{length, drop, length-append}
+use Rattle.tag.specs.Stores.{Store}
+use Rattle.tag.specs.Plan.{Plan, newImage, blockOf, touches, between, picks, chunk, middle, list, counted, touched}
+
+module _ (t : ℕ → Bool) where
+  pub length-picks : (z : ℕ) (n : List ℕ) (b k : ℕ) → length (picks t z n b k) ≡ counted t b k
+  unfolding picks
+  length-picks z n b zero = refl
+  length-picks z n b (suc k) = go (t b) refl (length-picks z n (suc b) k)
+    where
+      go : (c : Bool) → t b ≡ c → length (picks t z n (suc b) k) ≡ counted t (suc b) k → length (picks t z n b (suc k)) ≡ counted t b (suc k)
+      go true q ih = rw (q, picks) (omega arith)
+      go false q ih = rw (q, picks) (omega arith)
+
+  counted-none : (k b : ℕ) → ((c : ℕ) → b ≤ c → c < b + k → t c ≡ false) → counted t b k ≡ 0
+  counted-none zero b h = refl
+  counted-none (suc k) b h =
+      rw (h b (omega arith) (omega arith)) (omega (arith, counted-none k (suc b) (λ c l u. h c (omega arith) (omega arith))))
+
+  counted-all : (k b : ℕ) → ((c : ℕ) → b ≤ c → c < b + k → t c ≡ true) → counted t b k ≡ k
+  counted-all zero b h = refl
+  counted-all (suc k) b h =
+      rw (h b (omega arith) (omega arith)) (omega (arith, counted-all k (suc b) (λ c l u. h c (omega arith) (omega arith))))
+
+  counted-add : (k l b : ℕ) → counted t b (k + l) ≡ counted t b k + counted t (b + k) l
+  counted-add zero l b =
+      let e : 0 + l ≡ l = omega arith in
+      let f : b + 0 ≡ b = omega arith in
+      rw (e, f) (omega arith)
+  counted-add (suc k) l b =
+      let e : suc k + l ≡ suc (k + l) = omega arith in
+      let f : b + suc k ≡ suc b + k = omega arith in
+      rw (e, f) (omega (arith, counted-add k l (suc b)))
+
+  -- a test that is true on the k blocks from a on, and on no other, of N blocks in all
+  pub counted-run : (a k N : ℕ) → a + k ≤ N
+      → ((c : ℕ) → c < a → t c ≡ false) → ((c : ℕ) → a ≤ c → c < a + k → t c ≡ true) → ((c : ℕ) → a + k ≤ c → c < N → t c ≡ false)
+      → counted t 0 N ≡ k
+  counted-run a k N l below on past =
+      let e : N ≡ a + (k + (N - (a + k))) = omega arith in
+      let f : 0 + a ≡ a = omega arith in
+      let first : counted t 0 a ≡ 0 = counted-none a 0 (λ c p q. below c (omega arith)) in
+      let mid : counted t a k ≡ k = counted-all k a on in
+      let last : counted t (a + k) (N - (a + k)) ≡ 0 = counted-none (N - (a + k)) (a + k) (λ c p q. past c p (omega arith)) in
+      ap (counted t 0) e
+      ∙ counted-add a (k + (N - (a + k))) 0
+      ∙ rw (f, counted-add k (N - (a + k)) a) (omega arith)
+
+length-chunk : (w c : ℕ) (ss : List Store) → length (chunk w c ss) ≡ c
+length-chunk w zero ss = refl
+length-chunk w (suc c) ss = ap suc (length-chunk w c (drop w ss))
+
+pub length-list : (p : Plan) (i : List ℕ)
+    → length (list p i) ≡ 2 + (counted (between p) 0 (length i / p .size) + (p .width - 1)) / p .width
+length-list p i =
+    let chosen = picks (between p) (p .size) (newImage p i) 0 (length i / p .size) in
+    let e : length chosen ≡ counted (between p) 0 (length i / p .size) = length-picks (between p) (p .size) (newImage p i) 0 (length i / p .size) in
+    let f : length (middle p i) ≡ (counted (between p) 0 (length i / p .size) + (p .width - 1)) / p .width
+    = length-chunk (p .width) ((length chosen + (p .width - 1)) / p .width) chosen ∙ ap (λ k. (k + (p .width - 1)) / p .width) e in
+    omega (arith, f, length-append (middle p i) ((blockOf (p .size) (newImage p i) (p .guard) ∷ []) ∷ []))
+
+counted-same : (t u : ℕ → Bool) (k b : ℕ) → ((c : ℕ) → b ≤ c → c < b + k → t c ≡ u c) → counted t b k ≡ counted u b k
+counted-same t u zero b h = refl
+counted-same t u (suc k) b h = rw (h b (omega arith) (omega arith)) (ap (λ n. cond (u b) 1 0 + n) (counted-same t u k (suc b) (λ c l m. h c (omega arith) (omega arith))))
+
+-- with one block more that passes the test
+counted-but : (t : ℕ → Bool) (g N : ℕ) → g < N → t g ≡ true → counted t 0 N ≡ 1 + counted (λ b. not (eqb b g) && t b) 0 N
+counted-but t g N l q =
+    let u : ℕ → Bool = λ b. not (eqb b g) && t b in
+    let e : N ≡ g + suc (N - suc g) = omega arith in
+    let f : 0 + g ≡ g = omega arith in
+    let other : (c : ℕ) → (c ≡ g → ⊥) → t c ≡ u c = λ c n. rw (ne-eqb c g n) in
+    let here : u g ≡ false = rw (eq-eqb g g refl) in
+    let low : counted t 0 g ≡ counted u 0 g = counted-same t u g 0 (λ c a b. other c (omega arith)) in
+    let high : counted t (suc g) (N - suc g) ≡ counted u (suc g) (N - suc g) = counted-same t u (N - suc g) (suc g) (λ c a b. other c (omega arith)) in
+    let x : counted t 0 N ≡ counted t 0 g + (1 + counted t (suc g) (N - suc g))
+    = ap (counted t 0) e ∙ counted-add t g (suc (N - suc g)) 0 ∙ rw (f, q) in
+    let y : counted u 0 N ≡ counted u 0 g + (0 + counted u (suc g) (N - suc g))
+    = ap (counted u 0) e ∙ counted-add u g (suc (N - suc g)) 0 ∙ rw (f, here) in
+    omega (arith, x, y, low, high)
+
+-- one block a command: blocks touched + 1, where the guard block is one of them
+pub length-single : (p : Plan) (i : List ℕ) → p .width ≡ 1 → p .guard < length i / p .size → touches (p .size) (p .addresses) (p .values) (p .guard) ≡ true
+    → length (list p i) ≡ touched p i + 1
+length-single p i w g q =
+    let e : touched p i ≡ 1 + counted (between p) 0 (length i / p .size) = counted-but (touches (p .size) (p .addresses) (p .values)) (p .guard) (length i / p .size) g q in
+    length-list p i ∙ rw w (omega (arith, e))

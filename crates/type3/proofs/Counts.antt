@@ -1,0 +1,64 @@
+-- How many commands our list for a Type 3 tag has: 2 + k/w rounded up, for a message of k blocks written w to a command. The
+-- blocks written between block 0's two commands are just blocks 1 to k.
+-- Assumes nothing.
+use mathlib.Core.Path.{_≡_, refl, _∙_}
+use mathlib.Core.Bool.{Bool, true, false}
+use mathlib.Core.List.{List, [], _∷_}
+use Prim.Native.Nat.{ℕ, zero, suc, _+_, _-_, _*_, _/_, _<_, _≤_}
+use native.Mathlib.Nat.{not-suc-le-zero}
+use native.Mathlib.Omega.{arith}
+use native.Mathlib.Decide.{ℕ-discrete}
+use borrow.Author.Tests.{eq-eqb, ne-eqb, le-leb, lt-ltb}
+use lib.ListN.{length, length-append, length-replicate, replicate}
+use Rattle.tag.specs.Bytes.{byte, run}
+use Rattle.tag.specs.Plan.{inBlock, touches, between, list, counted}
+use Rattle.tag.specs.Cuts.{Ready}
+use Rattle.tag.proofs.Logic.{and-both, or-l, or-r}
+use Rattle.tag.proofs.Counts.{counted-run, length-list}
+use Rattle.type3.specs.Update.{blocksFor, blocksPerCommand, addresses, body, values, plan}
+use Rattle.type3.specs.Type3.{type3}
+use Rattle.type3.proofs.Update.{inside}
+use Rattle.type3.proofs.Laws.{ready-room, touched-most}
+
+-- a run of addresses touches every block that it has the first address of
+run-touches : (z n s b : ℕ) (vs : List ℕ) → 0 < z → n ≤ length vs → s ≤ z * b → z * b < s + n → touches z (run s n) vs b ≡ true
+run-touches z zero s b vs p l lo up = absurd (omega arith)
+run-touches z (suc n) s b [] p l lo up = absurd (not-suc-le-zero l)
+run-touches z (suc n) s b (v ∷ vs) p l lo up = go (ℕ-discrete s (z * b)) (λ m. run-touches z n (suc s) b vs p (omega arith) m (omega arith))
+  where
+    go : Dec (s ≡ z * b) → (suc s ≤ z * b → touches z (run (suc s) n) vs b ≡ true) → touches z (run s (suc n)) (v ∷ vs) b ≡ true
+    go (yes e) ih = or-l (inBlock z b s) (touches z (run (suc s) n) vs b) (and-both (le-leb (z * b) s (omega arith)) (lt-ltb s (z * b + z) (omega arith)))
+    go (no e) ih = or-r (inBlock z b s) (touches z (run (suc s) n) vs b) (ih (omega arith))
+
+module _ (i m : List ℕ) where
+  length-body : length (body m) ≡ 16 * blocksFor (length m)
+  length-body =
+      let rest = 16 * blocksFor (length m) - length m in
+      omega (arith, length-append m (replicate rest 0x00), length-replicate {A = ℕ} rest 0x00)
+
+  -- not block 0, blocks 1 to k, none above
+  pub between-guard : (b : ℕ) → b < 1 → between (plan i m) b ≡ false
+  between-guard b l = rw (eq-eqb b 0 (omega arith))
+
+  pub between-on : (b : ℕ) → 1 ≤ b → b < 1 + blocksFor (length m) → between (plan i m) b ≡ true
+  between-on b lo up =
+      rw (ne-eqb b 0 (λ e. omega arith))
+      (or-r (inBlock 16 b 9) _ (or-r (inBlock 16 b 11) _ (or-r (inBlock 16 b 12) _ (or-r (inBlock 16 b 13) _ (or-r (inBlock 16 b 14) _ (or-r (inBlock 16 b 15) _
+      (run-touches 16 (16 * blocksFor (length m)) 16 b (body m) (omega arith) (omega (arith, length-body)) (omega arith) (omega arith))))))))
+
+  pub between-past : (b : ℕ) → 1 + blocksFor (length m) ≤ b → between (plan i m) b ≡ false
+  between-past b l = go (touches 16 (addresses m) (values i m) b) refl
+    where
+      go : (c : Bool) → touches 16 (addresses m) (values i m) b ≡ c → between (plan i m) b ≡ false
+      go true q = absurd (omega (arith, touched-most i m b q))
+      go false q = rw (ne-eqb b 0 (λ e. omega arith), q)
+
+-- the blocks written between block 0's two commands are k
+pub between-count : (number i m : List ℕ) → Ready (type3 number) i m → counted (between (plan i m)) 0 (length i / 16) ≡ blocksFor (length m)
+between-count number i m r =
+    counted-run (between (plan i m)) 1 (blocksFor (length m)) (length i / 16) (omega (arith, inside i m (ready-room number i m r)))
+    (between-guard i m) (between-on i m) (λ b l u. between-past i m b l)
+
+pub list-count : (number i m : List ℕ) → Ready (type3 number) i m
+    → length (list (plan i m) i) ≡ 2 + (blocksFor (length m) + (blocksPerCommand (byte i 2) - 1)) / blocksPerCommand (byte i 2)
+list-count number i m r = length-list (plan i m) i ∙ rw (between-count number i m r)

@@ -1,0 +1,147 @@
+-- What is known of a Type 3 tag that reads: it passes the checks, WriteFlag and Ln say what it holds, and what it holds fits.
+-- A tag that agrees with it in bytes 0 to 8 and 10 passes the checks again, if its WriteFlag, Ln and checksum are in order.
+-- Assumes nothing.
+use mathlib.Core.Path.{_≡_, refl, sym, ap}
+use mathlib.Core.Bool.{Bool, true, false, not, _&&_, _||_}
+use mathlib.Core.List.{List}
+use Prim.Native.Nat.{ℕ, zero, suc, _+_, _*_, _/_, _%_, _≤_}
+use native.Mathlib.Omega.{arith}
+use borrow.Author.Tests.{leb-true, le-leb, eqb-true, eq-eqb}
+use lib.Dec.{leb, eqb}
+use lib.ListN.{length, take, drop, length-take}
+use Rattle.tag.specs.Bytes.{byte}
+use Rattle.tag.specs.Checks.{Checked, fine, fault, firstOf}
+use Rattle.tag.specs.Reading.{empty, being-written, Report, reads, broken, nothing, holds, heldOf}
+use Rattle.tag.proofs.Logic.{and-l, and-r, and-both, nope}
+use Rattle.tag.proofs.Checks.{AllPass, fine-all, all-fine}
+use Rattle.type3.specs.Attributes.{steadySum, nmaxbOf, attributes, attributeChecks, mayWrite}
+use Rattle.type3.specs.Message.{View, refuse, busy, view, viewBy, viewed, without, withMessage, readingOf, reading}
+use Rattle.type3.specs.Update.{fits}
+
+-- ---- the checks
+
+abbrev pub Passes : List ℕ → Type 0
+Passes i = AllPass (attributeChecks (length i) (attributes i))
+
+-- what they say of lengths
+pub record Bounds (i : List ℕ) : Type 0 where
+  pub whole : length i ≡ 16 * (length i / 16)
+  pub short : length i ≤ 4096
+  pub reach : 16 * (1 + nmaxbOf i) ≤ length i
+
+pub bounds : (i : List ℕ) → Passes i → Bounds i
+bounds i c =
+    let n = length i in
+    let d : eqb (n % 16) 0 && leb 16 n ≡ true = and-l (eqb (n % 16) 0 && leb 16 n) (leb n 4096) (c .0) in
+    let w : n % 16 ≡ 0 = eqb-true (n % 16) 0 (and-l (eqb (n % 16) 0) (leb 16 n) d) in
+    record {
+      whole = omega arith;
+      short = leb-true n 4096 (and-r (eqb (n % 16) 0 && leb 16 n) (leb n 4096) (c .0));
+      reach = leb-true (16 * (1 + nmaxbOf i)) n (c .1 .1 .1 .1 .0);
+    }
+
+pub ln-fits : (i : List ℕ) → Passes i → attributes i .ln ≤ 16 * nmaxbOf i
+ln-fits i c = leb-true (attributes i .ln) (16 * nmaxbOf i) (c .1 .1 .1 .1 .1 .0)
+
+-- the bytes of block 0 that writing keeps
+abbrev pub steady : ℕ → Bool
+steady k = leb k 8 || eqb k 10
+
+abbrev pub Agrees : List ℕ → List ℕ → Type 0
+Agrees j i = (k : ℕ) → steady k ≡ true → byte j k ≡ byte i k
+
+pub same-sum : (j i : List ℕ) → Agrees j i → steadySum j ≡ steadySum i
+same-sum j i h = cc (h 0 refl, h 1 refl, h 2 refl, h 3 refl, h 4 refl, h 5 refl, h 6 refl, h 7 refl, h 8 refl, h 10 refl)
+
+pub same-nmaxb : (j i : List ℕ) → Agrees j i → nmaxbOf j ≡ nmaxbOf i
+same-nmaxb j i h = cc (h 3 refl, h 4 refl)
+
+pub checks-of : (i j : List ℕ) → length j ≡ length i → Agrees j i → Passes i
+    → eqb (byte j 9) 0x00 || eqb (byte j 9) 0x0F ≡ true
+    → attributes j .sum ≡ attributes j .checksum
+    → attributes j .ln ≤ 16 * nmaxbOf i
+    → Passes j
+checks-of i j l h c flag sum ln =
+    let e0 : byte j 0 ≡ byte i 0 = h 0 refl in
+    let e1 : byte j 1 ≡ byte i 1 = h 1 refl in
+    let e3 : byte j 3 ≡ byte i 3 = h 3 refl in
+    let e4 : byte j 4 ≡ byte i 4 = h 4 refl in
+    let e10 : byte j 10 ≡ byte i 10 = h 10 refl in
+    let defined = c .1 .1 .1 .0 in
+    let write-flag = eqb (byte i 9) 0x00 || eqb (byte i 9) 0x0F in
+    let rw-flag = eqb (byte i 10) 0x00 || eqb (byte i 10) 0x01 in
+    let nbr = not (eqb (byte i 1) 0) in
+    let rw-flag-defined = and-r write-flag rw-flag (and-l (write-flag && rw-flag) nbr defined) in (
+      rw l (c .0),
+      (
+        eq-eqb _ _ sum,
+        (
+          rw e0 (c .1 .1 .0),
+          (
+            rw (e10, e1) (and-both (and-both flag rw-flag-defined) (and-r (write-flag && rw-flag) nbr defined)),
+            (rw (l, e3, e4) (c .1 .1 .1 .1 .0), (rw (e3, e4) (le-leb _ _ ln), tt)),
+          ),
+        ),
+      ),
+    )
+
+-- ---- what a tag that passes them holds
+
+-- WriteFlag 0Fh: no message
+pub held-closed : (j : List ℕ) → Passes j → byte j 9 ≡ 0x0F → heldOf (reading j) ≡ nothing
+unfolding reading viewBy
+held-closed j c e = rw (all-fine (attributeChecks (length j) (attributes j)) c) (rw e)
+
+-- WriteFlag 00h: the first Ln bytes from block 1 on
+pub held-open : (j : List ℕ) (n : ℕ) → Passes j → byte j 9 ≡ 0x00 → attributes j .ln ≡ n → (n ≡ 0 → ⊥)
+    → heldOf (reading j) ≡ holds (take n (drop 16 j))
+unfolding reading viewBy
+held-open j n c e q z = rw (all-fine (attributeChecks (length j) (attributes j)) c) (rw (e, q) (some n z))
+  where
+    some : (k : ℕ) → (k ≡ 0 → ⊥) → heldOf (readingOf (mayWrite j) j (view k)) ≡ holds (take k (drop 16 j))
+    some zero s = absurd (s refl)
+    some (suc k) s = refl
+
+-- ---- a tag that reads
+
+-- of a reading, what it says of writing
+writable-as : (w : Bool) (i : List ℕ) (v : View) (p : Report) → readingOf w i v ≡ reads p → p .writable ≡ w
+writable-as w i (refuse r) p e = absurd (nope (cc))
+writable-as w i busy p e = let q : without being-written w ≡ p = cc in ap (λ x. x .writable) (sym q)
+writable-as w i (view zero) p e = let q : without empty w ≡ p = cc in ap (λ x. x .writable) (sym q)
+writable-as w i (view (suc n)) p e = let q : withMessage (suc n) i w ≡ p = cc in ap (λ x. x .writable) (sym q)
+
+pub reads-writable : (i : List ℕ) (p : Report) → reading i ≡ reads p → p .writable ≡ mayWrite i
+unfolding reading
+reads-writable i p e = writable-as (mayWrite i) i (viewed i) p e
+
+pub reads-passes : (i : List ℕ) → (heldOf (reading i) ≡ broken → ⊥) → Passes i
+unfolding reading viewBy
+reads-passes i h = go (firstOf (attributeChecks (length i) (attributes i))) refl
+  where
+    go : (c : Checked) → firstOf (attributeChecks (length i) (attributes i)) ≡ c → Passes i
+    go fine q = fine-all (attributeChecks (length i) (attributes i)) q
+    go (fault r) q = absurd (h (rw q))
+
+-- what it holds fits
+pub held-fits : (j m : List ℕ) → heldOf (reading j) ≡ holds m → fits j (length m) ≡ true
+unfolding reading viewBy
+held-fits j m e = go (eqb (byte j 9) 0x0F) refl
+  where
+    c : Passes j
+    c = reads-passes j (λ f. nope (cc))
+
+    by-view : (n : ℕ) → heldOf (readingOf (mayWrite j) j (view n)) ≡ holds m → length m ≤ n
+    by-view zero f = absurd (nope (cc))
+    by-view (suc n) f =
+        let g : take (suc n) (drop 16 j) ≡ m = cc in
+        omega (arith, length-take (suc n) (drop 16 j), ap length g)
+
+    go : (b : Bool) → eqb (byte j 9) 0x0F ≡ b → fits j (length m) ≡ true
+    go true q =
+        let f : nothing ≡ holds m = rw (all-fine (attributeChecks (length j) (attributes j)) c, q) at e in
+        absurd (nope (cc))
+    go false q =
+        let f : heldOf (readingOf (mayWrite j) j (view (attributes j .ln))) ≡ holds m
+        = rw (all-fine (attributeChecks (length j) (attributes j)) c, q) at e in
+        le-leb (length m) (16 * nmaxbOf j) (omega (arith, by-view (attributes j .ln) f, ln-fits j c))

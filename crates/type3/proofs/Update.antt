@@ -1,0 +1,202 @@
+-- What writing sets on a Type 3 tag. With block 0 closed the tag holds none, whatever its other blocks hold; the new image
+-- reads as the message; and refusal 11 is exact: a message that does not fit is held by no image of equal length with the
+-- same bytes 0 to 8 and 10, and one that fits is held by the new image, which is such an image.
+-- Assumes nothing.
+use mathlib.Core.Path.{_≡_, refl, sym, ap, _∙_}
+use mathlib.Core.Bool.{Bool, true, false, not, _||_, false≢true}
+use mathlib.Core.Logic.{⊎-elim}
+use mathlib.Core.List.{List, [], _∷_, map}
+use Prim.Native.Nat.{ℕ, _+_, _-_, _*_, _/_, _%_, _<_, _≤_}
+use native.Mathlib.Omega.{arith}
+use borrow.Author.Tests.{eqb-true, ne-eqb, leb-true, ltb-true, le-leb, lt-ltb}
+use lib.Dec.{leb, eqb}
+use lib.ListN.{length, take, replicate}
+use Rattle.tag.specs.Bytes.{byte, run, isSet}
+use Rattle.tag.specs.Reading.{nothing, holds, heldOf}
+use Rattle.tag.specs.Plan.{newImage, protected, inBlock}
+use Rattle.tag.proofs.Logic.{and-r, and-both, or-cases, true-false}
+use Rattle.tag.proofs.Images.{length-overlay, overlay-out}
+use Rattle.tag.proofs.Addresses.{Above, above-unset, overlay-reads, above-run, length-run, take-run, map-run}
+use Rattle.tag.proofs.Guarded.{Cell, shut, old, fresh, Between}
+use Rattle.type3.specs.Attributes.{steadySum, nmaxbOf, attributes}
+use Rattle.type3.specs.Message.{reading}
+use Rattle.type3.specs.Update.{fits, blocksFor, addresses, lnSum, valuesBy, body, values, closedSum, closed, plan}
+use Rattle.type3.proofs.Message.{Passes, bounds, ln-fits, steady, Agrees, same-sum, same-nmaxb, checks-of, held-closed, held-open, held-fits}
+
+-- the bytes that writing keeps lie before byte 11, and byte 9 is none of them
+steady-is : (k : ℕ) → steady k ≡ true → (k ≤ 10) × (k ≡ 9 → ⊥)
+steady-is k e =
+    ⊎-elim
+    (λ h. let l : k ≤ 8 = leb-true k 8 h in (omega arith, omega arith))
+    (λ h. let q : k ≡ 10 = eqb-true k 10 h in (omega arith, omega arith))
+    (or-cases (leb k 8) (eqb k 10) e)
+
+-- ---- the closed image
+
+abbrev closedValues : List ℕ → List ℕ
+closedValues i = 0x0F ∷ closedSum i / 256 ∷ closedSum i % 256 ∷ []
+
+closed-else : (i : List ℕ) (k : ℕ) → not (isSet (9 ∷ 14 ∷ 15 ∷ []) (closedValues i) k) ≡ true → byte (closed i) k ≡ byte i k
+closed-else i k e = overlay-out (9 ∷ 14 ∷ 15 ∷ []) (closedValues i) i k e
+
+pub closed-length : (i : List ℕ) → length (closed i) ≡ length i
+closed-length i = length-overlay (9 ∷ 14 ∷ 15 ∷ []) (closedValues i) i
+
+closed-reads : (i : List ℕ) → 16 ≤ length i → map (byte (closed i)) (9 ∷ 14 ∷ 15 ∷ []) ≡ closedValues i
+closed-reads i l = overlay-reads 16 (closedValues i) [] (9 ∷ 14 ∷ 15 ∷ []) i 8 (omega arith) l (omega arith)
+
+-- a tag with block 0 of the closed image is being written
+pub quiet : (i j n : List ℕ) → Passes i → Between (inBlock 16 0) i (closed i) n j → heldOf (reading j) ≡ nothing
+quiet i j n c b = held-closed j (checks-of i j (b .0) agrees c flag sum ln) e9
+  where
+    l : 16 ≤ length i
+    l = omega (arith, bounds i c .reach)
+
+    at : (k : ℕ) → inBlock 16 0 k ≡ true → byte j k ≡ byte (closed i) k
+    at k e = go (b .1 k (omega (arith, l, ltb-true k 16 (and-r (leb 0 k) _ e))))
+      where
+        go : Cell (inBlock 16 0) i (closed i) n j k → byte j k ≡ byte (closed i) k
+        go (shut p q) = q
+        go (old p q) = absurd (true-false e p)
+        go (fresh p q) = absurd (true-false e p)
+
+    agrees : Agrees j i
+    agrees k e =
+        let (lt, n9) = steady-is k e in
+        at k (and-both (le-leb 0 k (omega arith)) (lt-ltb k 16 (omega arith)))
+        ∙ closed-else i k (rw (ne-eqb 9 k (omega arith), ne-eqb 14 k (omega arith), ne-eqb 15 k (omega arith)))
+
+    e9 : byte j 9 ≡ 0x0F
+    e9 = at 9 refl ∙ cc (closed-reads i l)
+
+    e11 : byte j 11 ≡ byte i 11
+    e11 = at 11 refl ∙ closed-else i 11 refl
+
+    e12 : byte j 12 ≡ byte i 12
+    e12 = at 12 refl ∙ closed-else i 12 refl
+
+    e13 : byte j 13 ≡ byte i 13
+    e13 = at 13 refl ∙ closed-else i 13 refl
+
+    e14 : byte j 14 ≡ closedSum i / 256
+    e14 = at 14 refl ∙ cc (closed-reads i l)
+
+    e15 : byte j 15 ≡ closedSum i % 256
+    e15 = at 15 refl ∙ cc (closed-reads i l)
+
+    flag : eqb (byte j 9) 0x00 || eqb (byte j 9) 0x0F ≡ true
+    flag = rw e9
+
+    sum : attributes j .sum ≡ attributes j .checksum
+    sum = rw (same-sum j i agrees, e9, e11, e12, e13, e14, e15) (omega arith)
+
+    ln : attributes j .ln ≤ 16 * nmaxbOf i
+    ln = rw (e11, e12, e13) (ln-fits i c)
+
+-- ---- what writing sets
+
+-- the addresses rise, and lie in block 0 past its steady bytes and in blocks 1 to k
+pub above-addresses : (m : List ℕ) (hi : ℕ) → 16 * (1 + blocksFor (length m)) ≤ hi → Above hi 8 (addresses m)
+above-addresses m hi l =
+    (omega arith, (omega arith, (omega arith, (omega arith, (omega arith, (omega arith, above-run (16 * blocksFor (length m)) 15 hi (omega arith)))))))
+
+-- of six tests and a rest that all fail, the three that closing sets
+closing : (b9 b11 b12 b13 b14 b15 b : Bool) → not (b9 || (b11 || (b12 || (b13 || (b14 || (b15 || b)))))) ≡ true → not (b9 || (b14 || (b15 || false))) ≡ true
+closing true b11 b12 b13 b14 b15 b e = e
+closing false true b12 b13 b14 b15 b e = absurd (false≢true e)
+closing false false true b13 b14 b15 b e = absurd (false≢true e)
+closing false false false true b14 b15 b e = absurd (false≢true e)
+closing false false false false true b15 b e = e
+closing false false false false false true b e = e
+closing false false false false false false b e = refl
+
+module _ (i m : List ℕ) where
+  -- closing sets no byte that writing keeps
+  pub closed-kept : (a : ℕ) → protected (plan i m) a ≡ true → byte (closed i) a ≡ byte i a
+  closed-kept a e =
+      closed-else i a
+      (closing (eqb 9 a) (eqb 11 a) (eqb 12 a) (eqb 13 a) (eqb 14 a) (eqb 15 a) (isSet (run 16 (16 * blocksFor (length m))) (body m) a) e)
+
+  -- the steady bytes are protected
+  steady-kept : (k : ℕ) → steady k ≡ true → protected (plan i m) k ≡ true
+  steady-kept k e =
+      let (lt, n9) = steady-is k e in
+      let hi = 16 * (1 + blocksFor (length m)) in
+      rw (ne-eqb 9 k (omega arith), ne-eqb 11 k (omega arith), ne-eqb 12 k (omega arith), ne-eqb 13 k (omega arith), ne-eqb 14 k (omega arith), ne-eqb 15 k (omega arith))
+      (above-unset hi (run 16 (16 * blocksFor (length m))) (body m) 15 k (above-run (16 * blocksFor (length m)) 15 hi (omega arith)) (omega arith))
+
+  -- so a tag that keeps what is protected agrees
+  pub kept-agrees : (j : List ℕ) → 16 ≤ length i → ((a : ℕ) → a < length i → protected (plan i m) a ≡ true → byte j a ≡ byte i a) → Agrees j i
+  kept-agrees j l h k e = h k (omega (arith, steady-is k e .0)) (steady-kept k e)
+
+  pub new-agrees : Agrees (newImage (plan i m) i) i
+  new-agrees k e = overlay-out (addresses m) (values i m) i k (steady-kept k e)
+
+  pub new-length : length (newImage (plan i m) i) ≡ length i
+  new-length = length-overlay (addresses m) (values i m) i
+
+-- ---- the new image
+
+-- an image that holds these values at these addresses
+record Written (N : List ℕ) (n s : ℕ) (m : List ℕ) : Type 0 where
+  b9 : byte N 9 ≡ 0x00
+  b11 : byte N 11 ≡ n / 65536
+  b12 : byte N 12 ≡ n / 256 % 256
+  b13 : byte N 13 ≡ n % 256
+  b14 : byte N 14 ≡ s / 256
+  b15 : byte N 15 ≡ s % 256
+  message : map (byte N) (take (length m) (run 16 (16 * blocksFor n))) ≡ m
+
+written-of : (N : List ℕ) (n s : ℕ) (m : List ℕ)
+    → map (byte N) (take (length (valuesBy n s m)) (9 ∷ 11 ∷ 12 ∷ 13 ∷ 14 ∷ 15 ∷ run 16 (16 * blocksFor n))) ≡ valuesBy n s m → Written N n s m
+written-of N n s m e = record { b9 = cc e; b11 = cc e; b12 = cc e; b13 = cc e; b14 = cc e; b15 = cc e; message = cc e }
+
+-- a tag that reads, with room for a message that is not empty
+pub record HasRoom (i m : List ℕ) : Type 0 where
+  pub passes : Passes i
+  pub some-bytes : length m ≡ 0 → ⊥
+  pub room : fits i (length m) ≡ true
+
+module _ (i m : List ℕ) (r : HasRoom i m) where
+  few-bytes : length m ≤ 16 * nmaxbOf i
+  few-bytes = leb-true (length m) (16 * nmaxbOf i) (r .room)
+
+  -- all that is written lies in blocks up to Nmaxb, inside the image
+  pub few-blocks : blocksFor (length m) ≤ nmaxbOf i
+  few-blocks = omega (arith, few-bytes)
+
+  pub inside : 16 * (1 + blocksFor (length m)) ≤ length i
+  inside = omega (arith, few-blocks, bounds i (r .passes) .reach)
+
+  written : Written (newImage (plan i m) i) (length m) (steadySum i + lnSum (length m)) m
+  written =
+      let n = length m in
+      let s = steadySum i + lnSum (length m) in
+      written-of (newImage (plan i m) i) n s m
+      (overlay-reads (length i) (valuesBy n s m) (replicate (16 * blocksFor n - n) 0x00) (addresses m) i 8
+      (above-addresses m (length i) inside) (omega arith) (rw length-run (omega arith)))
+
+  reads-as : (N : List ℕ) → length N ≡ length i → Agrees N i → Written N (length m) (steadySum i + lnSum (length m)) m → heldOf (reading N) ≡ holds m
+  reads-as N l h w =
+      let n = length m in
+      let ln : attributes N .ln ≡ n = rw (w .b11, w .b12, w .b13) (omega arith) in
+      let flag : eqb (byte N 9) 0x00 || eqb (byte N 9) 0x0F ≡ true = rw (w .b9) in
+      let sum : attributes N .sum ≡ attributes N .checksum
+      = rw (same-sum N i h, w .b9, w .b11, w .b12, w .b13, w .b14, w .b15) (omega arith) in
+      held-open N n (checks-of i N l h (r .passes) flag sum (omega (arith, ln, few-bytes))) (w .b9) ln (r .some-bytes)
+      ∙ ap holds (sym (map-run n 16 N (omega (arith, l, inside))) ∙ ap (map (byte N)) (sym (take-run n (16 * blocksFor n) 16 (omega arith))) ∙ w .message)
+
+  pub reads-new : heldOf (reading (newImage (plan i m) i)) ≡ holds m
+  reads-new = reads-as (newImage (plan i m) i) (new-length i m) (new-agrees i m) written
+
+  -- ---- refusal 11 is exact
+
+  -- a message that fits is held by an image of equal length with the same steady bytes
+  pub long-enough : (length (newImage (plan i m) i) ≡ length i) × Agrees (newImage (plan i m) i) i × (heldOf (reading (newImage (plan i m) i)) ≡ holds m)
+  long-enough = (new-length i m, new-agrees i m, reads-new)
+
+-- and one that does not fit is held by no image with the same steady bytes, of whatever length
+pub too-long : (i m j : List ℕ) → fits i (length m) ≡ false → Agrees j i → heldOf (reading j) ≡ holds m → ⊥
+too-long i m j f h e =
+    let q : fits i (length m) ≡ true = rw (same-nmaxb j i h) at (held-fits j m e) in
+    true-false q f
