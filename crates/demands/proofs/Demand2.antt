@@ -25,7 +25,7 @@ use Rattle.demands.specs.Demand2.{Demand2}
 use Rattle.demands.proofs.Demand3.{our-commands, our-image}
 
 -- what fits a buffer is put out as it is
-fitted-is : (room k n : ℕ) (bytes all : List ℕ) → fitted room k bytes ≡ output n all → (k ≡ n) × (bytes ≡ all)
+pub fitted-is : (room k n : ℕ) (bytes all : List ℕ) → fitted room k bytes ≡ output n all → (k ≡ n) × (bytes ≡ all)
 fitted-is room k n bytes all e = go (leb (length bytes) room) refl
   where
     go : (b : Bool) → leb (length bytes) room ≡ b → (k ≡ n) × (bytes ≡ all)

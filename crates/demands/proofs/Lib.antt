@@ -1,3 +1,8 @@
 -- The proofs of the demands.
 pub mod Demand3
 pub mod Demand2
+pub mod Octets
+pub mod TooLong
+pub mod Codecs
+pub mod Theorems
+pub mod Witness

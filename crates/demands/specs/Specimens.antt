@@ -25,11 +25,11 @@ use Rattle.type3.specs.Type3.{type3}
 -- ---- tags by their bytes
 
 -- a Type 2 tag of n bytes: these from address 12 on, all others 00h
-abbrev tag2 : ℕ → List ℕ → List ℕ
+abbrev pub tag2 : ℕ → List ℕ → List ℕ
 tag2 n bytes = take n (replicate 12 0x00 ++ bytes ++ replicate n 0x00)
 
 -- the same of 64 bytes, size 6: 48 bytes of data area, which begin with these
-abbrev small : List ℕ → List ℕ
+abbrev pub small : List ℕ → List ℕ
 small bytes = tag2 64 (0xE1 ∷ 0x10 ∷ 0x06 ∷ 0x00 ∷ bytes)
 
 -- 280 bytes, size 33: u bytes of the 264 follow the type byte of a message TLV, and all before it are NULL TLVs
@@ -37,7 +37,7 @@ abbrev large : ℕ → List ℕ
 large u = tag2 280 (0xE1 ∷ 0x10 ∷ 0x21 ∷ 0x00 ∷ replicate (263 - u) 0x00 ++ 0x03 ∷ [])
 
 -- a Type 3 tag with thirteen blocks after block 0, by WriteFlag and the checksum's low byte; Ln is 35
-abbrev tag3 : ℕ → ℕ → List ℕ
+abbrev pub tag3 : ℕ → ℕ → List ℕ
 tag3 flag sum =
     0x10 ∷ 0x04 ∷ 0x01 ∷ 0x00 ∷ 0x0D ∷ 0x00 ∷ 0x00 ∷ 0x00 ∷ 0x00 ∷ flag ∷ 0x01 ∷ 0x00 ∷ 0x00 ∷ 0x23 ∷ 0x00 ∷ sum ∷ replicate 208 0x00
 

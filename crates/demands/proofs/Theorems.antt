@@ -1,0 +1,75 @@
+-- The theorems, for both types of tag. What each says is in `specs/Demand2.antt` and `specs/Demand3.antt`.
+-- Assumes nothing.
+use mathlib.Core.Path.{_≡_, refl, sym, ap, _∙_}
+use mathlib.Core.List.{List, [], _∷_, _++_}
+use Prim.Native.Nat.{ℕ, _+_, _/_, _<_}
+use native.Mathlib.Omega.{arith}
+use lib.ListN.{length, replicate}
+use Rattle.tag.specs.Stores.{Command}
+use Rattle.tag.specs.Cuts.{Ready}
+use Rattle.tag.proofs.Blocks.{block-of}
+use Rattle.tag.proofs.Counts.{length-single}
+use Rattle.tag.proofs.Writes.{touch-of}
+use Rattle.tlv.specs.Message.{viewed}
+use Rattle.tlv.specs.Update.{usable, content, lengthAt}
+use Rattle.tlv.proofs.Field.{first-set}
+use Rattle.tlv.proofs.Writes as writes
+use Rattle.type2.specs.Memory.{memory}
+use Rattle.type2.specs.Codec.{decode, commandOf, encoded}
+use Rattle.type2.specs.Type2.{type2}
+use Rattle.type2.proofs.Memory.{memory-laws}
+use Rattle.type2.proofs.Laws.{type2-laws}
+use Rattle.type3.specs.Type3.{type3}
+use Rattle.type3.proofs.Laws.{type3-laws}
+use Rattle.type3.proofs.Counts.{list-count}
+use Rattle.demands.specs.Demand2.{Demand2, TooLong2, TooLong3, Codec2, Codec3, Count2, Count3}
+use Rattle.demands.specs.Demand3.{Demand3}
+use Rattle.demands.proofs.Demand2 as demand2
+use Rattle.demands.proofs.Demand3 as demand3
+use Rattle.demands.proofs.TooLong.{too-long-2, too-long-3}
+use Rattle.demands.proofs.Codecs.{codec-2, codec-3}
+
+-- ---- Type 2
+
+abbrev command : List ℕ → List ℕ → Command
+command i bs = commandOf (decode (length i / 4) bs)
+
+abbrev span : List ℕ → ℕ
+span bs = 6
+
+pub type2-demand2 : Demand2 type2
+type2-demand2 = demand2.claim type2 type2-laws
+
+pub type2-too-long-exactly : TooLong2
+type2-too-long-exactly = too-long-2
+
+pub type2-codec : Codec2
+type2-codec = codec-2
+
+pub type2-count : Count2
+type2-count i m r =
+    let us = usable (viewed memory i) in
+    let some = writes.some memory memory-laws command span encoded i m r in
+    length-single ((type2 .plan) i m) i refl (writes.guard-inside memory memory-laws command span encoded i m r)
+    (touch-of 4 us (content m) (lengthAt us) (lengthAt us / 4) (first-set us m some) (block-of 4 (lengthAt us) (omega arith)))
+
+pub type2-demand3 : (i m : List ℕ) → Ready type2 i m → Demand3 type2 i m
+type2-demand3 = demand3.claim type2 type2-laws
+
+-- ---- Type 3, for the caller's eight-byte number
+
+module _ (number : List ℕ) (eight : length number ≡ 8) where
+  pub type3-demand2 : Demand2 (type3 number)
+  type3-demand2 = demand2.claim (type3 number) (type3-laws number eight)
+
+  pub type3-too-long-exactly : TooLong3 number
+  type3-too-long-exactly = too-long-3 number
+
+  pub type3-codec : Codec3 number
+  type3-codec = codec-3 number eight
+
+  pub type3-count : Count3 number
+  type3-count = list-count number
+
+  pub type3-demand3 : (i m : List ℕ) → Ready (type3 number) i m → Demand3 (type3 number) i m
+  type3-demand3 = demand3.claim (type3 number) (type3-laws number eight)

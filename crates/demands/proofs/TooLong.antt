@@ -1,0 +1,186 @@
+-- Refusal 11 comes exactly if no image that the requirements admit reads as the message, for both types.
+-- Assumes nothing.
+use mathlib.Core.Path.{_≡_, refl, sym, ap, _∙_, subst}
+use mathlib.Core.Bool.{Bool, true, false, not, _||_}
+use mathlib.Core.Logic.{_↔_, ⊎-elim}
+use mathlib.Core.List.{List, [], _∷_, _++_}
+use Prim.Native.Nat.{ℕ, _+_, _-_, _*_, _/_, _%_, _<_, _≤_}
+use native.Mathlib.Omega.{arith}
+use borrow.Author.Tests.{ne-eqb, eqb-true, leb-true, le-leb, eq-eqb}
+use lib.Dec.{leb, eqb}
+use lib.ListN.{length, replicate}
+use Rattle.tag.specs.Bytes.{byte, has, overlay, isSet}
+use Rattle.tag.specs.Refusals.{too-long}
+use Rattle.tag.specs.Reading.{reads, holds}
+use Rattle.tag.specs.Plan.{newImage}
+use Rattle.tag.specs.TagType.{TagType, held, writing, unwritten, written, planned, checksOf, writable}
+use Rattle.tag.specs.Checks.{Checked, fine, fault, firstOf}
+use Rattle.tag.specs.Cuts.{Ready}
+use Rattle.tag.proofs.Logic.{nope, or-l, or-r, or-cases}
+use Rattle.tag.proofs.Addresses.{above-length}
+use Rattle.tag.proofs.Laws.{ready-written, ready-reads}
+use Rattle.tlv.specs.Walk.{found, messageTlv}
+use Rattle.tlv.specs.Message.{viewed}
+use Rattle.tlv.specs.Update.{usable, fitsIn, lengthField, content}
+use Rattle.tlv.proofs.Field.{fits-is}
+use Rattle.tlv.proofs.Tag as tlv
+use Rattle.tlv.proofs.Writes.{placed}
+use Rattle.type2.specs.Memory.{layout, memory}
+use Rattle.type2.specs.Codec.{decode, commandOf, encoded}
+use Rattle.type2.specs.Type2.{type2}
+use Rattle.type2.proofs.Memory.{memory-laws}
+use Rattle.type3.specs.Attributes.{steadySum, nmaxbOf}
+use Rattle.type3.specs.Update.{fits, blocksFor, addresses, lnSum, valuesBy, body, values, plan}
+use Rattle.type3.specs.Type3.{type3}
+use Rattle.type3.proofs.Message.{Agrees, steady, bounds, reads-passes}
+use Rattle.type3.proofs.Update as update3
+use Rattle.demands.specs.Demand2.{Octets, Asked, Alike2, TooLong2, Alike3, TooLong3}
+use Rattle.demands.proofs.Octets.{octets-byte, octets-overlay, octets-append, octets-zeros}
+
+-- ---- for every type: only room decides
+
+module _ (T : TagType) (i m : List ℕ) (a : Asked T i m) where
+  roomy : (T .fits) i (length m) ≡ true → Ready T i m
+  roomy f = record { report = a .report; reads-as = a .reads-as; writable = a .writable; some-bytes = a .some-bytes; room = f }
+
+  cramped : (T .fits) i (length m) ≡ false → writing T i m ≡ unwritten too-long
+  unfolding writing
+  cramped f =
+      let e : firstOf (checksOf T i m (a .report)) ≡ fault too-long = rw (ne-eqb (length m) 0 (a .some-bytes)) (rw (a .writable) (rw f)) in
+      rw (a .reads-as) (ap (planned ((T .plan) i m)) e)
+
+  -- 11 is given exactly if nothing of a kind holds the message, if that is so without room and fails with it
+  exactly : (P : Type 0) → ((T .fits) i (length m) ≡ false → P) → ((T .fits) i (length m) ≡ true → P → ⊥) → (writing T i m ≡ unwritten too-long) ↔ P
+  exactly P without with-room = (
+    (λ e. go e ((T .fits) i (length m)) refl),
+    (λ p. back p ((T .fits) i (length m)) refl),
+  )
+    where
+      go : writing T i m ≡ unwritten too-long → (b : Bool) → (T .fits) i (length m) ≡ b → P
+      go e false q = without q
+      go e true q = let f : written ((T .plan) i m) ≡ unwritten too-long = sym (ready-written T i m (roomy q)) ∙ e in absurd (nope (cc))
+
+      back : P → (b : Bool) → (T .fits) i (length m) ≡ b → writing T i m ≡ unwritten too-long
+      back p false q = cramped q
+      back p true q = absurd (with-room q p)
+
+-- ---- Type 2
+
+has-unset : (us vs : List ℕ) (a : ℕ) → has a us ≡ false → not (isSet us vs a) ≡ true
+has-unset [] vs a e = refl
+has-unset (x ∷ us) [] a e = refl
+has-unset (x ∷ us) (v ∷ vs) a e = go (eqb a x) refl (has-unset us vs a)
+  where
+    go : (b : Bool) → eqb a x ≡ b → (has a us ≡ false → not (isSet us vs a) ≡ true) → not (eqb x a || isSet us vs a) ≡ true
+    go true q ih = let f : true ≡ false = rw q at e in absurd (nope (cc))
+    go false q ih = rw (ne-eqb x a (λ p. let f : true ≡ false = sym (eq-eqb a x (sym p)) ∙ q in nope (cc))) (ih (rw q at e))
+
+content-octets : (m : List ℕ) → length m ≤ 65534 → Octets m → Octets (content m)
+unfolding lengthField
+content-octets m l h = go (leb (length m) 254) refl
+  where
+    go : (b : Bool) → leb (length m) 254 ≡ b → Octets (content m)
+    go true q =
+        let s : length m ≤ 254 = leb-true (length m) 254 q in
+        rw (q, lengthField) (omega arith, octets-append m (0xFE ∷ []) h (omega arith, tt))
+    go false q = rw (q, lengthField) (omega arith, (omega arith, (omega arith, octets-append m (0xFE ∷ []) h (omega arith, tt))))
+
+module _ (i m : List ℕ) (a : Asked type2 i m) (t : ℕ) (us : List ℕ) (e : messageTlv layout i ≡ found t us) where
+  at-tlv : tlv.Placed memory i (usable (viewed memory i))
+  at-tlv = placed memory memory-laws (λ i bs. commandOf (decode (length i / 4) bs)) (λ bs. 6) encoded i (a .report) (a .reads-as) .0
+
+  same-us : usable (viewed memory i) ≡ us
+  same-us = let z : found (at-tlv .at) (usable (viewed memory i)) ≡ found t us = sym (at-tlv .tlv-at) ∙ e in cc
+
+  place : tlv.Placed memory i us
+  place = record { at = t; sound = at-tlv .sound; tlv-at = e }
+
+  room : (b : Bool) → fitsIn (length m) (length (usable (viewed memory i))) ≡ b → fitsIn (length m) (length us) ≡ b
+  room b f = ap (λ vs. fitsIn (length m) (length vs)) (sym same-us) ∙ f
+
+  no-room : fitsIn (length m) (length (usable (viewed memory i))) ≡ false → (j : List ℕ) → Octets j → Alike2 t us i j → held type2 j ≡ holds m → ⊥
+  unfolding place
+  no-room f j o k h = tlv.too-long memory memory-laws i us place j (k .same-length) (k .same-start) m (room false f) h
+
+  module _ (f : fitsIn (length m) (length (usable (viewed memory i))) ≡ true) where
+    ready : tlv.Ready memory i m us
+    ready = record { placed = place; some-bytes = a .some-bytes; room = room true f }
+
+    new : List ℕ
+    new = overlay us (content m) i
+
+    short : length m ≤ 65534
+    short =
+        let b = tlv.bounds memory memory-laws i us place in
+        let u = above-length (length i) (place .at) us (tlv.beyond memory memory-laws i us place .1) in
+        ⊎-elim (λ c. omega (arith, c .1, b .1, u)) (λ c. omega (arith, c .1, b .1, u)) (fits-is (length m) (length us) (room true f))
+
+    alike : Alike2 t us i new
+    unfolding new ready place
+    alike =
+        let l = tlv.long-enough memory memory-laws i m us ready in
+        record {
+          same-length = l .0;
+          same-start = λ x h. tlv.new-agrees memory memory-laws i m us ready x h;
+          same-skipped = λ x lo hi h. l .1 x (has-unset us (content m) x h);
+        }
+
+    with-room : ((j : List ℕ) → Octets j → Alike2 t us i j → held type2 j ≡ holds m → ⊥) → ⊥
+    unfolding new
+    with-room none =
+        none new (octets-overlay us (content m) i (content-octets m short (a .message-octets)) (a .image-octets)) alike
+        (tlv.reads-new memory memory-laws i m us ready)
+
+pub too-long-2 : TooLong2
+too-long-2 i m a t us e =
+    exactly type2 i m a ((j : List ℕ) → Octets j → Alike2 t us i j → held type2 j ≡ holds m → ⊥) (no-room i m a t us e) (with-room i m a t us e)
+
+-- ---- Type 3
+
+module _ (number i m : List ℕ) (a : Asked (type3 number) i m) where
+  agrees : (j : List ℕ) → Alike3 i j → Agrees j i
+  agrees j k x e = ⊎-elim (λ h. k .same-start x (leb-true x 8 h)) (λ h. let q : x ≡ 10 = eqb-true x 10 h in rw q (k .same-access)) (or-cases (leb x 8) (eqb x 10) e)
+
+  module _ (f : fits i (length m) ≡ true) where
+    has-room : update3.HasRoom i m
+    has-room = record {
+      passes = reads-passes i (ready-reads (type3 number) i m (roomy (type3 number) i m a f));
+      some-bytes = a .some-bytes;
+      room = f;
+    }
+
+    values-octets : Octets (values i m)
+    values-octets =
+        let b : (x : ℕ) → byte i x < 256 = octets-byte i (a .image-octets) in
+        let p = bounds i (has-room .passes) in
+        let n : length m ≤ 4096 = omega (arith, leb-true (length m) (16 * nmaxbOf i) f, p .short, p .reach) in
+        let l : steadySum i + lnSum (length m) < 65536 = omega (arith, b 0, b 1, b 2, b 3, b 4, b 5, b 6, b 7, b 8, b 10) in (
+          omega arith,
+          (
+            omega arith,
+            (
+              omega arith,
+              (
+                omega arith,
+                (
+                  omega arith,
+                  (
+                    omega arith,
+                    octets-append m (replicate (16 * blocksFor (length m) - length m) 0) (a .message-octets) (octets-zeros (16 * blocksFor (length m) - length m)),
+                  ),
+                ),
+              ),
+            ),
+          ),
+        )
+
+    filled : ((j : List ℕ) → Octets j → Alike3 i j → held (type3 number) j ≡ holds m → ⊥) → ⊥
+    filled none =
+        let (l, g, h) = update3.long-enough i m has-room in
+        none (newImage (plan i m) i) (octets-overlay (addresses m) (values i m) i values-octets (a .image-octets))
+        (record { same-length = l; same-start = λ x k. g x (or-l (leb x 8) (eqb x 10) (le-leb x 8 k)); same-access = g 10 refl }) h
+
+pub too-long-3 : (number : List ℕ) → TooLong3 number
+too-long-3 number i m a =
+    exactly (type3 number) i m a ((j : List ℕ) → Octets j → Alike3 i j → held (type3 number) j ≡ holds m → ⊥)
+    (λ f j o k h. update3.too-long i m j f (agrees number i m a j k) h) (filled number i m a)
