@@ -31,7 +31,8 @@ pub data Safe (t : Task) (j : List ℕ) : Type 0 where
 abbrev pub Kept : Task → List ℕ → Type 0
 Kept t j = (a : ℕ) → a < length (t .start) → (t .kept) a ≡ true → byte j a ≡ byte (t .start) a
 
--- the three things, at every cut 0 to c
+-- the three things: every command is well formed; every cut 0 to c is safe, with the protected bytes unchanged; and the last
+-- cut reads as the new message
 pub record Three (t : Task) (cs : List Command) : Type 0 where
   pub formed : (k : ℕ) → k < length cs → getD cs k ill ≡ ill → ⊥
   pub safe : (k : ℕ) → k ≤ length cs → Safe t (cut k (t .start) cs)

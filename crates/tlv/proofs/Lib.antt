@@ -6,3 +6,10 @@ pub mod Tag
 pub mod Writes
 pub mod Shown
 pub mod Skipping
+pub mod Usable
+pub mod Overlays
+pub mod Touches
+pub mod Rising
+pub mod Measured
+pub mod Turns
+pub mod Space

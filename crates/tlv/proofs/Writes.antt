@@ -38,7 +38,7 @@ tagOf K command span encoded = record {
   encoded = encoded;
 }
 
-report-writable : (w : Bool) (i ms : List ℕ) → reportOf w i ms .writable ≡ w
+pub report-writable : (w : Bool) (i ms : List ℕ) → reportOf w i ms .writable ≡ w
 report-writable w i [] = refl
 report-writable w i (a ∷ ms) = refl
 

@@ -5,3 +5,5 @@ pub mod Message
 pub mod Update
 pub mod Table
 pub mod Views
+pub mod Values
+pub mod Space

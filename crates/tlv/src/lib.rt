@@ -3,4 +3,5 @@
 // The place reached is a small value, `walk::Walk`, that each step hands back moved on. The addresses that control TLVs take
 // out are kept in a skip table that the caller lends, one number an address.
 pub mod table;
+pub mod value;
 pub mod walk;

@@ -1,0 +1,44 @@
+-- Writing is refused as the space for its message is, and else its plan is the one over that space.
+-- Assumes nothing.
+use mathlib.Core.Path.{_≡_, refl, ap, _∙_}
+use mathlib.Core.Bool.{Bool, true, false, not, cond}
+use mathlib.Core.List.{List, [], _∷_}
+use Prim.Native.Nat.{ℕ}
+use lib.Dec.{eqb}
+use lib.ListN.{length}
+use Rattle.tag.specs.Stores.{Store, Command}
+use Rattle.tag.specs.TagType.{Writing, unwritten, written, writing, planned}
+use Rattle.tag.specs.Refusals.{nothing-to-write, not-writable, too-long}
+use Rattle.tag.specs.Checks.{check, Checked, firstOf}
+use Rattle.tlv.specs.Message.{TlvTag, View, refuse, view, viewed, reportOf, reading}
+use Rattle.tlv.specs.Update.{usable, fitsIn, planBy}
+use Rattle.tlv.specs.Space.{Space, no-space, space, spaceOf}
+use Rattle.tlv.proofs.Writes.{tagOf, report-writable}
+
+-- what the space is for writing
+abbrev pub writingIn : ℕ → List ℕ → List ℕ → Space → Writing
+writingIn z i m (no-space r) = unwritten r
+writingIn z i m (space us) = written (planBy z us i m)
+
+-- the three tests in order, as a list and as a choice
+in-order : (z : ℕ) (us i m : List ℕ) (e w f : Bool)
+    → planned (planBy z us i m) (firstOf (check (not e) nothing-to-write ∷ check w not-writable ∷ check f too-long ∷ []))
+    ≡ writingIn z i m (cond e (no-space nothing-to-write) (cond w (cond f (space us) (no-space too-long)) (no-space not-writable)))
+in-order z us i m true w f = refl
+in-order z us i m false false f = refl
+in-order z us i m false true false = refl
+in-order z us i m false true true = refl
+
+module _ (K : TlvTag) (command : List ℕ → List ℕ → Command) (span : List ℕ → ℕ) (encoded : List Store → List ℕ) where
+  pub writing-space : (i m : List ℕ) → writing (tagOf K command span encoded) i m ≡ writingIn (K .block) i m (spaceOf ((K .writable) i) (length m) (viewed K i))
+  unfolding writing reading
+  writing-space i m = go (viewed K i) refl
+    where
+      go : (v : View) → viewed K i ≡ v → writing (tagOf K command span encoded) i m ≡ writingIn (K .block) i m (spaceOf ((K .writable) i) (length m) v)
+      go (refuse r) q = rw q
+      go (view us ms) q =
+          let tests : List ℕ → Checked
+          = λ vs. firstOf (check (not (eqb (length m) 0)) nothing-to-write ∷ check ((K .writable) i) not-writable ∷ check (fitsIn (length m) (length vs)) too-long ∷ []) in
+          rw q (rw (report-writable ((K .writable) i) i ms)
+          (ap (λ vs. planned (planBy (K .block) vs i m) (tests vs)) (ap usable q)
+          ∙ in-order (K .block) us i m (eqb (length m) 0) ((K .writable) i) (fitsIn (length m) (length us))))

@@ -1,0 +1,42 @@
+-- What the code does with the usable bytes from a walk's place on, as the definitions have it.
+-- Assumes nothing.
+use mathlib.Core.Path.{_≡_}
+use mathlib.Core.Bool.{Bool, not, _&&_, cond}
+use mathlib.Core.List.{List}
+use Prim.Native.Nat.{ℕ, _<_, _≤_}
+use lib.Dec.{leb, eqb}
+use lib.ListN.{length, getD, take}
+use Rattle.tag.specs.Bytes.{byte, consecutive}
+use Rattle.tag.specs.Plan.{touches}
+use Rattle.tlv.specs.declared.walk.Walk.{Walk}
+use Rattle.tlv.specs.declared.value.Value as code
+use Rattle.tlv.specs.declared.value.Value.the-variants as value
+
+-- the walk lies inside the table: what `Placed` has without the image
+pub record Within (table : List ℕ) (w : Walk) : Type 0 where
+  pub ordered : w .at .0 ≤ w .end .0
+  pub in-table : w .end .0 ≤ length table
+  pub short : length table ≤ 1024
+
+-- a value of n bytes, n at least 1: fewer are left; or its first address, and whether it is interrupted
+pub data Value : Type 0 where
+  short : Value
+  at : ℕ → Bool → Value
+
+unfoldable pub measured : ℕ → List ℕ → Value
+measured n us = cond (leb n (length us)) (at (getD us 0 0) (not (consecutive (take n us)))) short
+
+abbrev pub valueAs : code.Value → Value
+valueAs value.Short = short
+valueAs (value.At a b) = at (a .0) b
+
+-- whether n bytes are left, as a bound
+abbrev pub ValueRoom : ℕ → List ℕ → code.Value → Type 0
+ValueRoom n us value.Short = length us < n
+ValueRoom n us (value.At a b) = n ≤ length us
+
+-- besides the blocks of z bytes marked before, just those are marked that hold one of the first k of us
+abbrev pub BlocksMarked : ℕ → ℕ → List ℕ → List ℕ → List ℕ → Type 0
+BlocksMarked z k us before after =
+    (vs : List ℕ) (b : ℕ) → length vs ≡ k → b < length before
+    → eqb (byte after b) 0 ≡ eqb (byte before b) 0 && not (touches z us vs b)

@@ -1,0 +1,153 @@
+// The bytes at the usable addresses from a walk's place on: how many there are, and reading, setting and marking them.
+//
+// Every loop here stands at a usable address or at the end, and goes to the next one.
+
+use crate::table;
+use crate::walk::Walk;
+use tag::Address;
+ghost use mathlib.Core.Path.{_≡_};
+ghost use mathlib.Core.List.{map};
+ghost use Prim.Native.Nat.{_*_, _<_, _≤_};
+ghost use lib.ListN.{length, getD, take, drop};
+ghost use Rattle.tag.specs.Bytes.{byte, overlay, overwrite};
+ghost use Rattle.tlv.specs.Views.{ahead, Placed, Onward};
+ghost use Rattle.tlv.specs.Values.{Within, measured, valueAs, ValueRoom, BlocksMarked};
+
+// A value of so many bytes: fewer usable ones are left; or the address of the first, and whether skipped ones lie in between.
+pub enum Value {
+    Short,
+    At(Address, bool),
+}
+
+// How many usable bytes there are.
+pub fn count(w: Walk, table: &[u16]) -> usize
+    requires { ⌜ Within (now table) w ⌝ }
+    ensures is { λ r. ⌜ r ≡ length (ahead (now (table .entry)) w) ⌝ }
+    ensures few { λ r. ⌜ r ≤ 1024 ⌝ }
+{
+    let end = w.end;
+    let stop = end.0;
+    let first = table::next_usable(table, w.at, end);
+    let mut a = first.0;
+    let mut n = 0usize;
+    while a < stop {
+        let next = table::next_usable(table, Address(a + 1), end);
+        a = next.0;
+        n += 1;
+    }
+    n
+}
+
+// The usable address that comes after `k` others, or the end where there are no more than `k`.
+fn nth(w: Walk, k: usize, table: &[u16]) -> Address
+    requires { ⌜ Within (now table) w ⌝ }
+    ensures is { λ r. ⌜ r .0 ≡ getD (ahead (now (table .entry)) w) k (w .end .0) ⌝ }
+    ensures within { λ r. ⌜ r .0 ≤ w .end .0 ⌝ }
+{
+    let end = w.end;
+    let stop = end.0;
+    let first = table::next_usable(table, w.at, end);
+    let mut a = first.0;
+    let mut left = k;
+    while a < stop {
+        if left == 0 {
+            return Address(a);
+        }
+        let next = table::next_usable(table, Address(a + 1), end);
+        a = next.0;
+        left -= 1;
+    }
+    end
+}
+
+// The next `n` usable bytes as a value. Their addresses rise, so they are consecutive just where the last one is the first
+// plus `n - 1`.
+pub fn measure(w: Walk, n: usize, table: &[u16]) -> Value
+    requires { ⌜ (1 ≤ n) × Within (now table) w ⌝ }
+    ensures is { λ r. ⌜ valueAs r ≡ measured n (ahead (now (table .entry)) w) ⌝ }
+    ensures room { λ r. ⌜ ValueRoom n (ahead (now (table .entry)) w) r ⌝ }
+{
+    let end = w.end;
+    let last = nth(w, n - 1, table);
+    let z = last.0;
+    if z == end.0 {
+        return Value::Short;
+    }
+    let first = table::next_usable(table, w.at, end);
+    let a = first.0;
+    Value::At(first, a + (n - 1) < z)
+}
+
+// The next `n` usable bytes, or as many as there are, to the front of `out`.
+pub fn gather(w: Walk, n: usize, image: &[u8], table: &[u16], out: &mut [u8])
+    requires { ⌜ Placed (now image) (now table) w × (n ≤ length (now out)) ⌝ }
+    ensures { λ _. ⌜ now (out .exit) ≡ overwrite (map (byte (now (image .entry))) (take n (ahead (now (table .entry)) w))) (now (out .entry)) ⌝ }
+{
+    let end = w.end;
+    let stop = end.0;
+    let first = table::next_usable(table, w.at, end);
+    let mut a = first.0;
+    let mut k = 0usize;
+    while a < stop {
+        if k == n {
+            return;
+        }
+        out[k] = image[a];
+        let next = table::next_usable(table, Address(a + 1), end);
+        a = next.0;
+        k += 1;
+    }
+}
+
+// Sets the next usable bytes to `bytes`, as far as both go, and hands back the walk past them.
+pub fn set_bytes(w: Walk, bytes: &[u8], table: &[u16], image: &mut [u8]) -> Walk
+    requires { ⌜ Placed (now image) (now table) w ⌝ }
+    ensures sets { λ _. ⌜ now (image .exit) ≡ overlay (ahead (now (table .entry)) w) (now (bytes .entry)) (now (image .entry)) ⌝ }
+    ensures past { λ r. ⌜ ahead (now (table .entry)) r ≡ drop (length (now (bytes .entry))) (ahead (now (table .entry)) w) ⌝ }
+    ensures placed { λ r. ⌜ Onward (now (image .exit)) (now (table .entry)) w r ⌝ }
+{
+    let end = w.end;
+    let stop = end.0;
+    let first = table::next_usable(table, w.at, end);
+    let mut a = first.0;
+    let mut k = 0usize;
+    while a < stop {
+        if k == bytes.len() {
+            return Walk {
+                at: Address(a),
+                end,
+            };
+        }
+        image[a] = bytes[k];
+        let next = table::next_usable(table, Address(a + 1), end);
+        a = next.0;
+        k += 1;
+    }
+    Walk {
+        at: Address(a),
+        end,
+    }
+}
+
+// Marks each block of `size` bytes that holds one of the next `k` usable bytes.
+pub fn mark_blocks(w: Walk, k: usize, size: usize, table: &[u16], marks: &mut [u8])
+    requires { ⌜ Within (now table) w × (0 < size) × (w .end .0 ≤ size * length (now marks)) ⌝ }
+    ensures { λ _. ⌜ BlocksMarked size k (ahead (now (table .entry)) w) (now (marks .entry)) (now (marks .exit)) ⌝ }
+{
+    let end = w.end;
+    let stop = end.0;
+    let first = table::next_usable(table, w.at, end);
+    let mut a = first.0;
+    let mut left = k;
+    while a < stop {
+        if left == 0 {
+            return;
+        }
+        let block = Address(a).block(size);
+        let b = block.0;
+        marks[b] = 1;
+        let next = table::next_usable(table, Address(a + 1), end);
+        a = next.0;
+        left -= 1;
+    }
+}
