@@ -13,3 +13,7 @@ pub mod Rising
 pub mod Measured
 pub mod Turns
 pub mod Space
+pub mod Steps
+pub mod Passing
+pub mod Marking
+pub mod Finding

@@ -5,5 +5,8 @@ pub mod Message
 pub mod Update
 pub mod Table
 pub mod Views
+pub mod Marks
+pub mod Passing
+pub mod Finding
 pub mod Values
 pub mod Space

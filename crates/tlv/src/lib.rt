@@ -2,6 +2,10 @@
 //
 // The place reached is a small value, `walk::Walk`, that each step hands back moved on. The addresses that control TLVs take
 // out are kept in a skip table that the caller lends, one number an address.
+pub mod area;
+pub mod control;
+pub mod find;
+pub mod length;
 pub mod table;
 pub mod value;
 pub mod walk;

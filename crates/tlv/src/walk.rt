@@ -19,6 +19,13 @@ pub enum Taken {
 }
 
 impl Walk {
+    // The walk over the data area from `first` up to `end`, before its first byte.
+    pub fn new(first: Address, end: Address) -> Walk
+        ensures { λ r. ⌜ (r .at .0 ≡ first .0) × (r .end .0 ≡ end .0) ⌝ }
+    {
+        Walk { at: first, end }
+    }
+
     // The next usable byte.
     pub fn take_byte(self, image: &[u8], table: &[u16]) -> Taken
         requires { ⌜ Placed (now image) (now table) self ⌝ }

@@ -1,0 +1,76 @@
+-- The code's steps to the message TLV against the definitions' steps.
+-- Assumes nothing.
+use mathlib.Core.Path.{_≡_, refl, ap, _∙_, subst}
+use mathlib.Core.Bool.{Bool, true, false}
+use mathlib.Core.List.{List}
+use Prim.Native.Nat.{ℕ, zero, suc, _+_, _-_, _<_, _≤_}
+use native.Mathlib.Omega.{arith}
+use lib.Dec.{eqb}
+use lib.ListN.{length, replicate}
+use Rattle.tag.specs.Bytes.{byte, run}
+use Rattle.tlv.specs.declared.walk.Walk.{Walk}
+use Rattle.tlv.specs.declared.length.Passed as code-passed
+use Rattle.tlv.specs.declared.length.Passed.the-variants as passed
+use Rattle.tlv.specs.declared.find.Stepped as code-stepped
+use Rattle.tlv.specs.declared.find.Stepped.the-variants as stepped
+use Rattle.tlv.specs.Areas.{anyArea}
+use Rattle.tlv.specs.Walk.{Passed, Kind, kindOf, Step, on, stepAt, find}
+use Rattle.tlv.specs.Table.{unskipped}
+use Rattle.tlv.specs.Views.{ahead, Onward}
+use Rattle.tlv.specs.Passing.{passedAs, PassedPlaced}
+use Rattle.tlv.specs.Finding.{stepOf, steppedAs, TypePlaced, SteppedPlaced}
+use Rattle.tlv.proofs.Skipping.{unskipped-all}
+use Rattle.tlv.proofs.Steps.{onward}
+
+-- ---- a TLV passed, as a step
+
+step-of-as : (t : List ℕ) (p : code-passed.Passed) → steppedAs t (stepOf p) ≡ on (passedAs t p)
+step-of-as t (passed.Stop n) = refl
+step-of-as t (passed.More w) = refl
+
+pub step-passed : (t : List ℕ) (p : code-passed.Passed) (r : code-stepped.Stepped) {x : Passed} → r ≡ stepOf p → passedAs t p ≡ x → steppedAs t r ≡ on x
+step-passed t p r e q = ap (steppedAs t) e ∙ step-of-as t p ∙ ap on q
+
+step-of-placed : (i t : List ℕ) (v : Walk) (a : ℕ) (p : code-passed.Passed) → PassedPlaced i t v p → TypePlaced i t v a (stepOf p)
+step-of-placed i t v a (passed.Stop n) q = tt
+step-of-placed i t v a (passed.More w) q = q
+
+pub step-placed : (i t : List ℕ) (v : Walk) (a : ℕ) (p : code-passed.Passed) (r : code-stepped.Stepped) → r ≡ stepOf p → PassedPlaced i t v p → TypePlaced i t v a r
+step-placed i t v a p r e q = rw e (step-of-placed i t v a p q)
+
+-- ---- a step by its type byte
+
+pub by-kind : (k : Kind) (b : ℕ) (i : List ℕ) (a : ℕ) (us : List ℕ) {r : Step} → r ≡ stepAt anyArea k i a us → k ≡ kindOf b → r ≡ stepAt anyArea (kindOf b) i a us
+by-kind k b i a us e q = e ∙ ap (λ j. stepAt anyArea j i a us) q
+
+pub typed-placed : {i s : List ℕ} {v w : Walk} (t : List ℕ) (a : ℕ) (r : code-stepped.Stepped) → Onward i s v w → v .at .0 ≤ a → a < w .at .0
+    → TypePlaced i t w a r → SteppedPlaced i t v r
+typed-placed t a (stepped.Stop n) p l h q = tt
+typed-placed t a (stepped.On u) p l h q = (onward p q, omega (arith, q .farther))
+typed-placed t a (stepped.Message b u) p l h q = (onward p (q .0), omega (arith, q .1), omega (arith, q .0 .farther, q .1))
+
+-- ---- fuel
+
+pub unskipped-length : (t : List ℕ) (a n : ℕ) → length (unskipped t a n) ≤ n
+unfolding unskipped
+unskipped-length t a zero = omega arith
+unskipped-length t a (suc n) = go (eqb (byte t a) 0) refl (unskipped-length t (suc a) n)
+  where
+    go : (b : Bool) → eqb (byte t a) 0 ≡ b → length (unskipped t (suc a) n) ≤ n → length (unskipped t a (suc n)) ≤ suc n
+    go true e ih = rw (e, unskipped) (omega arith)
+    go false e ih = rw (e, unskipped) (omega arith)
+
+-- what is still to come is no more than there was
+pub fuel-enough : {i t : List ℕ} {v w : Walk} → Onward i t v w → length (ahead t w) ≤ v .end .0 - v .at .0
+fuel-enough {i} {t} {v} {w} p = omega (arith, unskipped-length t (w .at .0) (w .end .0 - w .at .0), p .farther, p .same-end)
+
+-- ---- the walk from the start of the data area, with nothing skipped yet
+
+pub ahead-all : (m : ℕ) (w : Walk) → w .at .0 ≤ w .end .0 → w .end .0 ≤ m → ahead (replicate m 0) w ≡ run (w .at .0) (w .end .0 - w .at .0)
+ahead-all m w l h = unskipped-all m (w .at .0) (w .end .0 - w .at .0) (omega arith)
+
+pub find-all : (m : ℕ) (i : List ℕ) (w : Walk) (first size : ℕ) → w .at .0 ≡ first → w .end .0 ≡ first + size → first + size ≤ m
+    → find anyArea (w .end .0 - w .at .0) i (ahead (replicate m 0) w) ≡ find anyArea size i (run first size)
+find-all m i w first size e f h =
+    let n : w .end .0 - w .at .0 ≡ size = omega arith in
+    rw (ahead-all m w (omega arith) (omega arith), n, e)

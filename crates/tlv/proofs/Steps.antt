@@ -1,0 +1,87 @@
+-- What the code's steps found, as the definitions have it.
+-- Assumes nothing.
+use mathlib.Core.Path.{_≡_, refl, sym, ap, _∙_, subst}
+use mathlib.Core.Bool.{Bool, true, false, cond}
+use mathlib.Core.List.{List}
+use Prim.Native.Nat.{ℕ, _<_, _≤_}
+use native.Mathlib.Omega.{arith}
+use Rattle.tag.specs.declared.Address.{Address}
+use Rattle.tlv.specs.declared.walk.Walk.{Walk}
+use Rattle.tlv.specs.declared.walk.Taken as code
+use Rattle.tlv.specs.declared.walk.Taken.the-variants as taken
+use Rattle.tlv.specs.declared.length.Field as code-field
+use Rattle.tlv.specs.declared.length.Field.the-variants as field
+use Rattle.tlv.specs.declared.length.Passed as code-passed
+use Rattle.tlv.specs.declared.length.Passed.the-variants as passed
+use Rattle.tlv.specs.Passing.{FieldPlaced, Moved, PassedWithin, PassedPlaced, Skipped}
+use Rattle.tlv.specs.Walk.{Taken, none, took, takeByte, onByte}
+use Rattle.tlv.specs.Views.{ahead, takenAs, TakenPlaced, Placed, Onward}
+
+-- ---- a byte taken
+
+pub on-none : {A : Type 0} (t : code.Taken) (tb i us : List ℕ) (x r : A) (f : ℕ → ℕ → List ℕ → A) → takenAs tb t ≡ takeByte i us → t ≡ taken.Nothing
+    → r ≡ x → r ≡ onByte (takeByte i us) x f
+on-none t tb i us x r f e g p = p ∙ ap (λ k. onByte k x f) (sym (ap (takenAs tb) g) ∙ e)
+
+pub on-took : {A : Type 0} (t : code.Taken) (tb i us : List ℕ) (x r : A) (f : ℕ → ℕ → List ℕ → A) (b : ℕ) (a : Address) (w : Walk)
+    → takenAs tb t ≡ takeByte i us → t ≡ taken.Byte b a w → r ≡ f b (a .0) (ahead tb w) → r ≡ onByte (takeByte i us) x f
+on-took t tb i us x r f b a w e g p = p ∙ ap (λ k. onByte k x f) (sym (ap (takenAs tb) g) ∙ e)
+
+module _ {i tb : List ℕ} {v : Walk} {t : code.Taken} {b : ℕ} {a : Address} {w : Walk} (p : TakenPlaced i tb v t) (g : t ≡ taken.Byte b a w) where
+  pub took-placed : Onward i tb v w × (v .at .0 ≤ a .0) × (a .0 < w .at .0)
+  took-placed = subst (TakenPlaced i tb v) g p
+
+-- two steps; the second may have changed the table
+pub onward : {i s t : List ℕ} {u v w : Walk} → Onward i s u v → Onward i t v w → Onward i t u w
+onward p q = record { placed = q .placed; farther = omega (arith, p .farther, q .farther); same-end = q .same-end ∙ p .same-end }
+
+-- ---- a case that a callee's answer picks
+
+pub yes-by : {A : Type 0} (t b : Bool) (x y r : A) → t ≡ b → t ≡ true → r ≡ x → r ≡ cond b x y
+yes-by t b x y r e g p = rw (← e, g) p
+
+pub no-by : {A : Type 0} (t b : Bool) (x y r : A) → t ≡ b → t ≡ false → r ≡ y → r ≡ cond b x y
+no-by t b x y r e g p = rw (← e, g) p
+
+-- ---- a length field, a TLV passed
+
+pub field-placed : {i tb : List ℕ} {v w : Walk} {r : code-field.Field} {n : ℕ} → FieldPlaced i tb v r → r ≡ field.Is n w → Onward i tb v w × (n ≤ 65534)
+field-placed {i} {tb} {v} p g = subst (FieldPlaced i tb v) g p
+
+pub field-onward : {i tb : List ℕ} {v w : Walk} (r : code-field.Field) → Onward i tb v w → FieldPlaced i tb w r → FieldPlaced i tb v r
+field-onward field.Bad p q = tt
+field-onward (field.Is n u) p q = (onward p (q .0), q .1)
+
+-- a walk that has moved on inside the table
+pub moved : {i tb : List ℕ} {u v w : Walk} → Onward i tb u v → Moved v w → Onward i tb u w
+moved p q = record {
+  placed = record {
+    ordered = q .ordered;
+    in-table = omega (arith, p .placed .in-table, q .same-end);
+    in-image = omega (arith, p .placed .in-image, q .same-end);
+    short = p .placed .short;
+  };
+  farther = omega (arith, p .farther, q .farther);
+  same-end = q .same-end ∙ p .same-end;
+}
+
+pub passed-moved : {i tb : List ℕ} {u v : Walk} (r : code-passed.Passed) → Onward i tb u v → PassedWithin v r → PassedPlaced i tb u r
+passed-moved (passed.Stop n) p q = tt
+passed-moved (passed.More w) p q = moved p q
+
+pub passed-onward : {i s : List ℕ} {u v : Walk} (t : List ℕ) (r : code-passed.Passed) → Onward i s u v → PassedPlaced i t v r → PassedPlaced i t u r
+passed-onward t (passed.Stop n) p q = tt
+passed-onward t (passed.More w) p q = onward p q
+
+-- a walk whose table was marked
+pub skipped : {i s t : List ℕ} {u v w : Walk} → Onward i s u v → Skipped s t v w → Onward i t u w
+skipped p q = record {
+  placed = record {
+    ordered = omega (arith, p .placed .ordered, q .same-at, q .same-end);
+    in-table = omega (arith, p .placed .in-table, q .same-length, q .same-end);
+    in-image = omega (arith, p .placed .in-image, q .same-end);
+    short = omega (arith, p .placed .short, q .same-length);
+  };
+  farther = omega (arith, p .farther, q .same-at);
+  same-end = q .same-end ∙ p .same-end;
+}

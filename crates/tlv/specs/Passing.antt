@@ -1,0 +1,70 @@
+-- The answers of the walk's steps as the definitions have them, and the numbers that callers go by.
+-- Assumes nothing.
+use mathlib.Core.Path.{_≡_}
+use mathlib.Core.List.{List}
+use Prim.Native.Nat.{ℕ, _<_, _≤_}
+use lib.ListN.{length}
+use Rattle.tlv.specs.declared.walk.Walk.{Walk}
+use Rattle.tlv.specs.declared.length.Field as code-field
+use Rattle.tlv.specs.declared.length.Field.the-variants as field
+use Rattle.tlv.specs.declared.length.Passed as code-passed
+use Rattle.tlv.specs.declared.length.Passed.the-variants as passed
+use Rattle.tlv.specs.declared.area.Area as code-area
+use Rattle.tag.specs.Refusals.{bad-length}
+use Rattle.tlv.specs.Areas.{Control, anyArea}
+use Rattle.tlv.specs.Walk.{takeByte, onByte, Length, bad, len, Passed, more, stop, areaBy}
+use Rattle.tlv.specs.Views.{ahead, Onward}
+use Rattle.tlv.specs.Marks.{SmallArea}
+
+-- ---- length fields
+
+abbrev pub fieldAs : List ℕ → code-field.Field → Length
+fieldAs table field.Bad = bad
+fieldAs table (field.Is n w) = len n (ahead table w)
+
+abbrev pub FieldPlaced : List ℕ → List ℕ → Walk → code-field.Field → Type 0
+FieldPlaced image table v field.Bad = Unit {0}
+FieldPlaced image table v (field.Is n w) = Onward image table v w × (n ≤ 65534)
+
+-- ---- a TLV passed
+
+abbrev pub passedAs : List ℕ → code-passed.Passed → Passed
+passedAs table (passed.Stop r) = stop r
+passedAs table (passed.More w) = more (ahead table w)
+
+-- the walk lies inside the table
+pub record Within (table : List ℕ) (w : Walk) : Type 0 where
+  pub ordered : w .at .0 ≤ w .end .0
+  pub in-table : w .end .0 ≤ length table
+
+-- and has moved on from v
+pub record Moved (v w : Walk) : Type 0 where
+  pub farther : v .at .0 ≤ w .at .0
+  pub ordered : w .at .0 ≤ w .end .0
+  pub same-end : w .end .0 ≡ v .end .0
+
+abbrev pub PassedWithin : Walk → code-passed.Passed → Type 0
+PassedWithin v (passed.Stop r) = Unit {0}
+PassedWithin v (passed.More w) = Moved v w
+
+abbrev pub PassedPlaced : List ℕ → List ℕ → Walk → code-passed.Passed → Type 0
+PassedPlaced image table v (passed.Stop r) = Unit {0}
+PassedPlaced image table v (passed.More w) = Onward image table v w
+
+-- ---- control TLVs
+
+-- the walk and an area that its table has room for
+pub record Skips (table : List ℕ) (w : Walk) (r : code-area.Area) : Type 0 where
+  pub within : Within table w
+  pub short : length table ≤ 1024
+  pub small : SmallArea r
+
+-- the walk stays where it is
+pub record Skipped (t u : List ℕ) (v w : Walk) : Type 0 where
+  pub same-length : length u ≡ length t
+  pub same-at : w .at .0 ≡ v .at .0
+  pub same-end : w .end .0 ≡ v .end .0
+
+-- a control TLV's value, once its first two bytes are taken
+abbrev pub lastOf : Control → ℕ → ℕ → List ℕ → List ℕ → Passed
+lastOf c b0 b1 i us = onByte (takeByte i us) (stop bad-length) (λ b2 _ xs. areaBy anyArea c b0 b1 b2 xs)

@@ -1,0 +1,105 @@
+// Control TLVs: each declares an area, whose addresses whatever comes after the TLV skips.
+
+use crate::area;
+use crate::area::Area;
+use crate::area::Control;
+use crate::length::Passed;
+use crate::table;
+use crate::walk::Taken;
+use crate::walk::Walk;
+use tag::Address;
+ghost use mathlib.Core.Path.{_≡_};
+ghost use Prim.Native.Nat.{min, max};
+ghost use Rattle.tlv.specs.Areas.{without, anyArea};
+ghost use Rattle.tlv.specs.Walk.{controlValue, passControl};
+ghost use Rattle.tlv.specs.Views.{ahead, Placed};
+ghost use Rattle.tlv.specs.Marks.{controlAs, areaAs};
+ghost use Rattle.tlv.specs.Passing.{passedAs, PassedPlaced, Skips, Skipped, lastOf};
+
+// The later of two addresses.
+fn later(a: Address, b: Address) -> Address
+    ensures { λ r. ⌜ r .0 ≡ max (a .0) (b .0) ⌝ }
+{
+    if a.0 < b.0 { b } else { a }
+}
+
+// The earlier of two addresses.
+fn earlier(a: Address, b: Address) -> Address
+    ensures { λ r. ⌜ r .0 ≡ min (a .0) (b .0) ⌝ }
+{
+    if a.0 < b.0 { a } else { b }
+}
+
+impl Walk {
+    // The addresses of the area that are still to come are skipped from here on. What the area has past the data area's end
+    // is cut off first, so that its end goes into the table.
+    pub fn skip_area(self, area: Area, table: &mut [u16]) -> Walk
+        requires { ⌜ Skips (now table) self area ⌝ }
+        ensures is { λ r. ⌜ ahead (now (table .exit)) r ≡ without (areaAs area) (ahead (now (table .entry)) self) ⌝ }
+        ensures same { λ r. ⌜ Skipped (now (table .entry)) (now (table .exit)) self r ⌝ }
+    {
+        let start = area.start;
+        let stop = start.0 + area.size;
+        let from = later(start, self.at);
+        let to = earlier(Address(stop), self.end);
+        table::mark(table, from, to);
+        self
+    }
+
+    // The last of a control TLV's three value bytes, with the area that they declare.
+    fn pass_last(
+        self,
+        kind: Control,
+        place: u8,
+        size: u8,
+        image: &[u8],
+        table: &mut [u16],
+    ) -> Passed
+        requires { ⌜ Placed (now image) (now table) self ⌝ }
+        ensures is { λ r. ⌜ passedAs (now (table .exit)) r ≡ lastOf (controlAs kind) place size (now (image .entry)) (ahead (now (table .entry)) self) ⌝ }
+        ensures placed { λ r. ⌜ PassedPlaced (now (image .entry)) (now (table .exit)) self r ⌝ }
+    {
+        match self.take_byte(image, table) {
+            Taken::Nothing => Passed::Stop(7),
+            Taken::Byte(last, _, w) => {
+                if area::is_reserved(kind, last) {
+                    return Passed::Stop(6);
+                }
+                let declared = area::area_of(kind, place, size, last);
+                Passed::More(w.skip_area(declared, table))
+            }
+        }
+    }
+
+    // A control TLV's value.
+    fn pass_control_value(self, kind: Control, image: &[u8], table: &mut [u16]) -> Passed
+        requires { ⌜ Placed (now image) (now table) self ⌝ }
+        ensures is { λ r. ⌜ passedAs (now (table .exit)) r ≡ controlValue anyArea (controlAs kind) (now (image .entry)) (ahead (now (table .entry)) self) ⌝ }
+        ensures placed { λ r. ⌜ PassedPlaced (now (image .entry)) (now (table .exit)) self r ⌝ }
+    {
+        match self.take_byte(image, table) {
+            Taken::Nothing => Passed::Stop(7),
+            Taken::Byte(place, _, v) => match v.take_byte(image, table) {
+                Taken::Nothing => Passed::Stop(7),
+                Taken::Byte(size, _, w) => w.pass_last(kind, place, size, image, table),
+            },
+        }
+    }
+
+    // A control TLV, after its type byte.
+    pub fn pass_control(self, kind: Control, image: &[u8], table: &mut [u16]) -> Passed
+        requires { ⌜ Placed (now image) (now table) self ⌝ }
+        ensures is { λ r. ⌜ passedAs (now (table .exit)) r ≡ passControl anyArea (controlAs kind) (now (image .entry)) (ahead (now (table .entry)) self) ⌝ }
+        ensures placed { λ r. ⌜ PassedPlaced (now (image .entry)) (now (table .exit)) self r ⌝ }
+    {
+        match self.take_byte(image, table) {
+            Taken::Nothing => Passed::Stop(7),
+            Taken::Byte(length, _, w) => {
+                if length == 3 {
+                    return w.pass_control_value(kind, image, table);
+                }
+                Passed::Stop(6)
+            }
+        }
+    }
+}

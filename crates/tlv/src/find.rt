@@ -1,0 +1,90 @@
+// The walk to the message TLV.
+
+use crate::area::Control;
+use crate::length::Passed;
+use crate::walk::Taken;
+use crate::walk::Walk;
+use tag::Address;
+ghost use mathlib.Core.Path.{_≡_};
+ghost use Prim.Native.Nat.{_-_};
+ghost use Rattle.tlv.specs.Areas.{anyArea};
+ghost use Rattle.tlv.specs.Walk.{kindOf, stepAt, step, find};
+ghost use Rattle.tlv.specs.Views.{ahead, Placed};
+ghost use Rattle.tlv.specs.Finding.{stepOf, steppedAs, TypePlaced, SteppedPlaced, foundAs, FoundPlaced};
+
+// A step of the walk: a refusal, a TLV passed, or the message TLV, by its type byte's address and the walk past that byte.
+pub enum Stepped {
+    Stop(u8),
+    On(Walk),
+    Message(Address, Walk),
+}
+
+// The message TLV, by its type byte's address and the walk past that byte; or a refusal.
+pub enum Found {
+    Lost(u8),
+    At(Address, Walk),
+}
+
+// A TLV passed, as a step.
+fn step_of(passed: Passed) -> Stepped
+    ensures { λ r. ⌜ r ≡ stepOf passed ⌝ }
+{
+    match passed {
+        Passed::Stop(r) => Stepped::Stop(r),
+        Passed::More(w) => Stepped::On(w),
+    }
+}
+
+impl Walk {
+    // A TLV whose type byte, just taken, stands at `place`.
+    fn pass_by_type(self, kind: u8, place: Address, image: &[u8], table: &mut [u16]) -> Stepped
+        requires { ⌜ Placed (now image) (now table) self ⌝ }
+        ensures is { λ r. ⌜ steppedAs (now (table .exit)) r ≡ stepAt anyArea (kindOf kind) (now (image .entry)) (place .0) (ahead (now (table .entry)) self) ⌝ }
+        ensures placed { λ r. ⌜ TypePlaced (now (image .entry)) (now (table .exit)) self (place .0) r ⌝ }
+    {
+        if kind == 0x00 {
+            return Stepped::On(self);
+        }
+        if kind == 0x01 {
+            return step_of(self.pass_control(Control::Lock, image, table));
+        }
+        if kind == 0x02 {
+            return step_of(self.pass_control(Control::Memory, image, table));
+        }
+        if kind == 0x03 {
+            return Stepped::Message(place, self);
+        }
+        if kind == 0xFE {
+            return Stepped::Stop(8);
+        }
+        step_of(self.pass_other(image, table))
+    }
+
+    // The next TLV passed, unless it is the message TLV.
+    pub fn pass_tlv(self, image: &[u8], table: &mut [u16]) -> Stepped
+        requires { ⌜ Placed (now image) (now table) self ⌝ }
+        ensures is { λ r. ⌜ steppedAs (now (table .exit)) r ≡ step anyArea (now (image .entry)) (ahead (now (table .entry)) self) ⌝ }
+        ensures placed { λ r. ⌜ SteppedPlaced (now (image .entry)) (now (table .exit)) self r ⌝ }
+    {
+        match self.take_byte(image, table) {
+            Taken::Nothing => Stepped::Stop(8),
+            Taken::Byte(kind, place, w) => w.pass_by_type(kind, place, image, table),
+        }
+    }
+
+    // The walk to the message TLV.
+    pub fn find_message(self, image: &[u8], table: &mut [u16]) -> Found
+        requires { ⌜ Placed (now image) (now table) self ⌝ }
+        ensures is { λ r. ⌜ foundAs (now (table .exit)) r ≡ find anyArea (self .end .0 - self .at .0) (now (image .entry)) (ahead (now (table .entry)) self) ⌝ }
+        ensures placed { λ r. ⌜ FoundPlaced (now (image .entry)) (now (table .exit)) self r ⌝ }
+    {
+        let mut w = self;
+        loop {
+            match w.pass_tlv(image, table) {
+                Stepped::Stop(r) => return Found::Lost(r),
+                Stepped::On(v) => w = v,
+                Stepped::Message(a, v) => return Found::At(a, v),
+            }
+        }
+    }
+}
