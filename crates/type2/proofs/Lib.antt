@@ -1,4 +1,5 @@
 -- Laws of Type 2.
 pub mod Memory
+pub mod Refusing
 pub mod Codec
 pub mod Laws

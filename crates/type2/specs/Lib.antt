@@ -2,3 +2,4 @@
 pub mod Memory
 pub mod Codec
 pub mod Type2
+pub mod Views

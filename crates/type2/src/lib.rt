@@ -1,5 +1,7 @@
 // Type 2 tags.
 
+pub mod container;
+
 use tag::Block;
 
 // A write command: the block and its four bytes.

@@ -1,0 +1,1 @@
+-- Laws that the code over a tag with a TLV area needs.

@@ -1,0 +1,1 @@
+-- Views of the code over a tag with a TLV area.

@@ -1,0 +1,60 @@
+// The capability container: refusals 1 to 5, and the data area.
+
+use tag::Address;
+ghost use mathlib.Core.Path.{_≡_};
+ghost use lib.ListN.{length, drop};
+ghost use Prim.Native.Nat.{_≤_};
+ghost use Rattle.tag.specs.Bytes.{byte};
+ghost use Rattle.tag.specs.Checks.{firstOf};
+ghost use Rattle.type2.specs.Memory.{memory, containerChecks};
+ghost use Rattle.type2.specs.Views.{checkedAs, Known};
+
+// A refusal; or the end of the data area, which begins at 16, and whether the tag is writable.
+pub enum DataArea {
+    Refused(u8),
+    Inside(Address, bool),
+}
+
+// Refusal 5, or the data area. The container's other tests have passed.
+fn area(image: &[u8], writable: bool) -> DataArea
+    requires { ⌜ (64 ≤ length (now image)) × (length (now image) ≤ 1024) ⌝ }
+    ensures is { λ r. ⌜ checkedAs r ≡ firstOf (drop 4 ((memory .checks) (now (image .entry)))) ⌝ }
+    ensures known { λ r. ⌜ Known (now (image .entry)) writable r ⌝ }
+{
+    let size = image[14] as usize;
+    let end = 16 + 8 * size;
+    if image.len() < end {
+        return DataArea::Refused(5);
+    }
+    DataArea::Inside(Address(end), writable)
+}
+
+// Refusals 1 to 5, in this order.
+pub fn data_area(image: &[u8]) -> DataArea
+    ensures is { λ r. ⌜ checkedAs r ≡ firstOf ((memory .checks) (now (image .entry))) ⌝ }
+    ensures known { λ r. ⌜ Known (now (image .entry)) ((memory .writable) (now (image .entry))) r ⌝ }
+{
+    let n = image.len();
+    if n % 4 != 0 {
+        return DataArea::Refused(1);
+    }
+    if n < 64 {
+        return DataArea::Refused(1);
+    }
+    if 1024 < n {
+        return DataArea::Refused(1);
+    }
+    if image[12] != 0xE1 {
+        return DataArea::Refused(2);
+    }
+    if image[13] != 0x10 {
+        return DataArea::Refused(3);
+    }
+    if image[15] == 0x00 {
+        return area(image, true);
+    }
+    if image[15] == 0x0F {
+        return area(image, false);
+    }
+    DataArea::Refused(4)
+}
