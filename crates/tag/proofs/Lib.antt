@@ -6,6 +6,7 @@ pub mod Each
 pub mod Images
 pub mod Addresses
 pub mod Judge
+pub mod Judging
 pub mod Guarded
 pub mod Blocks
 pub mod Writes

@@ -1,0 +1,73 @@
+-- The judge along a list, step by step, for whoever computes it: a command's fault by the tests made of it, and the judge by
+-- the first command's fault.
+-- Assumes nothing.
+use mathlib.Core.Path.{_≡_, refl, sym, ap, _∙_}
+use mathlib.Core.Bool.{Bool, true, false, not, _&&_, _||_}
+use mathlib.Core.List.{List, [], _∷_}
+use Prim.Native.Nat.{ℕ, zero, suc, _+_, _-_, _<_, _≤_}
+use native.Mathlib.Omega.{arith}
+use borrow.Author.Tests.{eq-eqb, ne-eqb}
+use lib.Dec.{eqb}
+use lib.ListN.{length}
+use Rattle.tag.specs.Bytes.{byte, run}
+use Rattle.tag.specs.Refusals.{not-well-formed, changes-protected, misreads, ends-otherwise}
+use Rattle.tag.specs.Stores.{Store, Command, ill, stores, puts, done, states}
+use Rattle.tag.specs.Judge.{Verdict, accepted, refused, Task, holdsAs, reads, equalAt, keeps, every, fault, judge}
+use Rattle.tag.proofs.Logic.{nope}
+
+module _ (t : Task) where
+  pub fault-ill : (j : List ℕ) → fault t j ill ≡ not-well-formed
+  unfolding fault
+  fault-ill j = refl
+
+  pub fault-change : (j : List ℕ) (ss : List Store) → keeps t (puts j ss) ≡ false → fault t j (stores ss) ≡ changes-protected
+  unfolding fault
+  fault-change j ss k = rw (k, fault)
+
+  pub fault-misread : (j : List ℕ) (ss : List Store) → keeps t (puts j ss) ≡ true → reads t ((t .held) (puts j ss)) ≡ false → fault t j (stores ss) ≡ misreads
+  unfolding fault
+  fault-misread j ss k r = rw (k, r, fault)
+
+  pub fault-none : (j : List ℕ) (ss : List Store) → keeps t (puts j ss) ≡ true → reads t ((t .held) (puts j ss)) ≡ true → fault t j (stores ss) ≡ 0
+  unfolding fault
+  fault-none j ss k r = rw (k, r, fault)
+
+  pub judge-next : (n : ℕ) (j : List ℕ) (c : Command) (cs : List Command) → fault t j c ≡ 0 → judge t n j (c ∷ cs) ≡ judge t (suc n) (done j c) cs
+  unfolding judge
+  judge-next n j c cs e = rw (e, judge)
+
+  pub judge-stop : (n : ℕ) (j : List ℕ) (c : Command) (cs : List Command) → (fault t j c ≡ 0 → ⊥) → judge t n j (c ∷ cs) ≡ refused (fault t j c) n
+  unfolding judge
+  judge-stop n j c cs e = go (fault t j c) refl
+    where
+      go : (f : ℕ) → fault t j c ≡ f → judge t n j (c ∷ cs) ≡ refused (fault t j c) n
+      go zero q = absurd (e q)
+      go (suc f) q = rw (q, judge)
+
+  pub judge-good : (n : ℕ) (j : List ℕ) → holdsAs ((t .held) j) (t .wanted) ≡ true → judge t n j [] ≡ accepted n
+  unfolding judge
+  judge-good n j e = rw (e, judge)
+
+  pub judge-bad : (n : ℕ) (j : List ℕ) → holdsAs ((t .held) j) (t .wanted) ≡ false → judge t n j [] ≡ refused ends-otherwise n
+  unfolding judge
+  judge-bad n j e = rw (e, judge)
+
+-- ---- protected bytes, address by address
+
+pub equal-same : (p q : ℕ → Bool) (i j : List ℕ) (s n : ℕ) → ((a : ℕ) → s ≤ a → a < s + n → p a ≡ q a) → equalAt p i j (run s n) ≡ equalAt q i j (run s n)
+equal-same p q i j s zero h = refl
+equal-same p q i j s (suc n) h = rw (h s (omega arith) (omega arith), equal-same p q i j (suc s) n (λ a l u. h a (omega arith) (omega arith)))
+
+module _ (p : ℕ → Bool) (i j : List ℕ) where
+  -- an address passed over
+  pub equal-pass : (s n : ℕ) → 0 < n → not (p s) || eqb (byte j s) (byte i s) ≡ true → equalAt p i j (run s n) ≡ equalAt p i j (run (s + 1) (n - 1))
+  equal-pass s zero h e = absurd (omega arith)
+  equal-pass s (suc n) h e =
+      let f : suc n - 1 ≡ n = omega arith in
+      let g : s + 1 ≡ suc s = omega arith in
+      rw e (rw (f, g))
+
+  -- and one that differs
+  pub equal-fail : (s n : ℕ) → 0 < n → not (p s) || eqb (byte j s) (byte i s) ≡ false → equalAt p i j (run s n) ≡ false
+  equal-fail s zero h e = absurd (omega arith)
+  equal-fail s (suc n) h e = rw e
