@@ -14,3 +14,5 @@ pub mod Sending
 pub mod Counts
 pub mod Pieces
 pub mod Laws
+pub mod Same
+pub mod Storing

@@ -1,6 +1,7 @@
 // What every type of tag shares: addresses and blocks, and the answers of the public functions. A refusal is its number.
 
 pub mod kept;
+pub mod slices;
 
 ghost use mathlib.Core.Path.{_≡_};
 ghost use Prim.Native.Nat.{_*_, _/_, _^_, _<_};

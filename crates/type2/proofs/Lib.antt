@@ -3,3 +3,4 @@ pub mod Memory
 pub mod Refusing
 pub mod Codec
 pub mod Laws
+pub mod Encoding

@@ -3,3 +3,4 @@ pub mod Memory
 pub mod Codec
 pub mod Type2
 pub mod Views
+pub mod CodecViews

@@ -1,5 +1,6 @@
 // Type 2 tags.
 
+pub mod commands;
 pub mod container;
 
 use tag::Block;

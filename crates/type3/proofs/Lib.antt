@@ -5,3 +5,6 @@ pub mod Update
 pub mod Shown
 pub mod Laws
 pub mod Counts
+pub mod Naming
+pub mod Encoding
+pub mod Decoding

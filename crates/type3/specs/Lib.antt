@@ -4,3 +4,5 @@ pub mod Message
 pub mod Update
 pub mod Codec
 pub mod Type3
+pub mod InPlace
+pub mod CodecViews

@@ -1,5 +1,8 @@
 // Type 3 tags.
 
+pub mod commands;
+mod names;
+
 // A write command: the numbers of its blocks, of which the first `count` are used, and sixteen bytes for each of them.
 pub struct Command {
     pub count: usize,

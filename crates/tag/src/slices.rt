@@ -1,0 +1,85 @@
+// Parts of lent slices, whether two slices are equal, and storing one in another.
+
+use crate::ReadAnswer;
+use crate::Report;
+use crate::What;
+ghost use mathlib.Core.Path.{_≡_};
+ghost use Prim.Native.Nat.{_+_, _≤_};
+ghost use lib.ListN.{length};
+ghost use lib.Seq.{sets};
+ghost use Rattle.tag.specs.Bytes.{same};
+ghost use Rattle.tag.specs.Reading.{part, shown};
+ghost use Rattle.tag.specs.Answers.{readAs};
+
+// `len` bytes of a slice from `start` on; the empty part where they do not lie in it.
+pub fn part<'a>(s: &'a [u8], start: usize, len: usize) -> &'a [u8]
+    ensures { λ r. ⌜ now r ≡ part start len (now (s .entry)) ⌝ }
+{
+    if s.len() < start {
+        return &s[0..0];
+    }
+    if s.len() - start < len {
+        return &s[0..0];
+    }
+    &s[start..start + len]
+}
+
+// The part shown of a tag that reads.
+fn shown_of<'a>(image: &'a [u8], gathered: &'a [u8], report: Report) -> &'a [u8]
+    ensures { λ r. ⌜ now r ≡ shown (now (image .entry)) (now (gathered .entry)) (readAs (ReadAnswer.Reads report)) ⌝ }
+{
+    let what = report.what;
+    let start = report.address.0;
+    let len = report.length;
+    match what {
+        What::Message => {
+            if report.interrupted {
+                part(gathered, 0, len)
+            } else {
+                part(image, start, len)
+            }
+        }
+        What::Empty => &image[0..0],
+        What::BeingWritten => &image[0..0],
+    }
+}
+
+// The part shown after `read` answered: of the image or, if the message is interrupted, of the gathered copy; empty without
+// a message and after a refusal.
+pub fn shown<'a>(image: &'a [u8], gathered: &'a [u8], answer: ReadAnswer) -> &'a [u8]
+    ensures { λ r. ⌜ now r ≡ shown (now (image .entry)) (now (gathered .entry)) (readAs answer) ⌝ }
+{
+    match answer {
+        ReadAnswer::Refused(_) => &image[0..0],
+        ReadAnswer::Reads(report) => shown_of(image, gathered, report),
+    }
+}
+
+// Whether two slices have the same bytes.
+pub fn same(a: &[u8], b: &[u8]) -> bool
+    ensures { λ r. ⌜ r ≡ same (now (a .entry)) (now (b .entry)) ⌝ }
+{
+    if a.len() != b.len() {
+        return false;
+    }
+    let mut i = 0usize;
+    while i < a.len() {
+        if a[i] != b[i] {
+            return false;
+        }
+        i += 1;
+    }
+    true
+}
+
+// Stores the bytes of `from` in `to`, from `at` on.
+pub fn store(from: &[u8], at: usize, to: &mut [u8])
+    requires { ⌜ at + length (now from) ≤ length (now to) ⌝ }
+    ensures { λ _. ⌜ now (to .exit) ≡ sets (now (to .entry)) at (now (from .entry)) ⌝ }
+{
+    let mut i = 0usize;
+    while i < from.len() {
+        to[at + i] = from[i];
+        i += 1;
+    }
+}

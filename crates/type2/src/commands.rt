@@ -1,0 +1,95 @@
+// The codec of Type 2's write command: A2h, the block number, four bytes. It is told how many blocks the tag has.
+
+use crate::Command;
+use tag::Block;
+use tag::CountAnswer;
+use tag::slices;
+ghost use mathlib.Core.Path.{_≡_};
+ghost use lib.ListN.{length, drop};
+ghost use Rattle.tag.specs.Bytes.{byte};
+ghost use Rattle.tag.specs.Answers.{countOf, countAs};
+ghost use Rattle.tag.specs.TagType.{outputInto};
+ghost use Rattle.type2.specs.Codec.{nameable, encode, wellFormed, decode, decoded};
+ghost use Rattle.type2.specs.CodecViews.{decodedAs, commandAs};
+
+// The answer of `decode`: a refusal with an empty command, or 0 and the command.
+pub struct Decoded {
+    pub refusal: u8,
+    pub command: Command,
+}
+
+// May a command name the block.
+fn nameable(block: usize, blocks: usize) -> bool
+    ensures { λ r. ⌜ r ≡ nameable blocks block ⌝ }
+{
+    if block < 4 {
+        return false;
+    }
+    if blocks <= block {
+        return false;
+    }
+    block <= 255
+}
+
+// Writes the command's bytes to the front of `bytes`: 20 if its block may not be named, 12 if they do not fit.
+pub fn encode(command: Command, blocks: usize, bytes: &mut [u8]) -> CountAnswer
+    ensures answer { λ r. ⌜ countAs r ≡ countOf (encode blocks (command .block .0) (command .bytes) (length (now (bytes .entry)))) ⌝ }
+    ensures written { λ _. ⌜ now (bytes .exit) ≡ outputInto (now (bytes .entry)) (encode blocks (command .block .0) (command .bytes) (length (now (bytes .entry)))) ⌝ }
+{
+    let block = command.block.0;
+    let four = command.bytes;
+    if !nameable(block, blocks) {
+        return CountAnswer::Refused(20);
+    }
+    if bytes.len() < 6 {
+        return CountAnswer::Refused(12);
+    }
+    let whole = [0xA2, block as u8, four[0], four[1], four[2], four[3]];
+    slices::store(&whole, 0, bytes);
+    CountAnswer::Count(6)
+}
+
+// Whether the bytes are a well-formed command.
+pub fn is_command(bytes: &[u8], blocks: usize) -> bool
+    ensures { λ r. ⌜ r ≡ wellFormed blocks (now (bytes .entry)) ⌝ }
+{
+    if bytes.len() != 6 {
+        return false;
+    }
+    if bytes[0] != 0xA2 {
+        return false;
+    }
+    nameable(bytes[1] as usize, blocks)
+}
+
+// The command that six bytes hold.
+fn carried(bytes: &[u8]) -> Command
+    requires { ⌜ length (now bytes) ≡ 6 ⌝ }
+    ensures { λ r. ⌜ r ≡ commandAs (decoded (byte (now (bytes .entry)) 1) (drop 2 (now (bytes .entry)))) ⌝ }
+{
+    let block = Block(bytes[1] as usize);
+    let four = [bytes[2], bytes[3], bytes[4], bytes[5]];
+    Command { block, bytes: four }
+}
+
+// Reads a command: 20 if the bytes are not well formed.
+pub fn decode(bytes: &[u8], blocks: usize) -> Decoded
+    ensures is { λ r. ⌜ decodedAs r ≡ decode blocks (now (bytes .entry)) ⌝ }
+    ensures command { λ r. ⌜ r .command ≡ commandAs (decode blocks (now (bytes .entry))) ⌝ }
+{
+    if is_command(bytes, blocks) {
+        let command = carried(bytes);
+        return Decoded {
+            refusal: 0,
+            command,
+        };
+    }
+    let command = Command {
+        block: Block(0),
+        bytes: [0u8; 4],
+    };
+    Decoded {
+        refusal: 20,
+        command,
+    }
+}

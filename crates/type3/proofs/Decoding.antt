@@ -1,0 +1,235 @@
+-- Decoding in place: framed bytes whose blocks may be named are a command, and nothing else is.
+-- Assumes nothing.
+use mathlib.Core.Path.{_≡_, refl, sym, ap, _∙_}
+use mathlib.Core.Bool.{Bool, true, false, _&&_}
+use mathlib.Core.List.{List, [], _∷_, _++_, append-assoc}
+use Prim.Native.Nat.{ℕ, zero, suc, _+_, _*_, _<_, _≤_}
+use native.Mathlib.Omega.{arith}
+use borrow.Author.Tests.{eqb-true, eq-eqb}
+use lib.Dec.{leb, eqb}
+use lib.ListN.{length, take, drop, replicate, length-drop}
+use lib.Seq.{take-at, drop-at, drop-drop, getD-at, split-at}
+use Rattle.tag.specs.Bytes.{byte, same, overwrite}
+use Rattle.tag.specs.Refusals.{not-well-formed}
+use Rattle.tag.proofs.Logic.{and-l, and-r, and-both, same-eq, same-refl, true-false, nope}
+use Rattle.type3.specs.declared.Command.{Command}
+use Rattle.type3.specs.Update.{blocksPerCommand}
+use Rattle.type3.specs.Codec.{namesBytes, Names, no-names, names, namesOf, nameable, wellNamed, opening, commandBytes, Decoded, undecoded, decoded, decodeBy, decode}
+use Rattle.type3.specs.InPlace.{marked, numbers, framedBy, framed, carried}
+use Rattle.type3.specs.CodecViews.{commandAs, isCommand, Framed}
+use Rattle.type3.proofs.Codec.{decode-encode, encode-decode, length-command}
+use Rattle.type3.proofs.Naming.{length-numbers}
+use Rattle.type3.proofs.Encoding.{length-opening, counted}
+
+-- ---- the names
+
+marked-names : (bs r : List ℕ) → marked (length bs) (namesBytes bs ++ r) ≡ true
+unfolding marked
+marked-names [] r = refl
+marked-names (b ∷ bs) r = marked-names bs r
+
+numbers-names : (bs r : List ℕ) → numbers (length bs) (namesBytes bs ++ r) ≡ bs
+unfolding numbers
+numbers-names [] r = refl
+numbers-names (b ∷ bs) r = ap (λ l. b ∷ l) (numbers-names bs r)
+
+-- names with their marks are their numbers' names
+names-numbers : (k : ℕ) (bytes : List ℕ) → marked k bytes ≡ true → 2 * k ≤ length bytes
+    → bytes ≡ namesBytes (numbers k bytes) ++ drop (2 * k) bytes
+unfolding marked numbers
+names-numbers zero bytes h l = refl
+names-numbers (suc k) [] h l = absurd (omega arith)
+names-numbers (suc k) (t ∷ []) h l = absurd (omega arith)
+names-numbers (suc k) (t ∷ b ∷ r) h l =
+    let n : 2 * suc k ≡ suc (suc (2 * k)) = omega arith in
+    let type : t ≡ 0x80 = eqb-true t 0x80 (and-l (eqb t 0x80) (marked k r) h) in
+    rw (n, type) (ap (λ x. 0x80 ∷ b ∷ x) (names-numbers k r (and-r (eqb t 0x80) (marked k r) h) (omega arith)))
+
+-- ---- what a frame says
+
+module _ (number : List ℕ) (nbw : ℕ) (bytes : List ℕ) (h : framed number nbw bytes ≡ true) where
+  frame-tests : leb 1 (byte bytes 12) && leb (byte bytes 12) (blocksPerCommand nbw) && eqb (length bytes) (13 + 18 * byte bytes 12) && same (take 12 bytes) (opening number) ≡ true
+  unfolding framedBy
+  frame-tests =
+      and-l (leb 1 (byte bytes 12) && leb (byte bytes 12) (blocksPerCommand nbw) && eqb (length bytes) (13 + 18 * byte bytes 12) && same (take 12 bytes) (opening number))
+      (marked (byte bytes 12) (drop 13 bytes)) h
+
+  frame-marked : marked (byte bytes 12) (drop 13 bytes) ≡ true
+  unfolding framedBy
+  frame-marked =
+      and-r (leb 1 (byte bytes 12) && leb (byte bytes 12) (blocksPerCommand nbw) && eqb (length bytes) (13 + 18 * byte bytes 12) && same (take 12 bytes) (opening number))
+      (marked (byte bytes 12) (drop 13 bytes)) h
+
+  frame-opening : take 12 bytes ≡ opening number
+  frame-opening =
+      same-eq (take 12 bytes) (opening number)
+      (and-r (leb 1 (byte bytes 12) && leb (byte bytes 12) (blocksPerCommand nbw) && eqb (length bytes) (13 + 18 * byte bytes 12)) (same (take 12 bytes) (opening number)) frame-tests)
+
+  frame-sizes : leb 1 (byte bytes 12) && leb (byte bytes 12) (blocksPerCommand nbw) && eqb (length bytes) (13 + 18 * byte bytes 12) ≡ true
+  frame-sizes =
+      and-l (leb 1 (byte bytes 12) && leb (byte bytes 12) (blocksPerCommand nbw) && eqb (length bytes) (13 + 18 * byte bytes 12)) (same (take 12 bytes) (opening number)) frame-tests
+
+  frame-count : leb 1 (byte bytes 12) && leb (byte bytes 12) (blocksPerCommand nbw) ≡ true
+  frame-count = and-l (leb 1 (byte bytes 12) && leb (byte bytes 12) (blocksPerCommand nbw)) (eqb (length bytes) (13 + 18 * byte bytes 12)) frame-sizes
+
+  pub frame : Framed bytes
+  frame =
+      record {
+        few = counted nbw (byte bytes 12) frame-count .few;
+        whole = eqb-true (length bytes) (13 + 18 * byte bytes 12) (and-r (leb 1 (byte bytes 12) && leb (byte bytes 12) (blocksPerCommand nbw)) (eqb (length bytes) (13 + 18 * byte bytes 12)) frame-sizes);
+      }
+
+  -- framed bytes are those of the command that they carry
+  framed-bytes : bytes ≡ commandBytes number (numbers (byte bytes 12) (drop 13 bytes)) (drop (13 + 2 * byte bytes 12) bytes)
+  framed-bytes =
+      let b = byte bytes 12 in
+      let bs = numbers b (drop 13 bytes) in
+      let rest = drop (2 * b) (drop 13 bytes) in
+      let long : 12 < length bytes = omega (arith, frame) in
+      let named : drop 13 bytes ≡ namesBytes bs ++ rest = names-numbers b (drop 13 bytes) frame-marked (omega (arith, frame, length-drop 13 bytes)) in
+      split-at bytes 12 0 long
+      ∙ ap (λ o. o ++ b ∷ drop 13 bytes) frame-opening
+      ∙ ap (λ r. opening number ++ b ∷ r) named
+      ∙ ap (λ c. opening number ++ c ∷ (namesBytes bs ++ rest)) (sym (length-numbers b (drop 13 bytes)))
+      ∙ sym (append-assoc (opening number) (length bs ∷ namesBytes bs) rest)
+      ∙ ap (commandBytes number bs) (drop-drop (2 * b) 13 bytes)
+
+  pub decode-framed : (nmaxb : ℕ) → length number ≡ 8 → nameable nmaxb (numbers (byte bytes 12) (drop 13 bytes)) ≡ true
+      → decode number nbw nmaxb bytes ≡ carried bytes
+  decode-framed nmaxb n k =
+      let b = byte bytes 12 in
+      let bs = numbers b (drop 13 bytes) in
+      let e : length bs ≡ b = length-numbers b (drop 13 bytes) in
+      let w : wellNamed nbw nmaxb bs ≡ true = and-both (ap (λ m. leb 1 m && leb m (blocksPerCommand nbw)) e ∙ frame-count) k in
+      let l : length (drop (13 + 2 * b) bytes) ≡ 16 * length bs = omega (arith, frame, length-drop (13 + 2 * b) bytes) in
+      ap (decode number nbw nmaxb) framed-bytes ∙ decode-encode number nbw nmaxb bs (drop (13 + 2 * b) bytes) n w l
+
+-- ---- a command's bytes are framed
+
+module _ (o : List ℕ) (c : ℕ) (rest : List ℕ) (l : length o ≡ 12) where
+  count-there : byte (o ++ c ∷ rest) 12 ≡ c
+  count-there = getD-at o c rest 0 12 l
+
+  rest-there : drop 13 (o ++ c ∷ rest) ≡ rest
+  rest-there = sym (drop-drop 1 12 (o ++ c ∷ rest)) ∙ ap (drop 1) (drop-at o (c ∷ rest) 12 l)
+
+module _ (number : List ℕ) (nbw nmaxb : ℕ) (bs bytes : List ℕ) (n : length number ≡ 8) (s : length bytes ≡ 16 * length bs) (w : wellNamed nbw nmaxb bs ≡ true) where
+  o-length : length (opening number) ≡ 12
+  o-length = omega (arith, length-opening number)
+
+  whole : commandBytes number bs bytes ≡ opening number ++ length bs ∷ (namesBytes bs ++ bytes)
+  whole = append-assoc (opening number) (length bs ∷ namesBytes bs) bytes
+
+  command-count : byte (commandBytes number bs bytes) 12 ≡ length bs
+  command-count = ap (λ l. byte l 12) whole ∙ count-there (opening number) (length bs) (namesBytes bs ++ bytes) o-length
+
+  command-rest : drop 13 (commandBytes number bs bytes) ≡ namesBytes bs ++ bytes
+  command-rest = ap (drop 13) whole ∙ rest-there (opening number) (length bs) (namesBytes bs ++ bytes) o-length
+
+  command-opening : take 12 (commandBytes number bs bytes) ≡ opening number
+  command-opening = ap (take 12) whole ∙ take-at (opening number) (length bs ∷ (namesBytes bs ++ bytes)) 12 o-length
+
+  command-framed : framed number nbw (commandBytes number bs bytes) ≡ true
+  unfolding framedBy
+  command-framed =
+      ap (λ b. framedBy number nbw b (commandBytes number bs bytes)) command-count
+      ∙ and-both
+      (
+      and-both
+      (
+      and-both (and-l (leb 1 (length bs) && leb (length bs) (blocksPerCommand nbw)) (nameable nmaxb bs) w)
+      (eq-eqb (length (commandBytes number bs bytes)) (13 + 18 * length bs) (length-command number bs bytes n s))
+      )
+      (ap (λ l. same l (opening number)) command-opening ∙ same-refl (opening number))
+      )
+      (ap (marked (length bs)) command-rest ∙ marked-names bs bytes)
+
+  command-numbers : numbers (byte (commandBytes number bs bytes) 12) (drop 13 (commandBytes number bs bytes)) ≡ bs
+  command-numbers =
+      ap (λ b. numbers b (drop 13 (commandBytes number bs bytes))) command-count ∙ ap (numbers (length bs)) command-rest ∙ numbers-names bs bytes
+
+-- ---- what decodes
+
+pub decoded-framed : (number : List ℕ) (nbw nmaxb : ℕ) (all bs bytes : List ℕ) → decode number nbw nmaxb all ≡ decoded bs bytes
+    → (framed number nbw all ≡ true) × (nameable nmaxb (numbers (byte all 12) (drop 13 all)) ≡ true)
+decoded-framed number nbw nmaxb all bs bytes e =
+    let h = encode-decode number nbw nmaxb all bs bytes e in
+    let named : nameable nmaxb bs ≡ true = and-r (leb 1 (length bs) && leb (length bs) (blocksPerCommand nbw)) (nameable nmaxb bs) (h .0) in (
+      ap (framed number nbw) (h .2) ∙ command-framed number nbw nmaxb bs bytes (h .3) (h .1) (h .0),
+      ap (λ l. nameable nmaxb (numbers (byte l 12) (drop 13 l))) (h .2)
+          ∙ ap (nameable nmaxb) (command-numbers number nbw nmaxb bs bytes (h .3) (h .1) (h .0))
+          ∙ named,
+    )
+
+-- whatever does not decode is refused with 20
+undecoded-by : (nbw nmaxb : ℕ) (ns : Names) (r : ℕ) → decodeBy nbw nmaxb ns ≡ undecoded r → r ≡ not-well-formed
+unfolding decodeBy
+undecoded-by nbw nmaxb no-names r e = cc
+undecoded-by nbw nmaxb (names cs t) r e = go (wellNamed nbw nmaxb cs && eqb (length t) (16 * length cs)) refl
+  where
+    go : (q : Bool) → wellNamed nbw nmaxb cs && eqb (length t) (16 * length cs) ≡ q → r ≡ not-well-formed
+    go false q = let z : undecoded not-well-formed ≡ undecoded r = rw q at e in cc
+    go true q = let z : decoded cs t ≡ undecoded r = rw q at e in absurd (nope (cc))
+
+undecoded-is : (number : List ℕ) (nbw nmaxb : ℕ) (all : List ℕ) (r : ℕ) → decode number nbw nmaxb all ≡ undecoded r → r ≡ not-well-formed
+unfolding decode
+undecoded-is number nbw nmaxb all r e = go (same (take 12 all) (opening number)) refl
+  where
+    go : (q : Bool) → same (take 12 all) (opening number) ≡ q → r ≡ not-well-formed
+    go false q = let z : undecoded not-well-formed ≡ undecoded r = rw q at e in cc
+    go true q = undecoded-by nbw nmaxb (namesOf (byte all 12) (drop 13 all)) r (rw q at e)
+
+module _ (number : List ℕ) (nbw nmaxb : ℕ) (all : List ℕ) where
+  -- whether a command decodes, by its tests
+  pub is-command-by : length number ≡ 8
+      → isCommand (decode number nbw nmaxb all) ≡ framed number nbw all && nameable nmaxb (numbers (byte all 12) (drop 13 all))
+  is-command-by n = go (decode number nbw nmaxb all) refl (framed number nbw all) refl (nameable nmaxb (numbers (byte all 12) (drop 13 all))) refl
+    where
+      go : (d : Decoded) → decode number nbw nmaxb all ≡ d → (f : Bool) → framed number nbw all ≡ f
+          → (k : Bool) → nameable nmaxb (numbers (byte all 12) (drop 13 all)) ≡ k → isCommand d ≡ f && k
+      go (decoded bs bytes) q f p k r =
+          let h = decoded-framed number nbw nmaxb all bs bytes q in
+          let p′ : f ≡ true = sym p ∙ h .0 in
+          let r′ : k ≡ true = sym r ∙ h .1 in
+          rw (p′, r′)
+      go (undecoded u) q false p k r = refl
+      go (undecoded u) q true p false r = refl
+      go (undecoded u) q true p true r =
+          let z : undecoded u ≡ carried all = sym q ∙ decode-framed number nbw all p nmaxb n r in
+          absurd (nope (cc))
+
+  pub decode-refused : isCommand (decode number nbw nmaxb all) ≡ false → decode number nbw nmaxb all ≡ undecoded not-well-formed
+  decode-refused h = go (decode number nbw nmaxb all) refl
+    where
+      go : (d : Decoded) → decode number nbw nmaxb all ≡ d → decode number nbw nmaxb all ≡ undecoded not-well-formed
+      go (undecoded r) q = q ∙ ap undecoded (undecoded-is number nbw nmaxb all r q)
+      go (decoded bs bytes) q = absurd (true-false (ap isCommand q) h)
+
+  -- what decodes is framed, and decodes to what it carries in place
+  pub decode-carried : isCommand (decode number nbw nmaxb all) ≡ true
+      → (decode number nbw nmaxb all ≡ carried all) × (framed number nbw all ≡ true) × (nameable nmaxb (numbers (byte all 12) (drop 13 all)) ≡ true)
+  decode-carried h = go (decode number nbw nmaxb all) refl
+    where
+      go : (d : Decoded) → decode number nbw nmaxb all ≡ d
+          → (decode number nbw nmaxb all ≡ carried all) × (framed number nbw all ≡ true) × (nameable nmaxb (numbers (byte all 12) (drop 13 all)) ≡ true)
+      go (undecoded r) q = absurd (true-false h (ap isCommand q))
+      go (decoded bs bytes) q =
+          let k = decoded-framed number nbw nmaxb all bs bytes q in
+          let n = encode-decode number nbw nmaxb all bs bytes q in
+          (decode-framed number nbw all (k .0) nmaxb (n .3) (k .1), k .0, k .1)
+
+-- a command by its parts
+pub same-command : {n m : ℕ} {x u y v : List ℕ} → n ≡ m → x ≡ u → y ≡ v
+    → _≡_ {A = Command} (record { count = n; blocks = x; bytes = y }) (record { count = m; blocks = u; bytes = v })
+same-command p q r = λ i. record { count = p i; blocks = q i; bytes = r i }
+
+-- of a command's arrays its count takes what was carried
+pub viewed : (bytes : List ℕ) → Framed bytes
+    → (let d = commandAs (carried bytes) in decoded (take (d .count) (d .blocks)) (take (16 * d .count) (d .bytes))) ≡ carried bytes
+viewed bytes f =
+    let b = byte bytes 12 in
+    let ns = numbers b (drop 13 bytes) in
+    let sixteens = drop (13 + 2 * b) bytes in
+    let k : length sixteens ≡ 16 * length ns = omega (arith, length-drop (13 + 2 * b) bytes, length-numbers b (drop 13 bytes)) in
+    ap (λ l. decoded l (take (16 * length ns) (overwrite sixteens (replicate 128 0)))) (take-at ns (drop (length ns) (replicate 8 0)) (length ns) refl)
+    ∙ ap (decoded ns) (take-at sixteens (drop (length sixteens) (replicate 128 0)) (16 * length ns) k)

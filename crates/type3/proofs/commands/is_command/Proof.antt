@@ -1,0 +1,40 @@
+-- `commands::is_command` meets its contract. Assumes nothing.
+use mathlib.Core.Path.{sym, ap, _∙_}
+use mathlib.Core.Bool.{_&&_}
+use native.Mathlib.Omega.{arith}
+use borrow.Author.Needs.{needs}
+use lib.ListN.{drop}
+use Rattle.tag.specs.Bytes.{byte}
+use Rattle.type3.specs.Codec.{nameable}
+use Rattle.type3.specs.InPlace.{numbers}
+use Rattle.type3.proofs.Decoding.{frame, is-command-by}
+use Rattle.type3.proofs.commands.is_command.Statement.{statement}
+use Rattle.type3.proofs.commands.is_command.Tie as tie
+
+blocks-fit-requires : tie.Need-blocks-fit-requires
+blocks-fit-requires c κs =
+    let a = c .before .before .before .before .args in
+    frame (a .number .now) (a .nbw) (a .bytes .now) (sym (c .before .is-framed .ensures) ∙ c .if1 .taken)
+
+returns : tie.Need-returns
+returns c =
+    let a = c .before .before .before .before .before .args in
+    let bs = a .bytes .now in
+    let named = nameable (a .nmaxb) (numbers (byte bs 12) (drop 13 bs)) in
+    c .blocks-fit .ensures
+    ∙ sym (is-command-by (a .number .now) (a .nbw) (a .nmaxb) bs (omega arith) ∙ ap (λ f. f && named) (sym (c .before .before .is-framed .ensures) ∙ c .before .if1 .taken))
+
+returns-2 : tie.Need-returns-2
+returns-2 c =
+    let a = c .before .before .before .before .args in
+    let bs = a .bytes .now in
+    let named = nameable (a .nmaxb) (numbers (byte bs 12) (drop 13 bs)) in
+    sym (is-command-by (a .number .now) (a .nbw) (a .nmaxb) bs (omega arith) ∙ ap (λ f. f && named) (sym (c .before .is-framed .ensures) ∙ c .if1 .left))
+
+pub is-command-spec : {M : Type 1} → statement M
+is-command-spec = tie.close
+    (tie.spec
+    (λ c κs. search needs)
+    blocks-fit-requires
+    returns
+    returns-2)

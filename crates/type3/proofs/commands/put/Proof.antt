@@ -1,0 +1,32 @@
+-- `commands::put` meets its contract. Assumes nothing.
+use mathlib.Core.Path.{ap, _∙_}
+use Prim.Native.Nat.{_+_, _*_}
+use lib.ListN.{length}
+use lib.Seq.{sets}
+use Rattle.type3.specs.Codec.{namesBytes}
+use Rattle.type3.proofs.Encoding.{command-stored}
+use borrow.Author.Needs.{needs}
+use Rattle.type3.proofs.commands.put.Statement.{statement}
+use Rattle.type3.proofs.commands.put.Tie as tie
+
+returns : tie.Need-returns
+returns c =
+    let a = c .before .before .before .before .before .before .before .before .before .before .before .before .before .before .before .before .args in
+    let asked = c .before .before .before .before .before .before .before .before .before .before .before .before .before .before .before .before .pre in
+    let bs = a .blocks .now in
+    c .before .before .store .ensures
+    ∙ ap (λ t. sets t (13 + 2 * length bs) (a .sixteens .now)) (c .before .before .before .before .before .before .put .ensures)
+    ∙ ap (λ t. sets (sets t 13 (namesBytes bs)) (13 + 2 * length bs) (a .sixteens .now)) (c .before .before .before .before .before .before .before .before .before .before .put-opening .ensures)
+    ∙ command-stored (a .bytes .now) (a .number .now) bs (a .sixteens .now) (asked .eight) (asked .sixteens) (asked .room)
+
+pub put-spec : {M : Type 1} → statement M
+put-spec =
+    tie.close
+    (tie.spec
+    (λ c κs. search needs)
+    (λ c κs. search needs)
+    (λ c. search needs)
+    (λ c. search needs)
+    (λ c κs. search needs)
+    (λ c. search needs)
+    returns)

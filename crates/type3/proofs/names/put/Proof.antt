@@ -1,0 +1,65 @@
+-- `names::put` meets its contract: after i turns the names of the first i blocks are stored. Assumes nothing.
+use mathlib.Core.Path.{_≡_, refl, ap, _∙_}
+use Prim.Native.Nat.{_+_, _-_, _*_, _≤_}
+use native.Mathlib.Omega.{arith}
+use lib.ListN.{length, take, set, length-set}
+use lib.Seq.{sets, take-all}
+use Rattle.tag.specs.Bytes.{byte}
+use Rattle.type3.specs.Codec.{namesBytes}
+use Rattle.type3.proofs.Naming.{names-more}
+use borrow.Author.Needs.{needs}
+use Rattle.type3.proofs.names.put.Statement.{statement}
+use Rattle.type3.proofs.names.put.Tie as tie
+
+abbrev Inv-loop : tie.InvT-loop
+Inv-loop blocks bytes₀ i₀ bytes i = (i ≤ length blocks) × (length bytes ≡ length bytes₀) × (bytes ≡ sets bytes₀ 13 (namesBytes (take i blocks)))
+
+abbrev μ-loop : tie.MeasureT-loop
+μ-loop blocks bytes₀ i₀ bytes i = length blocks - i
+
+loop-holds : tie.Need-loop-holds Inv-loop μ-loop
+loop-holds c = (search needs, refl, refl)
+
+cast-bytes : tie.Need-cast-bytes Inv-loop μ-loop
+cast-bytes c = record { fits = omega (arith, c .before .before .before .pre .1 (c .before .before .loop .i) (omega arith)) }
+
+slice-write-bytes-2 : tie.Need-slice-write-bytes-2 Inv-loop μ-loop
+slice-write-bytes-2 c = simp length-set (omega arith)
+
+loop-again : tie.Need-loop-again Inv-loop μ-loop
+loop-again c =
+    let l = c .before .before .loop in
+    let a = c .before .before .before .args in
+    let b = byte (a .blocks .now) (l .i) in
+    let at = 13 + 2 * l .i in (
+      search needs,
+      simp length-set (l .inv .1),
+      ap (λ t. set (set t at 0x80) (at + 1) b) (l .inv .2) ∙ names-more (a .bytes .now) (a .blocks .now) (l .i) at (omega arith) refl,
+    )
+
+returns : tie.Need-returns Inv-loop μ-loop
+returns c =
+    let l = c .before .loop in
+    let a = c .before .before .args in
+    l .inv .2 ∙ ap (λ r. sets (a .bytes .now) 13 (namesBytes r)) (take-all (l .i) (a .blocks .now) (omega arith))
+
+pub put-spec : {M : Type 1} → statement M
+put-spec =
+    tie.close
+    (tie.spec
+    Inv-loop
+    μ-loop
+    loop-holds
+    (λ c. search needs)
+    (λ c. search needs)
+    (λ c. search needs)
+    (λ c. search needs)
+    (λ c. search needs)
+    cast-bytes
+    (λ c. search needs)
+    slice-write-bytes-2
+    (λ c. search needs)
+    (λ c. search needs)
+    loop-again
+    (λ c. search needs)
+    returns)

@@ -1,0 +1,223 @@
+// The codec of Type 3's write command: 08h, our manufacturer number, 01h, 09h 00h, the block count, a name for each block
+// and its sixteen bytes. It is told our number, Nbw and Nmaxb.
+
+use crate::Command;
+use crate::names;
+use tag::CountAnswer;
+use tag::slices;
+ghost use mathlib.Core.Path.{_≡_};
+ghost use mathlib.Core.Bool.{_&&_};
+ghost use mathlib.Core.List.{_++_, _∷_, []};
+ghost use Prim.Native.Nat.{_≤_};
+ghost use lib.Dec.{leb};
+ghost use lib.ListN.{length, take, drop};
+ghost use lib.Seq.{sets};
+ghost use Rattle.tag.specs.Answers.{countOf, countAs};
+ghost use Rattle.tag.specs.Bytes.{byte, same, overwrite};
+ghost use Rattle.tag.specs.TagType.{outputInto};
+ghost use Rattle.type3.specs.Update.{blocksPerCommand};
+ghost use Rattle.type3.specs.Codec.{nameable, wellNamed, opening, commandBytes, encode, decode};
+ghost use Rattle.type3.specs.InPlace.{numbers, framed, carried};
+ghost use Rattle.type3.specs.CodecViews.{decodedAs, commandAs, isCommand, PutAsked, Framed};
+
+// The answer of `decode`: a refusal with an empty command, or 0 and the command.
+pub struct Decoded {
+    pub refusal: u8,
+    pub command: Command,
+}
+
+// May a command name so many blocks.
+fn countable(count: usize, nbw: usize) -> bool
+    ensures { λ r. ⌜ r ≡ leb 1 count && leb count (blocksPerCommand nbw) ⌝ }
+{
+    if count < 1 {
+        return false;
+    }
+    if nbw < count {
+        return false;
+    }
+    if 8 < count {
+        return false;
+    }
+    true
+}
+
+// Writes the bytes up to the block count, and the count.
+fn put_opening(number: &[u8], count: usize, bytes: &mut [u8])
+    requires { ⌜ (length (now number) ≡ 8) × (count ≤ 255) × (13 ≤ length (now bytes)) ⌝ }
+    ensures { λ _. ⌜ now (bytes .exit) ≡ sets (now (bytes .entry)) 0 (opening (now (number .entry)) ++ count ∷ []) ⌝ }
+{
+    bytes[0] = 0x08;
+    slices::store(number, 1, bytes);
+    bytes[9] = 0x01;
+    bytes[10] = 0x09;
+    bytes[11] = 0x00;
+    bytes[12] = count as u8;
+}
+
+// Writes a command whose blocks may be named.
+fn put(number: &[u8], blocks: &[usize], sixteens: &[u8], bytes: &mut [u8])
+    requires { ⌜ PutAsked (now number) (now blocks) (now sixteens) (now bytes) ⌝ }
+    ensures { λ _. ⌜ now (bytes .exit) ≡ overwrite (commandBytes (now (number .entry)) (now (blocks .entry)) (now (sixteens .entry))) (now (bytes .entry)) ⌝ }
+{
+    let count = blocks.len();
+    put_opening(number, count, bytes);
+    names::put(blocks, bytes);
+    slices::store(sixteens, 13 + 2 * count, bytes);
+}
+
+// May a command name the first `count` of the blocks.
+fn well_named(count: usize, blocks: &[usize], nbw: usize, nmaxb: usize) -> bool
+    requires { ⌜ length (now blocks) ≡ 8 ⌝ }
+    ensures { λ r. ⌜ r ≡ leb count (length (now (blocks .entry))) && wellNamed nbw nmaxb (take count (now (blocks .entry))) ⌝ }
+{
+    if countable(count, nbw) {
+        return names::nameable(&blocks[..count], nmaxb);
+    }
+    false
+}
+
+// Encodes the command of the first `count` blocks.
+fn encode_parts(
+    count: usize,
+    blocks: &[usize],
+    sixteens: &[u8],
+    number: &[u8],
+    nbw: usize,
+    nmaxb: usize,
+    bytes: &mut [u8],
+) -> CountAnswer
+    requires { ⌜ (length (now blocks) ≡ 8) × (length (now sixteens) ≡ 128) × (length (now number) ≡ 8) ⌝ }
+    ensures answer { λ r. ⌜ countAs r ≡ countOf (encode (now (number .entry)) nbw nmaxb count (now (blocks .entry)) (now (sixteens .entry)) (length (now (bytes .entry)))) ⌝ }
+    ensures written { λ _. ⌜ now (bytes .exit) ≡ outputInto (now (bytes .entry)) (encode (now (number .entry)) nbw nmaxb count (now (blocks .entry)) (now (sixteens .entry)) (length (now (bytes .entry)))) ⌝ }
+{
+    if !well_named(count, blocks, nbw, nmaxb) {
+        return CountAnswer::Refused(20);
+    }
+    let size = 13 + 18 * count;
+    if bytes.len() < size {
+        return CountAnswer::Refused(12);
+    }
+    let filled = 16 * count;
+    put(number, &blocks[..count], &sixteens[..filled], bytes);
+    CountAnswer::Count(size)
+}
+
+// Writes the command's bytes to the front of `bytes`: 20 if its blocks may not be named together, 12 if the bytes do not fit.
+pub fn encode(
+    command: Command,
+    number: &[u8; 8],
+    nbw: usize,
+    nmaxb: usize,
+    bytes: &mut [u8],
+) -> CountAnswer
+    ensures answer { λ r. ⌜ countAs r ≡ countOf (encode (now (number .entry)) nbw nmaxb (command .count) (command .blocks) (command .bytes) (length (now (bytes .entry)))) ⌝ }
+    ensures written { λ _. ⌜ now (bytes .exit) ≡ outputInto (now (bytes .entry)) (encode (now (number .entry)) nbw nmaxb (command .count) (command .blocks) (command .bytes) (length (now (bytes .entry)))) ⌝ }
+{
+    let count = command.count;
+    let blocks = command.blocks;
+    let sixteens = command.bytes;
+    encode_parts(count, &blocks, &sixteens, number, nbw, nmaxb, bytes)
+}
+
+// Whether the first twelve bytes are those of our commands.
+fn opens(bytes: &[u8], number: &[u8]) -> bool
+    requires { ⌜ (12 ≤ length (now bytes)) × (length (now number) ≡ 8) ⌝ }
+    ensures { λ r. ⌜ r ≡ same (take 12 (now (bytes .entry))) (opening (now (number .entry))) ⌝ }
+{
+    if bytes[0] != 0x08 {
+        return false;
+    }
+    if !slices::same(&bytes[1..9], number) {
+        return false;
+    }
+    if bytes[9] != 0x01 {
+        return false;
+    }
+    if bytes[10] != 0x09 {
+        return false;
+    }
+    bytes[11] == 0x00
+}
+
+// Whether the bytes have a command's count, length, opening and names; the blocks may still be wrong.
+fn is_framed(bytes: &[u8], number: &[u8], nbw: usize) -> bool
+    requires { ⌜ length (now number) ≡ 8 ⌝ }
+    ensures { λ r. ⌜ r ≡ framed (now (number .entry)) nbw (now (bytes .entry)) ⌝ }
+{
+    if bytes.len() < 13 {
+        return false;
+    }
+    let count = bytes[12] as usize;
+    if !countable(count, nbw) {
+        return false;
+    }
+    if bytes.len() != 13 + 18 * count {
+        return false;
+    }
+    if !opens(bytes, number) {
+        return false;
+    }
+    names::marked(bytes, count)
+}
+
+// Whether the blocks that framed bytes name may be named together.
+fn blocks_fit(bytes: &[u8], nmaxb: usize) -> bool
+    requires { ⌜ Framed (now bytes) ⌝ }
+    ensures { λ r. ⌜ r ≡ nameable nmaxb (numbers (byte (now (bytes .entry)) 12) (drop 13 (now (bytes .entry)))) ⌝ }
+{
+    let count = bytes[12] as usize;
+    let mut blocks = [0usize; 8];
+    names::take(bytes, count, nmaxb, &mut blocks)
+}
+
+// Whether the bytes are a well-formed command.
+pub fn is_command(bytes: &[u8], number: &[u8; 8], nbw: usize, nmaxb: usize) -> bool
+    ensures { λ r. ⌜ r ≡ isCommand (decode (now (number .entry)) nbw nmaxb (now (bytes .entry))) ⌝ }
+{
+    if is_framed(bytes, number, nbw) {
+        return blocks_fit(bytes, nmaxb);
+    }
+    false
+}
+
+// The command that framed bytes hold.
+fn carried(bytes: &[u8]) -> Command
+    requires { ⌜ Framed (now bytes) ⌝ }
+    ensures { λ r. ⌜ r ≡ commandAs (carried (now (bytes .entry))) ⌝ }
+{
+    let count = bytes[12] as usize;
+    let mut blocks = [0usize; 8];
+    names::read(bytes, count, &mut blocks);
+    let start = 13 + 2 * count;
+    let mut sixteens = [0u8; 128];
+    slices::store(&bytes[start..], 0, &mut sixteens);
+    Command {
+        count,
+        blocks,
+        bytes: sixteens,
+    }
+}
+
+// Reads a command: 20 if the bytes are not well formed.
+pub fn decode(bytes: &[u8], number: &[u8; 8], nbw: usize, nmaxb: usize) -> Decoded
+    ensures is { λ r. ⌜ decodedAs r ≡ decode (now (number .entry)) nbw nmaxb (now (bytes .entry)) ⌝ }
+    ensures command { λ r. ⌜ r .command ≡ commandAs (decode (now (number .entry)) nbw nmaxb (now (bytes .entry))) ⌝ }
+{
+    if is_command(bytes, number, nbw, nmaxb) {
+        let command = carried(bytes);
+        return Decoded {
+            refusal: 0,
+            command,
+        };
+    }
+    let command = Command {
+        count: 0,
+        blocks: [0usize; 8],
+        bytes: [0u8; 128],
+    };
+    Decoded {
+        refusal: 20,
+        command,
+    }
+}

@@ -1,0 +1,95 @@
+// How a command names its blocks: 80h and the block's number, a byte.
+
+ghost use mathlib.Core.Path.{_≡_};
+ghost use Prim.Native.Nat.{ℕ, _+_, _*_, _<_, _≤_};
+ghost use lib.ListN.{length, drop, getD};
+ghost use lib.Seq.{sets};
+ghost use Rattle.tag.specs.Bytes.{has};
+ghost use Rattle.type3.specs.Codec.{namesBytes, nameable};
+ghost use Rattle.type3.specs.InPlace.{marked, numbers};
+
+// Whether the block is among them.
+fn has(blocks: &[usize], block: usize) -> bool
+    ensures { λ r. ⌜ r ≡ has block (now (blocks .entry)) ⌝ }
+{
+    let mut i = 0usize;
+    while i < blocks.len() {
+        if block == blocks[i] {
+            return true;
+        }
+        i += 1;
+    }
+    false
+}
+
+// Whether each block is at most Nmaxb and a byte, and none is named twice.
+pub fn nameable(blocks: &[usize], nmaxb: usize) -> bool
+    ensures { λ r. ⌜ r ≡ nameable nmaxb (now (blocks .entry)) ⌝ }
+{
+    let mut i = 0usize;
+    while i < blocks.len() {
+        let block = blocks[i];
+        if nmaxb < block {
+            return false;
+        }
+        if 255 < block {
+            return false;
+        }
+        if has(&blocks[i + 1..], block) {
+            return false;
+        }
+        i += 1;
+    }
+    true
+}
+
+// Writes the names from byte 13 on.
+pub fn put(blocks: &[usize], bytes: &mut [u8])
+    requires { ⌜ (13 + 2 * length (now blocks) ≤ length (now bytes)) × ((i : ℕ) → i < length (now blocks) → getD (now blocks) i 0 ≤ 255) ⌝ }
+    ensures { λ _. ⌜ now (bytes .exit) ≡ sets (now (bytes .entry)) 13 (namesBytes (now (blocks .entry))) ⌝ }
+{
+    let mut i = 0usize;
+    while i < blocks.len() {
+        let at = 13 + 2 * i;
+        bytes[at] = 0x80;
+        bytes[at + 1] = blocks[i] as u8;
+        i += 1;
+    }
+}
+
+// Whether each of the `count` names from byte 13 on begins with 80h.
+pub fn marked(bytes: &[u8], count: usize) -> bool
+    requires { ⌜ 13 + 2 * count ≤ length (now bytes) ⌝ }
+    ensures { λ r. ⌜ r ≡ marked count (drop 13 (now (bytes .entry))) ⌝ }
+{
+    let mut i = 0usize;
+    while i < count {
+        if bytes[13 + 2 * i] != 0x80 {
+            return false;
+        }
+        i += 1;
+    }
+    true
+}
+
+// Reads the numbers of the `count` blocks that are named from byte 13 on.
+pub fn read(bytes: &[u8], count: usize, blocks: &mut [usize])
+    requires { ⌜ (13 + 2 * count ≤ length (now bytes)) × (count ≤ length (now blocks)) ⌝ }
+    ensures { λ _. ⌜ now (blocks .exit) ≡ sets (now (blocks .entry)) 0 (numbers count (drop 13 (now (bytes .entry)))) ⌝ }
+{
+    let mut i = 0usize;
+    while i < count {
+        blocks[i] = bytes[14 + 2 * i] as usize;
+        i += 1;
+    }
+}
+
+// Reads them, and says whether a command may name them together.
+pub fn take(bytes: &[u8], count: usize, nmaxb: usize, blocks: &mut [usize]) -> bool
+    requires { ⌜ (13 + 2 * count ≤ length (now bytes)) × (count ≤ length (now blocks)) ⌝ }
+    ensures named { λ r. ⌜ r ≡ nameable nmaxb (numbers count (drop 13 (now (bytes .entry)))) ⌝ }
+    ensures taken { λ _. ⌜ now (blocks .exit) ≡ sets (now (blocks .entry)) 0 (numbers count (drop 13 (now (bytes .entry)))) ⌝ }
+{
+    read(bytes, count, blocks);
+    nameable(&blocks[..count], nmaxb)
+}
