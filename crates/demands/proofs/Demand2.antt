@@ -2,17 +2,13 @@
 -- reading is the message.
 -- Assumes nothing.
 use mathlib.Core.Path.{_≡_, refl, sym, ap, _∙_}
-use mathlib.Core.Bool.{Bool, true, false, _&&_, cond}
-use mathlib.Core.List.{List, [], _∷_, _++_}
-use Prim.Native.Nat.{ℕ, _+_, _≤_}
-use native.Mathlib.Omega.{arith}
-use borrow.Author.Tests.{leb-true, ltb-false, le-leb}
-use lib.Dec.{leb, ltb}
-use lib.ListN.{length, take, drop, length-map, length-append}
-use lib.Seq.{take-append-seam}
-use Rattle.tag.specs.Bytes.{overwrite}
+use mathlib.Core.Bool.{Bool, true, false}
+use mathlib.Core.List.{List}
+use Prim.Native.Nat.{ℕ}
+use lib.Dec.{leb}
+use lib.ListN.{length, length-map}
 use Rattle.tag.specs.Refusals.{short-buffer}
-use Rattle.tag.specs.Reading.{What, message, empty, being-written, Report, reads, tooShort, answerOf, gatheredInto, part, shown, holds}
+use Rattle.tag.specs.Reading.{holds}
 use Rattle.tag.specs.Stores.{stores}
 use Rattle.tag.specs.Plan.{Plan, list}
 use Rattle.tag.specs.TagType.{TagType, held, Writing, unwritten, written, writing, Output, withheld, output, fitted, writeBy, write, listBytes, commands}
@@ -20,6 +16,7 @@ use Rattle.tag.specs.Cuts.{Ready}
 use Rattle.tag.proofs.Logic.{nope}
 use Rattle.tag.proofs.Writes.{Sound}
 use Rattle.tag.proofs.Laws.{Laws, written-ready}
+use Rattle.tag.proofs.Showing.{shown-part}
 use Rattle.demands.specs.Demand3.{cutOf, ourBytes, ourImage}
 use Rattle.demands.specs.Demand2.{Demand2}
 use Rattle.demands.proofs.Demand3.{our-commands, our-image}
@@ -31,12 +28,6 @@ fitted-is room k n bytes all e = go (leb (length bytes) room) refl
     go : (b : Bool) → leb (length bytes) room ≡ b → (k ≡ n) × (bytes ≡ all)
     go false q = let f : withheld short-buffer ≡ output n all = rw q at e in absurd (nope (cc))
     go true q = let f : output k bytes ≡ output n all = rw q at e in (cc, cc)
-
--- the front of a buffer that was written over
-part-front : (bytes buffer : List ℕ) → length bytes ≤ length buffer → part 0 (length bytes) (overwrite bytes buffer) ≡ bytes
-part-front bytes buffer l =
-    let k : 0 + length bytes ≤ length (overwrite bytes buffer) = rw length-append (omega arith) in
-    rw (le-leb (0 + length bytes) (length (overwrite bytes buffer)) k) (take-append-seam bytes (drop (length bytes) buffer))
 
 module _ (T : TagType) (L : Laws T) where
   reads-back : (room n : ℕ) (i m bytes : List ℕ) → write T room i m ≡ output n bytes
@@ -54,22 +45,8 @@ module _ (T : TagType) (L : Laws T) where
           = sym k ∙ ap (λ p. length (list p i)) (sym u) ∙ sym (ap length (our-commands T L i m r) ∙ length-map (list ((T .plan) i m) i) stores) in
           (c ∙ ap (λ all. length (commands T i all)) b′, rw (← b′, c) (ap (held T) (our-image T L i m r) ∙ L .sound i m r .new-reads))
 
-  shown-part : (i buffer : List ℕ) (p : Report) → (T .reading) i ≡ reads p → tooShort (length buffer) p ≡ false
-      → shown i (gatheredInto buffer (reads p)) (answerOf (length buffer) (reads p)) ≡ p .bytes
-  shown-part i buffer p e f = rw f (go (p .what) refl (p .interrupted) refl)
-    where
-      go : (w : What) → p .what ≡ w → (b : Bool) → p .interrupted ≡ b
-          → shown i (cond (p .interrupted) (overwrite (p .bytes) buffer) buffer)
-          (Rattle.tag.specs.Reading.answer (p .what) (p .address) (length (p .bytes)) (p .interrupted) (p .writable)) ≡ p .bytes
-      go message q true r =
-          let l : length (p .bytes) ≤ length buffer = ltb-false (length buffer) (length (p .bytes)) (rw r at f) in
-          rw (q, r) (part-front (p .bytes) buffer l)
-      go message q false r = rw (q, r) (L .in-place i p e q r)
-      go empty q b r = rw q (sym (L .wordless i p e (λ z. let y : empty ≡ message = sym q ∙ z in nope (cc))))
-      go being-written q b r = rw q (sym (L .wordless i p e (λ z. let y : being-written ≡ message = sym q ∙ z in nope (cc))))
-
   pub claim : Demand2 T
   claim = record {
     written-reads = reads-back;
-    shown-is = λ i buffer p e f. rw e (shown-part i buffer p e f);
+    shown-is = λ i buffer p e f. rw e (shown-part T L i buffer p e f);
   }

@@ -16,3 +16,4 @@ pub mod Pieces
 pub mod Laws
 pub mod Same
 pub mod Storing
+pub mod Showing

@@ -1,6 +1,7 @@
 -- The code's answers as the definitions have them: each case of an enum with its number and its values. The contracts of the
 -- public functions go through these.
 -- Assumes nothing.
+use mathlib.Core.Bool.{Bool, true, false, cond}
 use mathlib.Core.List.{List}
 use Prim.Native.Nat.{ℕ}
 use Rattle.tag.specs.declared.What as code
@@ -13,7 +14,7 @@ use Rattle.tag.specs.declared.JudgeAnswer.{JudgeAnswer}
 use Rattle.tag.specs.declared.JudgeAnswer.the-variants as judged
 use Rattle.tag.specs.declared.ModelAnswer.{ModelAnswer}
 use Rattle.tag.specs.declared.ModelAnswer.the-variants as modelled
-use Rattle.tag.specs.Reading.{What, message, empty, being-written, Answer, refusal, answer}
+use Rattle.tag.specs.Reading.{What, message, empty, being-written, Answer, refusal, answer, Held, broken, nothing, holds, heldAs}
 use Rattle.tag.specs.TagType.{Output, withheld, output}
 use Rattle.tag.specs.Judge.{Verdict, accepted, refused}
 use Rattle.tag.specs.Model.{Modelled, unstored, stored}
@@ -58,3 +59,19 @@ storingOf (stored j) = storing
 abbrev pub modelAs : ModelAnswer → Storing
 modelAs (modelled.Refused r) = unstoring r
 modelAs modelled.Stored = storing
+
+-- ---- a tag by what was answered of it and the part that was shown
+
+abbrev pub heldBy : Answer → List ℕ → Held
+heldBy (refusal r) part = broken
+heldBy (answer what a n interrupted w) part = heldAs what part
+
+-- the old message, if there was one
+abbrev pub oldHeld : Bool → List ℕ → Held
+oldHeld b old = cond b (holds old) nothing
+
+abbrev pub isMessage : Answer → Bool
+isMessage (refusal r) = false
+isMessage (answer message a n interrupted w) = true
+isMessage (answer empty a n interrupted w) = false
+isMessage (answer being-written a n interrupted w) = false

@@ -32,11 +32,14 @@ holdsAs broken m = false
 holdsAs nothing m = false
 holdsAs (holds x) m = same m x
 
--- does the tag read as the old message, as none, or as the new one
+-- does a tag that holds this read as none, as the new message, or as the old one
+abbrev pub readsAs : List ℕ → Held → Held → Bool
+readsAs new old broken = false
+readsAs new old nothing = true
+readsAs new old (holds x) = same x new || holdsAs old x
+
 abbrev pub reads : Task → Held → Bool
-reads t broken = false
-reads t nothing = true
-reads t (holds x) = same x (t .wanted) || holdsAs ((t .held) (t .start)) x
+reads t h = readsAs (t .wanted) ((t .held) (t .start)) h
 
 -- does the tag j have the bytes of i at each of the addresses that the test picks
 abbrev pub equalAt : (ℕ → Bool) → List ℕ → List ℕ → List ℕ → Bool

@@ -27,6 +27,11 @@ pub data Reading : Type 0 where
   unreadable : ℕ → Reading
   reads : Report → Reading
 
+-- 0, or the refusal's number
+abbrev pub refusalNumber : Reading → ℕ
+refusalNumber (unreadable r) = r
+refusalNumber (reads p) = 0
+
 -- the answer of `read`: a refusal; or which it is, address, length, interrupted, writable
 pub data Answer : Type 0 where
   refusal : ℕ → Answer

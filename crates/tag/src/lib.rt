@@ -1,5 +1,6 @@
 // What every type of tag shares: addresses and blocks, and the answers of the public functions. A refusal is its number.
 
+pub mod holding;
 pub mod kept;
 pub mod slices;
 

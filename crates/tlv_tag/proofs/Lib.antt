@@ -1,1 +1,2 @@
 -- Laws that the code over a tag with a TLV area needs.
+pub mod Reading

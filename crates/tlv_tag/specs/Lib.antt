@@ -1,1 +1,2 @@
 -- Views of the code over a tag with a TLV area.
+pub mod Reading

@@ -1,1 +1,3 @@
 // Tags that have a TLV area, whatever else their type: reading the message, and where a message goes.
+
+pub mod read;

@@ -4,3 +4,4 @@ pub mod Refusing
 pub mod Codec
 pub mod Laws
 pub mod Encoding
+pub mod Reading

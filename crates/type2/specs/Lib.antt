@@ -4,3 +4,4 @@ pub mod Codec
 pub mod Type2
 pub mod Views
 pub mod CodecViews
+pub mod Table

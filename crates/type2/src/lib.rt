@@ -2,6 +2,7 @@
 
 pub mod commands;
 pub mod container;
+pub mod read;
 
 use tag::Block;
 

@@ -1,0 +1,58 @@
+-- What reading answers, the gathering buffer and the part shown, put together: the part shown is the message, so that a tag
+-- can be compared by its answer and that part.
+-- Assumes nothing.
+use mathlib.Core.Path.{_≡_, refl, sym, ap, _∙_}
+use mathlib.Core.Bool.{Bool, true, false, _&&_, cond}
+use mathlib.Core.List.{List, [], _++_}
+use Prim.Native.Nat.{ℕ, _+_, _≤_}
+use native.Mathlib.Omega.{arith}
+use borrow.Author.Tests.{ltb-false, le-leb, le-ltb}
+use lib.Dec.{leb, ltb}
+use lib.ListN.{length, drop, length-append}
+use lib.Seq.{take-append-seam}
+use Rattle.tag.specs.Bytes.{overwrite}
+use Rattle.tag.specs.Reading.{What, message, empty, being-written, Report, Reading, unreadable, reads, tooShort, answer, answerOf, gatheredInto, part, shown, heldOf}
+use Rattle.tag.specs.TagType.{TagType, held}
+use Rattle.tag.specs.Answers.{heldBy}
+use Rattle.tag.proofs.Logic.{nope}
+use Rattle.tag.proofs.Laws.{Laws}
+
+-- the front of a buffer that was written over
+part-front : (bytes buffer : List ℕ) → length bytes ≤ length buffer → part 0 (length bytes) (overwrite bytes buffer) ≡ bytes
+part-front bytes buffer l =
+    let k : 0 + length bytes ≤ length (overwrite bytes buffer) = rw length-append (omega arith) in
+    rw (le-leb (0 + length bytes) (length (overwrite bytes buffer)) k) (take-append-seam bytes (drop (length bytes) buffer))
+
+module _ (T : TagType) (L : Laws T) where
+  pub shown-part : (i buffer : List ℕ) (p : Report) → (T .reading) i ≡ reads p → tooShort (length buffer) p ≡ false
+      → shown i (gatheredInto buffer (reads p)) (answerOf (length buffer) (reads p)) ≡ p .bytes
+  shown-part i buffer p e f = rw f (go (p .what) refl (p .interrupted) refl)
+    where
+      go : (w : What) → p .what ≡ w → (b : Bool) → p .interrupted ≡ b
+          → shown i (cond (p .interrupted) (overwrite (p .bytes) buffer) buffer) (answer (p .what) (p .address) (length (p .bytes)) (p .interrupted) (p .writable)) ≡ p .bytes
+      go message q true r =
+          let l : length (p .bytes) ≤ length buffer = ltb-false (length buffer) (length (p .bytes)) (rw r at f) in
+          rw (q, r) (part-front (p .bytes) buffer l)
+      go message q false r = rw (q, r) (L .in-place i p e q r)
+      go empty q b r = rw q (sym (L .wordless i p e (λ z. let y : empty ≡ message = sym q ∙ z in nope (cc))))
+      go being-written q b r = rw q (sym (L .wordless i p e (λ z. let y : being-written ≡ message = sym q ∙ z in nope (cc))))
+
+  -- with a gathering buffer that every message fits, the tag holds what its answer and the part shown say
+  pub held-shown : (i buffer : List ℕ) → ((p : Report) → (T .reading) i ≡ reads p → length (p .bytes) ≤ length buffer)
+      → heldBy (answerOf (length buffer) ((T .reading) i)) (shown i (gatheredInto buffer ((T .reading) i)) (answerOf (length buffer) ((T .reading) i))) ≡ held T i
+  held-shown i buffer fits = go ((T .reading) i) refl
+    where
+      roomy : (p : Report) → length (p .bytes) ≤ length buffer → tooShort (length buffer) p ≡ false
+      roomy p l = let z : ltb (length buffer) (length (p .bytes)) ≡ false = le-ltb (length buffer) (length (p .bytes)) l in or-none (p .interrupted) (ltb (length buffer) (length (p .bytes))) z
+        where
+          or-none : (a b : Bool) → b ≡ false → a && b ≡ false
+          or-none true b q = q
+          or-none false b q = refl
+
+      go : (v : Reading) → (T .reading) i ≡ v
+          → heldBy (answerOf (length buffer) v) (shown i (gatheredInto buffer v) (answerOf (length buffer) v)) ≡ heldOf v
+      go (unreadable r) q = refl
+      go (reads p) q =
+          let f : tooShort (length buffer) p ≡ false = roomy p (fits p q) in
+          let s : shown i (gatheredInto buffer (reads p)) (answerOf (length buffer) (reads p)) ≡ p .bytes = shown-part i buffer p q f in
+          ap (heldBy (answerOf (length buffer) (reads p))) s ∙ rw f

@@ -1,0 +1,85 @@
+// What the judge asks of a tag that was read: by the answer of reading and the part shown.
+
+use crate::ReadAnswer;
+use crate::Report;
+use crate::What;
+use crate::slices;
+ghost use mathlib.Core.Path.{_≡_};
+ghost use mathlib.Core.Bool.{_||_, _&&_};
+ghost use Rattle.tag.specs.Bytes.{same};
+ghost use Rattle.tag.specs.Judge.{holdsAs, readsAs};
+ghost use Rattle.tag.specs.Answers.{readAs, heldBy, oldHeld, isMessage};
+
+// Does the tag hold a message?
+pub fn is_message(answer: ReadAnswer) -> bool
+    ensures { λ r. ⌜ r ≡ isMessage (readAs answer) ⌝ }
+{
+    match answer {
+        ReadAnswer::Refused(_) => false,
+        ReadAnswer::Reads(report) => {
+            let what = report.what;
+            match what {
+                What::Message => true,
+                What::Empty => false,
+                What::BeingWritten => false,
+            }
+        }
+    }
+}
+
+// Does a tag that reads hold just this message?
+fn holds_of(report: Report, shown: &[u8], message: &[u8]) -> bool
+    ensures { λ r. ⌜ r ≡ holdsAs (heldBy (readAs (ReadAnswer.Reads report)) (now (shown .entry))) (now (message .entry)) ⌝ }
+{
+    let what = report.what;
+    match what {
+        What::Message => slices::same(message, shown),
+        What::Empty => false,
+        What::BeingWritten => false,
+    }
+}
+
+// Does the tag hold just this message?
+pub fn holds(answer: ReadAnswer, shown: &[u8], message: &[u8]) -> bool
+    ensures { λ r. ⌜ r ≡ holdsAs (heldBy (readAs answer) (now (shown .entry))) (now (message .entry)) ⌝ }
+{
+    match answer {
+        ReadAnswer::Refused(_) => false,
+        ReadAnswer::Reads(report) => holds_of(report, shown, message),
+    }
+}
+
+// Is a message the new one, or the old one where the tag had one?
+fn is_either(shown: &[u8], new: &[u8], old: &[u8], had: bool) -> bool
+    ensures { λ r. ⌜ r ≡ (same (now (shown .entry)) (now (new .entry)) || holdsAs (oldHeld had (now (old .entry))) (now (shown .entry))) ⌝ }
+{
+    if slices::same(shown, new) {
+        return true;
+    }
+    if had {
+        return slices::same(shown, old);
+    }
+    false
+}
+
+// Does a tag that reads hold none, the new message, or the old one?
+fn is_safe_of(report: Report, shown: &[u8], new: &[u8], old: &[u8], had: bool) -> bool
+    ensures { λ r. ⌜ r ≡ readsAs (now (new .entry)) (oldHeld had (now (old .entry))) (heldBy (readAs (ReadAnswer.Reads report)) (now (shown .entry))) ⌝ }
+{
+    let what = report.what;
+    match what {
+        What::Message => is_either(shown, new, old, had),
+        What::Empty => true,
+        What::BeingWritten => true,
+    }
+}
+
+// Does the tag read as none, as the new message, or as the old one?
+pub fn is_safe(answer: ReadAnswer, shown: &[u8], new: &[u8], old: &[u8], had: bool) -> bool
+    ensures { λ r. ⌜ r ≡ readsAs (now (new .entry)) (oldHeld had (now (old .entry))) (heldBy (readAs answer) (now (shown .entry))) ⌝ }
+{
+    match answer {
+        ReadAnswer::Refused(_) => false,
+        ReadAnswer::Reads(report) => is_safe_of(report, shown, new, old, had),
+    }
+}

@@ -1,0 +1,139 @@
+-- What the code answers at each step, against the reading of a tag that has a TLV area.
+-- Assumes nothing.
+use mathlib.Core.Path.{_≡_, refl, sym, ap, _∙_}
+use mathlib.Core.Bool.{Bool, true, false, cond}
+use mathlib.Core.List.{List, [], map}
+use Prim.Native.Nat.{ℕ, _-_, _<_, _≤_}
+use native.Mathlib.Omega.{arith}
+use borrow.Author.Tests.{le-leb, lt-leb, lt-ltb, le-ltb}
+use lib.Dec.{leb, leb·zero}
+use lib.ListN.{length, take, length-map}
+use lib.Seq.{length-take-le}
+use Rattle.tag.specs.declared.Address.{Address}
+use Rattle.tag.specs.declared.Report as code
+use Rattle.tag.specs.declared.ReadAnswer.{ReadAnswer}
+use Rattle.tag.specs.declared.ReadAnswer.the-variants as read
+use Rattle.tag.specs.Bytes.{byte, overwrite}
+use Rattle.tag.specs.Checks.{fine, fault, firstOf}
+use Rattle.tag.specs.Reading.{message, Reading, unreadable, reads, answerOf, gatheredInto, refusalNumber}
+use Rattle.tag.specs.Answers.{readAs}
+use Rattle.tlv.specs.declared.walk.Walk.{Walk}
+use Rattle.tlv.specs.declared.find.Found as code-found
+use Rattle.tlv.specs.declared.find.Found.the-variants as code-at
+use Rattle.tlv.specs.Areas.{anyArea}
+use Rattle.tlv.specs.Walk.{Length, bad, len, lengthOf, Passed, more, stop, passValue, find, messageTlv}
+use Rattle.tlv.specs.Message.{TlvTag, View, refuse, view, viewBy, viewOf, viewed, reportOf, readingOf, reading}
+use Rattle.tlv.specs.Views.{ahead}
+use Rattle.tlv.specs.Finding.{foundAs}
+use Rattle.tlv.specs.Values.{at, measured}
+use Rattle.tlv.proofs.Measured.{report-measured}
+use Rattle.tlv.proofs.Finding.{find-all}
+use Rattle.tlv_tag.specs.Reading.{areaView, tlvView, valueReading, refusalOf, reportAs, Blank}
+
+-- the answer and the gathering buffer afterwards are those of a reading
+abbrev pub Answers : ReadAnswer → List ℕ → List ℕ → Reading → Type 0
+Answers r before after x = (readAs r ≡ answerOf (length before) x) × (after ≡ gatheredInto before x)
+
+-- ---- a message, whether it is interrupted and fits the buffer
+
+module _ (i us buffer : List ℕ) (p : code.Report) (room : p .length ≤ length us) where
+  size : length (map (byte i) (take (p .length) us)) ≡ p .length
+  size = length-map (take (p .length) us) (byte i) ∙ length-take-le (p .length) us room
+
+  pub whole : p .interrupted ≡ false → Answers (read.Reads p) buffer buffer (reads (reportAs i us p))
+  whole e = rw (e, size) (refl, refl)
+
+  pub unfit : p .interrupted ≡ true → length buffer < p .length → Answers (read.Refused 13) buffer buffer (reads (reportAs i us p))
+  unfit e l = rw (e, size, lt-ltb (length buffer) (p .length) l) (refl, refl)
+
+  pub fit : (after : List ℕ) → p .interrupted ≡ true → p .length ≤ length buffer → after ≡ overwrite (map (byte i) (take (p .length) us)) buffer
+      → Answers (read.Reads p) buffer after (reads (reportAs i us p))
+  fit after e l q = rw (e, size, le-ltb (length buffer) (p .length) l) (refl, rw size at q)
+
+-- ---- a value by its length
+
+module _ (w : Bool) (i us : List ℕ) where
+  pub value-none : (n : ℕ) → n ≡ 0 → valueReading w i n us ≡ reads (reportOf w i [])
+  unfolding valueReading
+  value-none n e = rw (e, leb·zero (length us))
+
+  pub value-short : (n : ℕ) → length us < n → valueReading w i n us ≡ unreadable 7
+  unfolding valueReading
+  value-short n l = rw (lt-leb n (length us) l)
+
+  pub value-measured : (n a : ℕ) (b : Bool) → 1 ≤ n → n ≤ length us → at a b ≡ measured n us
+      → valueReading w i n us ≡ reads (record { what = message; bytes = map (byte i) (take n us); address = a; interrupted = b; writable = w })
+  unfolding valueReading measured
+  value-measured n a b k l e =
+      let q = rw (le-leb n (length us) l) at e in
+      rw (le-leb n (length us) l) (cc (report-measured w i us n k l))
+
+-- ---- the message TLV by its length field
+
+value-is : (w : Bool) (i us vs : List ℕ) (n : ℕ) → readingOf w i (viewBy us (len n vs)) ≡ valueReading w i n vs
+unfolding viewBy valueReading
+value-is w i us vs n = go (leb n (length vs))
+  where
+    go : (b : Bool) → readingOf w i (cond b (view us (take n vs)) (refuse 7)) ≡ cond b (reads (reportOf w i (take n vs))) (unreadable 7)
+    go true = refl
+    go false = refl
+
+module _ (w : Bool) (i us : List ℕ) where
+  pub field-bad : bad ≡ lengthOf i us → readingOf w i (tlvView i us) ≡ unreadable 7
+  unfolding viewBy
+  field-bad e = ap (λ l. readingOf w i (viewBy us l)) (sym e)
+
+  pub field-is : (n : ℕ) (vs : List ℕ) → len n vs ≡ lengthOf i us → readingOf w i (tlvView i us) ≡ valueReading w i n vs
+  field-is n vs e = ap (λ l. readingOf w i (viewBy us l)) (sym e) ∙ value-is w i us vs n
+
+-- a refusal by passing the TLV over
+abbrev passRefusal : Passed → ℕ
+passRefusal (more us) = 0
+passRefusal (stop r) = r
+
+pass-refusal : (us : List ℕ) (l : Length) → passRefusal (passValue l) ≡ refusalOf (viewBy us l)
+unfolding viewBy passValue
+pass-refusal us bad = refl
+pass-refusal us (len n vs) = go (leb n (length vs)) refl
+  where
+    go : (b : Bool) → leb n (length vs) ≡ b → passRefusal (passValue (len n vs)) ≡ refusalOf (viewBy us (len n vs))
+    go true e = rw (e, passValue, viewBy)
+    go false e = rw (e, passValue, viewBy)
+
+module _ (i us : List ℕ) where
+  pub stopped : (r : ℕ) → stop r ≡ passValue (lengthOf i us) → r ≡ refusalOf (tlvView i us)
+  stopped r e = ap passRefusal e ∙ pass-refusal us (lengthOf i us)
+
+  pub passed : (vs : List ℕ) → more vs ≡ passValue (lengthOf i us) → 0 ≡ refusalOf (tlvView i us)
+  passed vs e = ap passRefusal e ∙ pass-refusal us (lengthOf i us)
+
+-- ---- the data area by what the walk over it found: t is the table before, u the table afterwards
+
+module _ (i t u : List ℕ) (first end : ℕ) (w : Walk) (f : code-found.Found) (blank : Blank i t first end) (start : (w .at .0 ≡ first) × (w .end .0 ≡ end))
+    (walked : foundAs u f ≡ find anyArea (w .end .0 - w .at .0) i (ahead t w)) where
+  area-is : areaView i first end ≡ viewOf i (foundAs u f)
+  area-is =
+      ap (viewOf i)
+      (sym (walked ∙ ap (λ s. find anyArea (w .end .0 - w .at .0) i (ahead s w)) (blank .clear)
+      ∙ find-all (length t) i w first (end - first) (start .0) (omega arith) (omega arith)))
+
+  pub area-lost : (r : ℕ) → f ≡ code-at.Lost r → areaView i first end ≡ refuse r
+  area-lost r e = area-is ∙ ap (λ g. viewOf i (foundAs u g)) e
+
+  pub area-at : (a : Address) (v : Walk) → f ≡ code-at.At a v → areaView i first end ≡ tlvView i (ahead u v)
+  area-at a v e = area-is ∙ ap (λ g. viewOf i (foundAs u g)) e
+
+-- ---- a tag by its own tests
+
+module _ (T : TlvTag) (i : List ℕ) where
+  pub reading-fault : (r : ℕ) → fault r ≡ firstOf ((T .checks) i) → reading T i ≡ unreadable r
+  unfolding reading viewed
+  reading-fault r e = rw (← e)
+
+  pub reading-fine : fine ≡ firstOf ((T .checks) i) → reading T i ≡ readingOf ((T .writable) i) i (viewOf i (messageTlv (T .layout) i))
+  unfolding reading viewed
+  reading-fine e = rw (← e)
+
+pub reading-refusal : (w : Bool) (i : List ℕ) (v : View) → refusalNumber (readingOf w i v) ≡ refusalOf v
+reading-refusal w i (refuse r) = refl
+reading-refusal w i (view us ms) = refl

@@ -1,0 +1,44 @@
+-- `read::area_refusal` meets its contract. Assumes nothing.
+use mathlib.Core.Path.{sym, ap, _∙_, subst}
+use borrow.Author.Needs.{needs}
+use Rattle.tlv.specs.Finding.{FoundPlaced}
+use Rattle.tlv_tag.specs.Reading.{refusalOf}
+use Rattle.tlv_tag.proofs.Reading.{area-lost, area-at}
+use Rattle.tlv_tag.proofs.read.area_refusal.Statement.{statement}
+use Rattle.tlv_tag.proofs.read.area_refusal.Tie as tie
+
+message-refusal-requires : tie.Need-message-refusal-requires
+message-refusal-requires c κs =
+    let a = c .before .before .before .before .before .before .before .before .before .before .before .args in
+    let f = c .before .before .before .before .before .before .find-message in
+    subst (FoundPlaced (a .image .now) (f .last .1 .1 .0) (c .before .before .before .before .before .before .before .before .new .result)) (c .before .before .v .given .1) (f .ensures .1) .0 .placed
+
+returns : tie.Need-returns
+returns c =
+    let s = c .before .before .before .before .before .before .before .before .before .before in
+    let a = s .args in
+    let f = c .before .before .before .before .before .find-message in
+    let n = c .before .before .before .before .before .before .before .new in
+    (sym (ap refusalOf (area-lost (a .image .now) (a .table .now) (f .last .1 .1 .0) (a .first .0) (a .end .0) (n .result) (f .result) (s .pre) (n .ensures) (f .ensures .0) _ (c .before .r .given .1))), search needs)
+
+returns-2 : tie.Need-returns-2
+returns-2 c =
+    let s = c .before .before .before .before .before .before .before .before .before .before .before .before in
+    let a = s .args in
+    let f = c .before .before .before .before .before .before .before .find-message in
+    let n = c .before .before .before .before .before .before .before .before .before .new in
+    (c .message-refusal .ensures ∙ sym (ap refusalOf (area-at (a .image .now) (a .table .now) (f .last .1 .1 .0) (a .first .0) (a .end .0) (n .result) (f .result) (s .pre) (n .ensures) (f .ensures .0) _ _ (c .before .before .before .v .given .1))), search needs)
+
+pub area-refusal-spec : {M : Type 1} → statement M
+area-refusal-spec =
+    tie.close
+    (tie.spec
+    (λ c κs. search needs)
+    (λ c κs. search needs)
+    (λ c. search needs)
+    (λ c. search needs)
+    message-refusal-requires
+    (λ c. search needs)
+    returns
+    (λ c. search needs)
+    returns-2)

@@ -1,0 +1,30 @@
+-- `read::message_refusal` meets its contract. Assumes nothing.
+use mathlib.Core.Path.{sym, ap, _∙_}
+use borrow.Author.Needs.{needs}
+use Rattle.tlv.specs.Views.{ahead}
+use Rattle.tlv.specs.Passing.{passedAs}
+use Rattle.tlv_tag.proofs.Reading.{stopped, passed}
+use Rattle.tlv_tag.proofs.read.message_refusal.Statement.{statement}
+use Rattle.tlv_tag.proofs.read.message_refusal.Tie as tie
+
+returns : tie.Need-returns
+returns c =
+    let a = c .before .before .before .before .before .before .args in
+    let t = a .table .now in
+    stopped (a .image .now) (ahead t (a .w)) _ (sym (ap (passedAs t) (c .before .r .given .1)) ∙ c .before .before .before .pass-other .ensures .0)
+
+returns-2 : tie.Need-returns-2
+returns-2 c =
+    let a = c .before .before .before .before .before .args in
+    let t = a .table .now in
+    passed (a .image .now) (ahead t (a .w)) _ (sym (ap (passedAs t) (c .enum-told .given .1)) ∙ c .before .before .pass-other .ensures .0)
+
+pub message-refusal-spec : {M : Type 1} → statement M
+message-refusal-spec =
+    tie.close
+    (tie.spec
+    (λ c κs. search needs)
+    (λ c. search needs)
+    (λ c. search needs)
+    returns
+    returns-2)

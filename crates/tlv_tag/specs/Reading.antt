@@ -1,0 +1,52 @@
+-- Reading the message of a tag that has a TLV area, from three places: the data area's start, the message TLV's type byte, and
+-- its value; and the numbers that the code goes by.
+-- Assumes nothing.
+use mathlib.Core.Path.{_≡_}
+use mathlib.Core.Bool.{Bool, cond}
+use mathlib.Core.List.{List, map}
+use Prim.Native.Nat.{ℕ, _-_, _≤_}
+use lib.Dec.{leb}
+use lib.ListN.{length, take, replicate}
+use Rattle.tag.specs.declared.Report as code
+use Rattle.tag.specs.Bytes.{byte, run}
+use Rattle.tag.specs.Refusals.{bad-length}
+use Rattle.tag.specs.Reading.{Report, Reading, unreadable, reads}
+use Rattle.tag.specs.Answers.{whatOf}
+use Rattle.tlv.specs.Areas.{anyArea}
+use Rattle.tlv.specs.Walk.{lengthOf, find}
+use Rattle.tlv.specs.Message.{View, refuse, view, viewBy, viewOf, reportOf}
+
+-- the data area from first up to end
+abbrev pub areaView : List ℕ → ℕ → ℕ → View
+areaView i first end = viewOf i (find anyArea (end - first) i (run first (end - first)))
+
+-- a message TLV with the usable addresses us after its type byte
+abbrev pub tlvView : List ℕ → List ℕ → View
+tlvView i us = viewBy us (lengthOf i us)
+
+-- a value of n bytes, with the usable addresses us from its first on
+unfoldable pub valueReading : Bool → List ℕ → ℕ → List ℕ → Reading
+valueReading w i n us = cond (leb n (length us)) (reads (reportOf w i (take n us))) (unreadable bad-length)
+
+-- 0, or the refusal's number
+abbrev pub refusalOf : View → ℕ
+refusalOf (refuse r) = r
+refusalOf (view us ms) = 0
+
+-- the code's report of such a value
+abbrev pub reportAs : List ℕ → List ℕ → code.Report → Report
+reportAs i us p = record {
+  what = whatOf (p .what);
+  bytes = map (byte i) (take (p .length) us);
+  address = p .address .0;
+  interrupted = p .interrupted;
+  writable = p .writable;
+}
+
+-- the data area lies inside the image, and the table, which is long enough, skips nothing yet
+pub record Blank (image table : List ℕ) (first end : ℕ) : Type 0 where
+  pub ordered : first ≤ end
+  pub in-table : end ≤ length table
+  pub in-image : end ≤ length image
+  pub short : length table ≤ 1024
+  pub clear : table ≡ replicate (length table) 0

@@ -1,0 +1,139 @@
+// Reading the message of a tag that has a TLV area, once the tag's own tests have passed.
+
+use tag::Address;
+use tag::ReadAnswer;
+use tag::Report;
+use tag::What;
+use tlv::find::Found;
+use tlv::length::Field;
+use tlv::length::Passed;
+use tlv::value;
+use tlv::value::Value;
+use tlv::walk::Walk;
+ghost use mathlib.Core.Path.{_≡_};
+ghost use Prim.Native.Nat.{_≤_};
+ghost use lib.ListN.{length};
+ghost use Rattle.tag.specs.Reading.{reads, answerOf, gatheredInto};
+ghost use Rattle.tag.specs.Answers.{readAs};
+ghost use Rattle.tlv.specs.Views.{ahead, Placed};
+ghost use Rattle.tlv.specs.Message.{readingOf};
+ghost use Rattle.tlv_tag.specs.Reading.{areaView, tlvView, valueReading, refusalOf, reportAs, Blank};
+
+// The answer for a message that is there, from the walk before its first byte: gathered if it is interrupted, unless the
+// buffer is shorter.
+fn deliver(image: &[u8], gathered: &mut [u8], table: &[u16], w: Walk, report: Report) -> ReadAnswer
+    requires { ⌜ Placed (now image) (now table) w × (report .length ≤ length (ahead (now table) w)) ⌝ }
+    ensures answer { λ r. ⌜ readAs r ≡ answerOf (length (now (gathered .entry))) (reads (reportAs (now (image .entry)) (ahead (now (table .entry)) w) report)) ⌝ }
+    ensures buffer { λ _. ⌜ now (gathered .exit) ≡ gatheredInto (now (gathered .entry)) (reads (reportAs (now (image .entry)) (ahead (now (table .entry)) w) report)) ⌝ }
+{
+    let interrupted = report.interrupted;
+    if !interrupted {
+        return ReadAnswer::Reads(report);
+    }
+    let n = report.length;
+    if gathered.len() < n {
+        return ReadAnswer::Refused(13);
+    }
+    value::gather(w, n, image, table, gathered);
+    ReadAnswer::Reads(report)
+}
+
+// A value of `n` bytes, from the walk before its first byte. No bytes are no message.
+fn read_value(
+    image: &[u8],
+    gathered: &mut [u8],
+    table: &[u16],
+    w: Walk,
+    n: usize,
+    writable: bool,
+) -> ReadAnswer
+    requires { ⌜ Placed (now image) (now table) w ⌝ }
+    ensures answer { λ r. ⌜ readAs r ≡ answerOf (length (now (gathered .entry))) (valueReading writable (now (image .entry)) n (ahead (now (table .entry)) w)) ⌝ }
+    ensures buffer { λ _. ⌜ now (gathered .exit) ≡ gatheredInto (now (gathered .entry)) (valueReading writable (now (image .entry)) n (ahead (now (table .entry)) w)) ⌝ }
+{
+    if n == 0 {
+        return ReadAnswer::Reads(Report {
+            what: What::Empty,
+            address: Address(0),
+            length: 0,
+            interrupted: false,
+            writable,
+        });
+    }
+    match value::measure(w, n, table) {
+        Value::Short => ReadAnswer::Refused(7),
+        Value::At(address, interrupted) => {
+            let report = Report {
+                what: What::Message,
+                address,
+                length: n,
+                interrupted,
+                writable,
+            };
+            deliver(image, gathered, table, w, report)
+        }
+    }
+}
+
+// The message TLV, from the walk past its type byte.
+pub fn read_message(
+    image: &[u8],
+    gathered: &mut [u8],
+    table: &[u16],
+    w: Walk,
+    writable: bool,
+) -> ReadAnswer
+    requires { ⌜ Placed (now image) (now table) w ⌝ }
+    ensures answer { λ r. ⌜ readAs r ≡ answerOf (length (now (gathered .entry))) (readingOf writable (now (image .entry)) (tlvView (now (image .entry)) (ahead (now (table .entry)) w))) ⌝ }
+    ensures buffer { λ _. ⌜ now (gathered .exit) ≡ gatheredInto (now (gathered .entry)) (readingOf writable (now (image .entry)) (tlvView (now (image .entry)) (ahead (now (table .entry)) w))) ⌝ }
+{
+    match w.take_length(image, table) {
+        Field::Bad => ReadAnswer::Refused(7),
+        Field::Is(n, v) => read_value(image, gathered, table, v, n, writable),
+    }
+}
+
+// The data area from `first` up to `end`, with a table of zeros to mark skipped addresses in.
+pub fn read_area(
+    image: &[u8],
+    gathered: &mut [u8],
+    table: &mut [u16],
+    first: Address,
+    end: Address,
+    writable: bool,
+) -> ReadAnswer
+    requires { ⌜ Blank (now image) (now table) (first .0) (end .0) ⌝ }
+    ensures answer { λ r. ⌜ readAs r ≡ answerOf (length (now (gathered .entry))) (readingOf writable (now (image .entry)) (areaView (now (image .entry)) (first .0) (end .0))) ⌝ }
+    ensures buffer { λ _. ⌜ now (gathered .exit) ≡ gatheredInto (now (gathered .entry)) (readingOf writable (now (image .entry)) (areaView (now (image .entry)) (first .0) (end .0))) ⌝ }
+    ensures scratch { λ _. ⌜ length (now (table .exit)) ≡ length (now (table .entry)) ⌝ }
+{
+    let w = Walk::new(first, end);
+    match w.find_message(image, table) {
+        Found::Lost(r) => ReadAnswer::Refused(r),
+        Found::At(_, v) => read_message(image, gathered, table, v, writable),
+    }
+}
+
+// The refusal of the message TLV, from the walk past its type byte: it is refused just where it could not be passed over.
+fn message_refusal(image: &[u8], table: &[u16], w: Walk) -> u8
+    requires { ⌜ Placed (now image) (now table) w ⌝ }
+    ensures { λ r. ⌜ r ≡ refusalOf (tlvView (now (image .entry)) (ahead (now (table .entry)) w)) ⌝ }
+{
+    match w.pass_other(image, table) {
+        Passed::Stop(r) => r,
+        Passed::More(_) => 0,
+    }
+}
+
+// The refusal of the data area from `first` up to `end`, or 0, with a table of zeros to mark skipped addresses in.
+pub fn area_refusal(image: &[u8], table: &mut [u16], first: Address, end: Address) -> u8
+    requires { ⌜ Blank (now image) (now table) (first .0) (end .0) ⌝ }
+    ensures is { λ r. ⌜ r ≡ refusalOf (areaView (now (image .entry)) (first .0) (end .0)) ⌝ }
+    ensures scratch { λ _. ⌜ length (now (table .exit)) ≡ length (now (table .entry)) ⌝ }
+{
+    let w = Walk::new(first, end);
+    match w.find_message(image, table) {
+        Found::Lost(r) => r,
+        Found::At(_, v) => message_refusal(image, table, v),
+    }
+}

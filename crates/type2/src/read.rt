@@ -1,0 +1,56 @@
+// Reading a Type 2 tag.
+//
+// The table of skipped addresses is an array of the public function's frame, zeros at the start of each call.
+
+use crate::container;
+use crate::container::DataArea;
+use tag::Address;
+use tag::ReadAnswer;
+ghost use mathlib.Core.Path.{_≡_};
+ghost use lib.ListN.{length};
+ghost use Rattle.tag.specs.Reading.{answerOf, gatheredInto, refusalNumber};
+ghost use Rattle.tag.specs.Answers.{readAs};
+ghost use Rattle.type2.specs.Type2.{type2};
+ghost use Rattle.type2.specs.Table.{Clear};
+
+// Reading, with the table lent.
+fn read_with(image: &[u8], gathered: &mut [u8], table: &mut [u16]) -> ReadAnswer
+    requires { ⌜ Clear (now table) ⌝ }
+    ensures answer { λ r. ⌜ readAs r ≡ answerOf (length (now (gathered .entry))) ((type2 .reading) (now (image .entry))) ⌝ }
+    ensures buffer { λ _. ⌜ now (gathered .exit) ≡ gatheredInto (now (gathered .entry)) ((type2 .reading) (now (image .entry))) ⌝ }
+{
+    match container::data_area(image) {
+        DataArea::Refused(r) => ReadAnswer::Refused(r),
+        DataArea::Inside(end, writable) => {
+            tlv_tag::read::read_area(image, gathered, table, Address(16), end, writable)
+        }
+    }
+}
+
+// What the tag reads as. An interrupted message is gathered into the front of `gathered`.
+pub fn read(image: &[u8], gathered: &mut [u8]) -> ReadAnswer
+    ensures answer { λ r. ⌜ readAs r ≡ answerOf (length (now (gathered .entry))) ((type2 .reading) (now (image .entry))) ⌝ }
+    ensures buffer { λ _. ⌜ now (gathered .exit) ≡ gatheredInto (now (gathered .entry)) ((type2 .reading) (now (image .entry))) ⌝ }
+{
+    let mut table = [0u16; 1024];
+    read_with(image, gathered, &mut table)
+}
+
+// Reading's refusal, with the table lent.
+fn refusal_with(image: &[u8], table: &mut [u16]) -> u8
+    requires { ⌜ Clear (now table) ⌝ }
+    ensures { λ r. ⌜ r ≡ refusalNumber ((type2 .reading) (now (image .entry))) ⌝ }
+{
+    match container::data_area(image) {
+        DataArea::Refused(r) => r,
+        DataArea::Inside(end, _) => tlv_tag::read::area_refusal(image, table, Address(16), end),
+    }
+}
+
+// The refusal that reading gives, 1 to 8, or 0; the message is not gathered.
+pub fn refusal(image: &[u8]) -> u8
+    ensures { λ r. ⌜ r ≡ refusalNumber ((type2 .reading) (now (image .entry))) ⌝ }
+{
+    let mut table = [0u16; 1024];
+    refusal_with(image, &mut table)
+}
