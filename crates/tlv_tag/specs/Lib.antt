@@ -1,2 +1,4 @@
 -- Views of the code over a tag with a TLV area.
 pub mod Reading
+pub mod Space
+pub mod Update

@@ -1,0 +1,83 @@
+-- Where a message goes: the tests of the code against the definition's.
+-- Assumes nothing.
+use mathlib.Core.Path.{_≡_, refl, sym, ap, _∙_, subst}
+use mathlib.Core.Bool.{Bool, true, false}
+use mathlib.Core.List.{List}
+use Prim.Native.Nat.{ℕ, suc, _+_, _-_, _<_, _≤_}
+use native.Mathlib.Omega.{arith}
+use native.Mathlib.Decide.{decLt}
+use borrow.Author.Tests.{leb-true, le-leb, lt-leb}
+use lib.Dec.{leb, ltb}
+use lib.ListN.{length, take}
+use Rattle.tag.specs.declared.Address.{Address}
+use Rattle.tag.specs.Bytes.{run}
+use Rattle.tag.specs.Refusals.{bad-length}
+use Rattle.tlv.specs.declared.walk.Walk.{Walk}
+use Rattle.tlv.specs.declared.find.Found as code-found
+use Rattle.tlv.specs.declared.find.Found.the-variants as found
+use Rattle.tlv.specs.Areas.{anyArea}
+use Rattle.tlv.specs.Walk.{Length, bad, len, find}
+use Rattle.tlv.specs.Message.{view, viewBy}
+use Rattle.tlv.specs.Update.{fitsIn}
+use Rattle.tlv.specs.Space.{Space, no-space, spaceOf}
+use Rattle.tlv.specs.Views.{ahead, Onward}
+use Rattle.tlv.specs.Finding.{FoundPlaced}
+use Rattle.tlv.proofs.Finding.{find-all}
+use Rattle.tlv_tag.specs.declared.space.Space as code
+use Rattle.tlv_tag.specs.declared.space.Space.the-variants as answer
+use Rattle.tlv_tag.specs.Space.{Blank, SpaceHere, SpacePlaced}
+
+-- one byte of length and n of message
+pub ltb-leb : (n u : ℕ) → ltb n u ≡ leb (1 + n) u
+ltb-leb n u = let e : suc n ≡ 1 + n = omega arith in ap (λ k. leb k u) e
+
+-- three bytes of length and n of message
+pub leb-less : (n u : ℕ) → n ≤ u → leb 3 (u - n) ≡ leb (3 + n) u
+leb-less n u h = go (decLt (u - n) 3)
+  where
+    go : Dec (u - n < 3) → leb 3 (u - n) ≡ leb (3 + n) u
+    go (yes l) = lt-leb 3 (u - n) l ∙ sym (lt-leb (3 + n) u (omega arith))
+    go (no l) = le-leb 3 (u - n) (omega arith) ∙ sym (le-leb (3 + n) u (omega arith))
+
+-- a message that fits leaves a byte for its length
+pub fits-less : (n u : ℕ) → fitsIn n u ≡ true → n < u
+unfolding fitsIn
+fits-less n u e = go (leb n 254) refl
+  where
+    go : (b : Bool) → leb n 254 ≡ b → n < u
+    go true q = let h : 1 + n ≤ u = leb-true (1 + n) u (rw q at e) in omega arith
+    go false q = let h : 3 + n ≤ u = leb-true (3 + n) u (rw q at e) in omega arith
+
+-- ---- the message TLV, once its length is taken
+
+module _ (w : Bool) (n : ℕ) (us : List ℕ) (l : Length) where
+  pub after-bad : bad ≡ l → no-space bad-length ≡ spaceOf w n (viewBy us l)
+  unfolding viewBy
+  after-bad e = rw (← e)
+
+  module _ (k : ℕ) (vs : List ℕ) (e : len k vs ≡ l) where
+    pub after-short : length vs < k → no-space bad-length ≡ spaceOf w n (viewBy us l)
+    unfolding viewBy
+    after-short h = rw (← e, lt-leb k (length vs) h)
+
+    pub after-whole : {s : Space} → k ≤ length vs → ((ms : List ℕ) → s ≡ spaceOf w n (view us ms)) → s ≡ spaceOf w n (viewBy us l)
+    unfolding viewBy
+    after-whole h f = rw (← e, le-leb k (length vs) h) (f (take k vs))
+
+-- ---- the walk from the start of the data area
+
+pub found-all : (i t : List ℕ) (w : Walk) (first end : ℕ) → Blank i t first end → w .at .0 ≡ first → w .end .0 ≡ end
+    → find anyArea (w .end .0 - w .at .0) i (ahead t w) ≡ find anyArea (end - first) i (run first (end - first))
+found-all i t w first end b p q =
+    ap (λ u. find anyArea (w .end .0 - w .at .0) i (ahead u w)) (b .zeros)
+    ∙ find-all (length t) i w first (end - first) p (omega (arith, b .ordered)) (omega (arith, b .ordered, b .in-table))
+
+pub found-at : {i t : List ℕ} {v w : Walk} {a : Address} {r : code-found.Found} → FoundPlaced i t v r → r ≡ found.At a w
+    → Onward i t v w × (v .at .0 ≤ a .0) × (a .0 < w .at .0)
+found-at {i} {t} {v} p g = subst (FoundPlaced i t v) g p
+
+-- the space behind the message TLV lies in the data area
+pub here-placed : (i t : List ℕ) (n first end : ℕ) (v : Walk) (r : code.Space) → first < v .at .0 → v .end .0 ≡ end
+    → SpaceHere i t n v r → SpacePlaced i t n first end r
+here-placed i t n first end v (answer.Refused k) l e h = tt
+here-placed i t n first end v (answer.At w) l e h = (h .0, omega (arith, h .1), h .2 ∙ e)

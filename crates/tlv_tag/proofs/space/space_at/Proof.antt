@@ -1,0 +1,54 @@
+-- `space::space_at` meets its contract. Assumes nothing.
+use mathlib.Core.Path.{_≡_, refl, sym, ap, _∙_}
+use mathlib.Core.Bool.{true, false}
+use borrow.Author.Needs.{needs}
+use borrow.Author.Tests.{not-true, not-false}
+use lib.ListN.{length}
+use Rattle.tag.proofs.Cases.{cases}
+use Rattle.tlv.specs.Update.{fitsIn}
+use Rattle.tlv.specs.Views.{ahead}
+use Rattle.tlv_tag.proofs.Fitting.{fits-less}
+use Rattle.tlv_tag.proofs.space.space_at.Statement.{statement}
+use Rattle.tlv_tag.proofs.space.space_at.Tie as tie
+
+returns-2 : tie.Need-returns-2
+returns-2 c =
+    let w : c .before .before .before .before .args .writable ≡ false = not-true _ (c .if2 .taken) in
+    ((λ ms. search (cases, w) depth 12), tt)
+
+returns-3 : tie.Need-returns-3
+returns-3 c =
+    let a = c .before .before .before .before .before .before .before .args in
+    let w : a .writable ≡ true = not-false _ (c .before .before .before .if2 .left) in
+    let f : fitsIn (a .n) (length (ahead (a .table .now) (a .w))) ≡ false
+    = sym (c .before .fits2 .ensures ∙ ap (fitsIn (a .n)) (c .before .before .count .ensures .0)) ∙ not-true _ (c .if3 .taken) in
+    ((λ ms. search (cases, w, f) depth 12), tt)
+
+returns-4 : tie.Need-returns-4
+returns-4 c =
+    let a = c .before .before .before .before .before .before .before .args in
+    let w : a .writable ≡ true = not-false _ (c .before .before .before .if2 .left) in
+    let f : fitsIn (a .n) (length (ahead (a .table .now) (a .w))) ≡ true
+    = sym (c .before .fits2 .ensures ∙ ap (fitsIn (a .n)) (c .before .before .count .ensures .0)) ∙ not-false _ (c .if3 .left) in (
+      (λ ms. search (cases, w, f) depth 12),
+      (
+        record {
+          placed = c .before .before .before .before .before .before .before .pre;
+          enough = fits-less (a .n) (length (ahead (a .table .now) (a .w))) f;
+          few = search needs;
+        },
+        refl,
+        refl,
+      ),
+    )
+
+pub space-at-spec : {M : Type 1} → statement M
+space-at-spec =
+    tie.close
+    (tie.spec
+    (λ c. ((λ ms. search cases depth 12), tt))
+    returns-2
+    (λ c κs. search needs)
+    (λ c κs. search needs)
+    returns-3
+    returns-4)

@@ -1,0 +1,42 @@
+-- `update::set_length` meets its contract. Assumes nothing.
+use mathlib.Core.Path.{_≡_, ap, _∙_}
+use native.Mathlib.Omega.{arith}
+use borrow.Author.Needs.{needs}
+use lib.ListN.{length, drop}
+use Rattle.tag.specs.Bytes.{overlay}
+use Rattle.tlv.specs.Views.{ahead}
+use Rattle.tlv_tag.proofs.Content.{length-short, length-long}
+use Rattle.tlv_tag.proofs.update.set_length.Statement.{statement}
+use Rattle.tlv_tag.proofs.update.set_length.Tie as tie
+
+returns : tie.Need-returns
+returns c =
+    let a = c .before .before .before .before .before .before .before .before .args in
+    let us = ahead (a .table .now) (a .w) in
+    let e = c .before .before .set-bytes .ensures in
+    let q = length-short (a .n) (c .before .before .before .before .before .if1 .taken) in
+    (e .0 ∙ ap (λ vs. overlay us vs (a .image .now)) q, (e .1 .0 ∙ ap (λ vs. drop (length vs) us) q, e .1 .1))
+
+returns-2 : tie.Need-returns-2
+returns-2 c =
+    let a = c .before .before .before .before .before .before .before .before .args in
+    let us = ahead (a .table .now) (a .w) in
+    let e = c .before .before .set-bytes2 .ensures in
+    let q = length-long (a .n) (c .before .before .before .before .before .if1 .left) in
+    (e .0 ∙ ap (λ vs. overlay us vs (a .image .now)) q, (e .1 .0 ∙ ap (λ vs. drop (length vs) us) q, e .1 .1))
+
+pub set-length-spec : {M : Type 1} → statement M
+set-length-spec =
+    tie.close
+    (tie.spec
+    (λ c. search needs)
+    (λ c. search needs)
+    (λ c κs. search needs)
+    (λ c. search needs)
+    returns
+    (λ c. search needs)
+    (λ c. search needs)
+    (λ c. search needs)
+    (λ c κs. search needs)
+    (λ c. search needs)
+    returns-2)

@@ -1,0 +1,93 @@
+// Where a message goes on a tag that has a TLV area: refusals 6 to 11.
+
+use tag::Address;
+use tlv::find::Found;
+use tlv::length::Field;
+use tlv::value;
+use tlv::walk::Walk;
+ghost use mathlib.Core.Path.{_≡_};
+ghost use mathlib.Core.List.{List};
+ghost use Prim.Native.Nat.{ℕ, _-_};
+ghost use Rattle.tag.specs.Bytes.{run};
+ghost use Rattle.tlv.specs.Areas.{anyArea};
+ghost use Rattle.tlv.specs.Walk.{lengthOf, find};
+ghost use Rattle.tlv.specs.Message.{view, viewBy, viewOf};
+ghost use Rattle.tlv.specs.Update.{fitsIn};
+ghost use Rattle.tlv.specs.Space.{spaceOf};
+ghost use Rattle.tlv.specs.Views.{ahead, Placed};
+ghost use Rattle.tlv_tag.specs.Space.{Blank, spaceAs, SpaceHere, SpacePlaced};
+
+// A refusal; or the walk past the message TLV's type byte, where the message with its length has room.
+pub enum Space {
+    Refused(u8),
+    At(Walk),
+}
+
+// Whether a message of `n` bytes, with its length, has room in `room` bytes.
+fn fits(n: usize, room: usize) -> bool
+    ensures { λ r. ⌜ r ≡ fitsIn n room ⌝ }
+{
+    if n <= 254 {
+        return n < room;
+    }
+    if room < n {
+        return false;
+    }
+    3 <= room - n
+}
+
+// Refusals 9, 10 and 11, in this order, for the usable bytes from the walk's place on.
+fn space_at(w: Walk, n: usize, image: &[u8], table: &[u16], writable: bool) -> Space
+    requires { ⌜ Placed (now image) (now table) w ⌝ }
+    ensures is { λ r. ⌜ ((ms : List ℕ) → spaceAs (now (table .entry)) r ≡ spaceOf writable n (view (ahead (now (table .entry)) w) ms)) ⌝ }
+    ensures here { λ r. ⌜ SpaceHere (now (image .entry)) (now (table .entry)) n w r ⌝ }
+{
+    if n == 0 {
+        return Space::Refused(9);
+    }
+    if !writable {
+        return Space::Refused(10);
+    }
+    let room = value::count(w, table);
+    if !fits(n, room) {
+        return Space::Refused(11);
+    }
+    Space::At(w)
+}
+
+// The message TLV whose type byte the walk has just passed: a bad length, or a value past the end, is refusal 7.
+fn space_after(w: Walk, n: usize, image: &[u8], table: &[u16], writable: bool) -> Space
+    requires { ⌜ Placed (now image) (now table) w ⌝ }
+    ensures is { λ r. ⌜ spaceAs (now (table .entry)) r ≡ spaceOf writable n (viewBy (ahead (now (table .entry)) w) (lengthOf (now (image .entry)) (ahead (now (table .entry)) w))) ⌝ }
+    ensures here { λ r. ⌜ SpaceHere (now (image .entry)) (now (table .entry)) n w r ⌝ }
+{
+    match w.take_length(image, table) {
+        Field::Bad => Space::Refused(7),
+        Field::Is(length, v) => {
+            let left = value::count(v, table);
+            if left < length {
+                return Space::Refused(7);
+            }
+            space_at(w, n, image, table, writable)
+        }
+    }
+}
+
+// The space for a message of `n` bytes in the data area from `first` up to `end`.
+pub fn find_space(
+    image: &[u8],
+    n: usize,
+    table: &mut [u16],
+    first: Address,
+    end: Address,
+    writable: bool,
+) -> Space
+    requires { ⌜ Blank (now image) (now table) (first .0) (end .0) ⌝ }
+    ensures is { λ r. ⌜ spaceAs (now (table .exit)) r ≡ spaceOf writable n (viewOf (now (image .entry)) (find anyArea (end .0 - first .0) (now (image .entry)) (run (first .0) (end .0 - first .0)))) ⌝ }
+    ensures placed { λ r. ⌜ SpacePlaced (now (image .entry)) (now (table .exit)) n (first .0) (end .0) r ⌝ }
+{
+    match Walk::new(first, end).find_message(image, table) {
+        Found::Lost(r) => Space::Refused(r),
+        Found::At(_, w) => space_after(w, n, image, table, writable),
+    }
+}

@@ -1,0 +1,58 @@
+// What writing a message sets, at the usable addresses from a walk's place on: the message's length in its shortest form, the
+// message, and FEh if an address is left for it.
+
+use tlv::value;
+use tlv::walk::Walk;
+ghost use mathlib.Core.Path.{_≡_};
+ghost use Prim.Native.Nat.{_+_, _*_, _<_, _≤_};
+ghost use lib.ListN.{length, drop};
+ghost use Rattle.tag.specs.Bytes.{overlay};
+ghost use Rattle.tlv.specs.Update.{lengthField, content};
+ghost use Rattle.tlv.specs.Views.{ahead, Placed, Onward};
+ghost use Rattle.tlv.specs.Values.{Within};
+ghost use Rattle.tlv_tag.specs.Update.{contentLength, ContentMarked};
+
+// Sets the length in its shortest form, and hands back the walk past it.
+fn set_length(w: Walk, n: usize, table: &[u16], image: &mut [u8]) -> Walk
+    requires { ⌜ Placed (now image) (now table) w × (n ≤ 65534) ⌝ }
+    ensures sets { λ _. ⌜ now (image .exit) ≡ overlay (ahead (now (table .entry)) w) (lengthField n) (now (image .entry)) ⌝ }
+    ensures past { λ r. ⌜ ahead (now (table .entry)) r ≡ drop (length (lengthField n)) (ahead (now (table .entry)) w) ⌝ }
+    ensures placed { λ r. ⌜ Onward (now (image .exit)) (now (table .entry)) w r ⌝ }
+{
+    if n <= 254 {
+        let short = [n as u8];
+        return value::set_bytes(w, &short, table, image);
+    }
+    let long = [0xFF, (n / 256) as u8, (n % 256) as u8];
+    value::set_bytes(w, &long, table, image)
+}
+
+// Sets length, message and FEh in the image.
+pub fn set_content(w: Walk, message: &[u8], table: &[u16], image: &mut [u8])
+    requires { ⌜ Placed (now image) (now table) w × (length (now message) ≤ 65534) ⌝ }
+    ensures { λ _. ⌜ now (image .exit) ≡ overlay (ahead (now (table .entry)) w) (content (now (message .entry))) (now (image .entry)) ⌝ }
+{
+    let after_length = set_length(w, message.len(), table, image);
+    let after_message = value::set_bytes(after_length, message, table, image);
+    let terminator = [0xFE];
+    value::set_bytes(after_message, &terminator, table, image);
+}
+
+// How many bytes that is for a message of `n` bytes, where there is room for all.
+fn content_length(n: usize) -> usize
+    requires { ⌜ n ≤ 65534 ⌝ }
+    ensures { λ r. ⌜ r ≡ contentLength n ⌝ }
+{
+    if n <= 254 {
+        return n + 2;
+    }
+    n + 4
+}
+
+// Marks each block of `size` bytes that holds a byte to set for a message of `n` bytes.
+pub fn mark_content(w: Walk, n: usize, size: usize, table: &[u16], marks: &mut [u8])
+    requires { ⌜ Within (now table) w × (n ≤ 65534) × (0 < size) × (w .end .0 ≤ size * length (now marks)) ⌝ }
+    ensures { λ _. ⌜ ContentMarked size n (ahead (now (table .entry)) w) (now (marks .entry)) (now (marks .exit)) ⌝ }
+{
+    value::mark_blocks(w, content_length(n), size, table, marks);
+}

@@ -1,0 +1,100 @@
+/*
+ * Writes a message on a tag that is held in memory, first a Type 2 and then a Type 3 one: asks
+ * for the list, has it judged, hands it to the tag command by command and reads the tag after
+ * each. See README.md for how to compile.
+ */
+#include <inttypes.h>
+#include <stdio.h>
+
+#include "zanfirotta.h"
+
+static const uint8_t message[] = {0xD1, 0x01, 0x04, 0x54, 0x02, 0x65, 0x6E, 0x21};
+
+static int refused(const char *what, uint64_t answer)
+{
+    printf("%s: refused %d at %" PRIu64 "\n", what, ZAN_REFUSAL(answer), ZAN_POSITION(answer));
+    return 1;
+}
+
+static void print_line(const uint8_t *bytes, size_t len, const uint64_t out[5])
+{
+    static const char *const readings[] = {"", "message", "empty", "being written"};
+
+    for (size_t i = 0; i < len; i++)
+        printf("%02X ", bytes[i]);
+    printf(" -> %s\n", readings[out[ZAN_OUT_READING]]);
+}
+
+static int type2(void)
+{
+    uint8_t image[64] = {0};
+    uint8_t list[ZAN_TYPE2_LIST_MAX];
+    uint8_t gathered[ZAN_TYPE2_GATHERED_MAX];
+    static const uint8_t start[] = {0xE1, 0x10, 0x06, 0x00, 0x03, 0x00, 0xFE};
+    uint64_t out[5], answer, count;
+
+    for (size_t i = 0; i < sizeof start; i++)
+        image[12 + i] = start[i];
+
+    answer = zan_type2_write(image, sizeof image, message, sizeof message, list, sizeof list);
+    if (ZAN_REFUSAL(answer))
+        return refused("write", answer);
+    count = ZAN_COUNT(answer);
+    answer = zan_type2_judge(image, sizeof image, message, sizeof message, list,
+                             count * ZAN_TYPE2_COMMAND);
+    if (ZAN_REFUSAL(answer))
+        return refused("judge", answer);
+
+    printf("Type 2: %" PRIu64 " commands\n", count);
+    for (uint64_t i = 0; i < count; i++) {
+        const uint8_t *command = list + i * ZAN_TYPE2_COMMAND;
+
+        answer = zan_type2_model(image, sizeof image, command, ZAN_TYPE2_COMMAND);
+        if (ZAN_REFUSAL(answer))
+            return refused("model", answer);
+        answer = zan_type2_read(image, sizeof image, gathered, sizeof gathered, out);
+        if (ZAN_REFUSAL(answer))
+            return refused("read", answer);
+        print_line(command, ZAN_TYPE2_COMMAND, out);
+    }
+    printf("message at %" PRIu64 ", length %" PRIu64 "\n", out[ZAN_OUT_ADDRESS],
+           out[ZAN_OUT_LENGTH]);
+    return 0;
+}
+
+static int type3(void)
+{
+    uint8_t image[14 * 16] = {0x10, 4, 1, 0, 13, 0, 0, 0, 0, 0, 1, 0, 0, 0, 0, 0x23};
+    uint8_t list[ZAN_TYPE3_LIST_MAX];
+    static const uint8_t number[8] = {0x01, 0x2E, 0x45, 0x76, 0xBA, 0x12, 0x34, 0x56};
+    const uint8_t *command = list;
+    uint64_t out[5], answer, count;
+
+    answer = zan_type3_write(image, sizeof image, message, sizeof message, number, list,
+                             sizeof list);
+    if (ZAN_REFUSAL(answer))
+        return refused("write", answer);
+    count = ZAN_COUNT(answer);
+
+    printf("Type 3: %" PRIu64 " commands\n", count);
+    for (uint64_t i = 0; i < count; i++) {
+        size_t len = ZAN_TYPE3_COMMAND((size_t)command[12]);
+
+        answer = zan_type3_model(image, sizeof image, number, command, len);
+        if (ZAN_REFUSAL(answer))
+            return refused("model", answer);
+        answer = zan_type3_read(image, sizeof image, out);
+        if (ZAN_REFUSAL(answer))
+            return refused("read", answer);
+        print_line(command, len, out);
+        command += len;
+    }
+    printf("message at %" PRIu64 ", length %" PRIu64 "\n", out[ZAN_OUT_ADDRESS],
+           out[ZAN_OUT_LENGTH]);
+    return 0;
+}
+
+int main(void)
+{
+    return type2() || type3();
+}

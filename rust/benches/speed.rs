@@ -1,0 +1,274 @@
+//! How long the verified library takes beside the reference, on the same inputs.
+//!
+//! `cargo bench --bench speed`. Both are built for release. A run clears the buffers that are
+//! written to, then times a number of calls; the table shows the median of all runs.
+
+#[cfg(not(zanfirotta_archive))]
+compile_error!("libcapi.a is missing: run `rt staticlib capi` at the repository's top");
+
+#[path = "../tests/reference/mod.rs"]
+mod reference;
+
+use std::hint::black_box;
+use std::time::Instant;
+
+use zanfirotta::{type2, type3};
+
+const RUNS: usize = 301;
+/// A run is to take about this long.
+const NANOSECONDS: f64 = 50_000.0;
+
+const NUMBER: [u8; 8] = [0x01, 0x2E, 0x45, 0x76, 0xBA, 0x12, 0x34, 0x56];
+
+/// The buffers that a call may write to.
+struct Buffers {
+    image: Vec<u8>,
+    gathered: Vec<u8>,
+    list: Vec<u8>,
+}
+
+impl Buffers {
+    fn new(image: &[u8]) -> Self {
+        Buffers {
+            image: image.to_vec(),
+            gathered: vec![0; 4096],
+            list: vec![0; 8192],
+        }
+    }
+
+    fn clear(&mut self, image: &[u8]) {
+        self.image.copy_from_slice(image);
+        self.gathered.fill(0);
+        self.list.fill(0);
+    }
+}
+
+/// One run: nanoseconds for a call.
+fn run(calls: usize, image: &[u8], buffers: &mut Buffers, call: &dyn Fn(&mut Buffers)) -> f64 {
+    buffers.clear(image);
+    let start = Instant::now();
+    for _ in 0..calls {
+        call(buffers);
+    }
+    start.elapsed().as_nanos() as f64 / calls as f64
+}
+
+fn median(mut times: Vec<f64>) -> f64 {
+    times.sort_by(f64::total_cmp);
+    times[times.len() / 2]
+}
+
+/// Times both and prints a line of the table.
+fn compare(
+    tag: &str,
+    operation: &str,
+    image: &[u8],
+    library: &dyn Fn(&mut Buffers),
+    reference: &dyn Fn(&mut Buffers),
+) {
+    let mut buffers = Buffers::new(image);
+    let mut calls = |call| {
+        let once = (0..5).map(|_| run(1, image, &mut buffers, call));
+        let once = once.fold(f64::INFINITY, f64::min);
+        (NANOSECONDS / once.max(1.0)).clamp(1.0, 5_000.0) as usize
+    };
+    let (library_calls, reference_calls) = (calls(library), calls(reference));
+    let (mut library_times, mut reference_times) = (Vec::new(), Vec::new());
+    for _ in 0..RUNS {
+        library_times.push(run(library_calls, image, &mut buffers, library));
+        reference_times.push(run(reference_calls, image, &mut buffers, reference));
+    }
+    let (library, reference) = (median(library_times), median(reference_times));
+    println!(
+        "| {tag:<28} | {operation:<6} | {library:>12.0} | {reference:>12.0} | {:>6.2} |",
+        library / reference
+    );
+}
+
+fn type2(tag: &str, image: &[u8], message: &[u8]) {
+    let mut list = vec![0; type2::LIST_MAX];
+    let count = type2::write(image, message, &mut list).expect("the message fits");
+    list.truncate(type2::COMMAND * count);
+    let middle = count / 2 * type2::COMMAND;
+    let command = &list[middle..middle + type2::COMMAND];
+    assert_eq!(type2::judge(image, message, &list), Ok(count));
+
+    compare(
+        tag,
+        "read",
+        image,
+        &|b| {
+            let _ = black_box(type2::read(black_box(image), &mut b.gathered));
+        },
+        &|b| {
+            let _ = black_box(reference::type2::read(black_box(image), &mut b.gathered));
+        },
+    );
+    compare(
+        tag,
+        "write",
+        image,
+        &|b| {
+            let _ = black_box(type2::write(black_box(image), message, &mut b.list));
+        },
+        &|b| {
+            let _ = black_box(reference::type2::write(
+                black_box(image),
+                message,
+                &mut b.list,
+            ));
+        },
+    );
+    compare(
+        tag,
+        "judge",
+        image,
+        &|_| {
+            let _ = black_box(type2::judge(black_box(image), message, &list));
+        },
+        &|_| {
+            let _ = black_box(reference::type2::judge(black_box(image), message, &list));
+        },
+    );
+    compare(
+        tag,
+        "model",
+        image,
+        &|b| {
+            let _ = black_box(type2::model(black_box(&mut b.image), command));
+        },
+        &|b| {
+            let _ = black_box(reference::type2::model(black_box(&mut b.image), command));
+        },
+    );
+}
+
+fn type3(tag: &str, image: &[u8], message: &[u8]) {
+    let mut list = vec![0; type3::LIST_MAX];
+    let count = type3::write(image, message, &NUMBER, &mut list).expect("the message fits");
+    let mut starts = vec![0];
+    for i in 0..count {
+        starts.push(starts[i] + type3::command_len(list[starts[i] + 12] as usize));
+    }
+    list.truncate(starts[count]);
+    let command = &list[starts[count / 2]..starts[count / 2 + 1]];
+    assert_eq!(type3::judge(image, message, &NUMBER, &list), Ok(count));
+
+    compare(
+        tag,
+        "read",
+        image,
+        &|_| {
+            let _ = black_box(type3::read(black_box(image)));
+        },
+        &|_| {
+            let _ = black_box(reference::type3::read(black_box(image)));
+        },
+    );
+    compare(
+        tag,
+        "write",
+        image,
+        &|b| {
+            let list = &mut b.list;
+            let _ = black_box(type3::write(black_box(image), message, &NUMBER, list));
+        },
+        &|b| {
+            let list = &mut b.list;
+            let _ = black_box(reference::type3::write(
+                black_box(image),
+                message,
+                &NUMBER,
+                list,
+            ));
+        },
+    );
+    compare(
+        tag,
+        "judge",
+        image,
+        &|_| {
+            let _ = black_box(type3::judge(black_box(image), message, &NUMBER, &list));
+        },
+        &|_| {
+            let _ = black_box(reference::type3::judge(
+                black_box(image),
+                message,
+                &NUMBER,
+                &list,
+            ));
+        },
+    );
+    compare(
+        tag,
+        "model",
+        image,
+        &|b| {
+            let image = black_box(&mut b.image);
+            let _ = black_box(type3::model(image, &NUMBER, command));
+        },
+        &|b| {
+            let image = black_box(&mut b.image);
+            let _ = black_box(reference::type3::model(image, &NUMBER, command));
+        },
+    );
+}
+
+/// A Type 2 image with `data` from 16 on.
+fn image2(len: usize, data: &[u8]) -> Vec<u8> {
+    let mut image = vec![0; len];
+    image[12..16].copy_from_slice(&[0xE1, 0x10, ((len - 16) / 8) as u8, 0x00]);
+    image[16..16 + data.len()].copy_from_slice(data);
+    image
+}
+
+/// A Type 3 image with as many blocks for the message as there are, full of it.
+fn image3(blocks: usize, nbw: u8) -> Vec<u8> {
+    let mut image = vec![0x5A; 16 * blocks];
+    let [high, low] = ((blocks - 1) as u16).to_be_bytes();
+    let [_, a, b, c] = ((16 * (blocks - 1)) as u32).to_be_bytes();
+    let attributes = [0x10, 4, nbw, high, low, 0, 0, 0, 0, 0, 1, a, b, c];
+    image[..14].copy_from_slice(&attributes);
+    let sum: u16 = attributes.iter().map(|&byte| byte as u16).sum();
+    image[14..16].copy_from_slice(&sum.to_be_bytes());
+    image
+}
+
+fn main() {
+    println!("| tag                          | call   | library ns   | reference ns |  ratio |");
+    println!("|------------------------------|--------|--------------|--------------|--------|");
+
+    let small = image2(64, &[0x03, 0x03, 0xD0, 0x00, 0x00, 0xFE]);
+    type2("2: 64 bytes, 3 of message", &small, &[0xD1, 0x01, 0x02]);
+    type2("2: 64 bytes, full", &small, &[0xD1; 46]);
+
+    let mut nulls = image2(1024, &[]);
+    nulls[1000..1006].copy_from_slice(&[0x03, 0x03, 0xD0, 0x00, 0x00, 0xFE]);
+    type2("2: 1,024 bytes of NULL TLVs", &nulls, &[0xD1; 20]);
+
+    // Memory areas past the walk and outside the image, some of them overlapping.
+    let mut areas = Vec::new();
+    for i in 0..190 {
+        let (start, power) = if i % 2 == 0 { (0xFF, 6) } else { (0xF0, 12) };
+        areas.extend([0x02, 0x03, start - (i % 3) as u8, 0x04, power]);
+    }
+    areas.extend([0x03, 0x04, 0xD0, 0x00, 0x00, 0x00, 0xFE]);
+    type2(
+        "2: 1,024 bytes, 190 areas",
+        &image2(1024, &areas),
+        &[0xD1; 40],
+    );
+
+    let mut plain = vec![0x03, 0xFF, 0x03, 0xE8];
+    plain.extend([0x5A; 1000]);
+    plain.push(0xFE);
+    type2(
+        "2: 1,000 bytes of message",
+        &image2(1024, &plain),
+        &[0xD1; 1000],
+    );
+
+    type3("3: 14 blocks, Nbw 1", &image3(14, 1), &[0xD1; 208]);
+    type3("3: 256 blocks, Nbw 1", &image3(256, 1), &[0xD1; 4080]);
+    type3("3: 256 blocks, Nbw 8", &image3(256, 8), &[0xD1; 4080]);
+}

@@ -1,0 +1,229 @@
+//! The C interface. All that is unsafe in this crate is here: every function below hands on
+//! pointers and lengths of slices and arrays that live through the call.
+
+mod c {
+    unsafe extern "C" {
+        pub fn zan_type2_read(
+            image: *const u8,
+            image_len: usize,
+            gathered: *mut u8,
+            gathered_len: usize,
+            out: *mut u64,
+        ) -> u64;
+        pub fn zan_type2_write(
+            image: *const u8,
+            image_len: usize,
+            message: *const u8,
+            message_len: usize,
+            list: *mut u8,
+            list_len: usize,
+        ) -> u64;
+        pub fn zan_type2_judge(
+            image: *const u8,
+            image_len: usize,
+            message: *const u8,
+            message_len: usize,
+            list: *const u8,
+            list_len: usize,
+        ) -> u64;
+        pub fn zan_type2_model(
+            image: *mut u8,
+            image_len: usize,
+            command: *const u8,
+            command_len: usize,
+        ) -> u64;
+        pub fn zan_type2_encode(
+            block: u64,
+            data: *const u8,
+            blocks: u64,
+            bytes: *mut u8,
+            bytes_len: usize,
+        ) -> u64;
+        pub fn zan_type2_decode(
+            bytes: *const u8,
+            bytes_len: usize,
+            blocks: u64,
+            block: *mut u64,
+            data: *mut u8,
+        ) -> u64;
+        pub fn zan_type3_read(image: *const u8, image_len: usize, out: *mut u64) -> u64;
+        pub fn zan_type3_write(
+            image: *const u8,
+            image_len: usize,
+            message: *const u8,
+            message_len: usize,
+            number: *const u8,
+            list: *mut u8,
+            list_len: usize,
+        ) -> u64;
+        pub fn zan_type3_judge(
+            image: *const u8,
+            image_len: usize,
+            message: *const u8,
+            message_len: usize,
+            number: *const u8,
+            list: *const u8,
+            list_len: usize,
+        ) -> u64;
+        pub fn zan_type3_model(
+            image: *mut u8,
+            image_len: usize,
+            number: *const u8,
+            command: *const u8,
+            command_len: usize,
+        ) -> u64;
+        pub fn zan_type3_encode(
+            count: u64,
+            blocks: *const u64,
+            data: *const u8,
+            number: *const u8,
+            nbw: u64,
+            nmaxb: u64,
+            bytes: *mut u8,
+            bytes_len: usize,
+        ) -> u64;
+        pub fn zan_type3_decode(
+            bytes: *const u8,
+            bytes_len: usize,
+            number: *const u8,
+            nbw: u64,
+            nmaxb: u64,
+            count: *mut u64,
+            blocks: *mut u64,
+            data: *mut u8,
+        ) -> u64;
+    }
+}
+
+pub fn type2_read(image: &[u8], gathered: &mut [u8], out: &mut [u64; 5]) -> u64 {
+    let (gathered, gathered_len) = (gathered.as_mut_ptr(), gathered.len());
+    let out = out.as_mut_ptr();
+    unsafe { c::zan_type2_read(image.as_ptr(), image.len(), gathered, gathered_len, out) }
+}
+
+pub fn type2_write(image: &[u8], message: &[u8], list: &mut [u8]) -> u64 {
+    unsafe {
+        c::zan_type2_write(
+            image.as_ptr(),
+            image.len(),
+            message.as_ptr(),
+            message.len(),
+            list.as_mut_ptr(),
+            list.len(),
+        )
+    }
+}
+
+pub fn type2_judge(image: &[u8], message: &[u8], list: &[u8]) -> u64 {
+    unsafe {
+        c::zan_type2_judge(
+            image.as_ptr(),
+            image.len(),
+            message.as_ptr(),
+            message.len(),
+            list.as_ptr(),
+            list.len(),
+        )
+    }
+}
+
+pub fn type2_model(image: &mut [u8], command: &[u8]) -> u64 {
+    let (image, image_len) = (image.as_mut_ptr(), image.len());
+    unsafe { c::zan_type2_model(image, image_len, command.as_ptr(), command.len()) }
+}
+
+pub fn type2_encode(block: u64, data: &[u8; 4], blocks: u64, bytes: &mut [u8]) -> u64 {
+    let (bytes, bytes_len) = (bytes.as_mut_ptr(), bytes.len());
+    unsafe { c::zan_type2_encode(block, data.as_ptr(), blocks, bytes, bytes_len) }
+}
+
+pub fn type2_decode(bytes: &[u8], blocks: u64, block: &mut u64, data: &mut [u8; 4]) -> u64 {
+    let data = data.as_mut_ptr();
+    unsafe { c::zan_type2_decode(bytes.as_ptr(), bytes.len(), blocks, block, data) }
+}
+
+pub fn type3_read(image: &[u8], out: &mut [u64; 5]) -> u64 {
+    unsafe { c::zan_type3_read(image.as_ptr(), image.len(), out.as_mut_ptr()) }
+}
+
+pub fn type3_write(image: &[u8], message: &[u8], number: &[u8; 8], list: &mut [u8]) -> u64 {
+    unsafe {
+        c::zan_type3_write(
+            image.as_ptr(),
+            image.len(),
+            message.as_ptr(),
+            message.len(),
+            number.as_ptr(),
+            list.as_mut_ptr(),
+            list.len(),
+        )
+    }
+}
+
+pub fn type3_judge(image: &[u8], message: &[u8], number: &[u8; 8], list: &[u8]) -> u64 {
+    unsafe {
+        c::zan_type3_judge(
+            image.as_ptr(),
+            image.len(),
+            message.as_ptr(),
+            message.len(),
+            number.as_ptr(),
+            list.as_ptr(),
+            list.len(),
+        )
+    }
+}
+
+pub fn type3_model(image: &mut [u8], number: &[u8; 8], command: &[u8]) -> u64 {
+    unsafe {
+        c::zan_type3_model(
+            image.as_mut_ptr(),
+            image.len(),
+            number.as_ptr(),
+            command.as_ptr(),
+            command.len(),
+        )
+    }
+}
+
+pub fn type3_encode(
+    (count, blocks, data): (u64, &[u64; 8], &[u8; 128]),
+    number: &[u8; 8],
+    nbw: u64,
+    nmaxb: u64,
+    bytes: &mut [u8],
+) -> u64 {
+    unsafe {
+        c::zan_type3_encode(
+            count,
+            blocks.as_ptr(),
+            data.as_ptr(),
+            number.as_ptr(),
+            nbw,
+            nmaxb,
+            bytes.as_mut_ptr(),
+            bytes.len(),
+        )
+    }
+}
+
+pub fn type3_decode(
+    bytes: &[u8],
+    number: &[u8; 8],
+    nbw: u64,
+    nmaxb: u64,
+    (count, blocks, data): (&mut u64, &mut [u64; 8], &mut [u8; 128]),
+) -> u64 {
+    unsafe {
+        c::zan_type3_decode(
+            bytes.as_ptr(),
+            bytes.len(),
+            number.as_ptr(),
+            nbw,
+            nmaxb,
+            count,
+            blocks.as_mut_ptr(),
+            data.as_mut_ptr(),
+        )
+    }
+}

@@ -1,0 +1,200 @@
+//! Type 3 tags: blocks of 16 bytes, images of 16 to 4,096 bytes.
+//!
+//! `number` is the eight-byte manufacturer number that commands carry.
+
+use crate::{answer, ffi, report, Refusal, Report};
+
+/// The length of the longest list that [`write()`] makes for any tag.
+pub const LIST_MAX: usize = 257 * command_len(1);
+
+/// The length of the longest command.
+pub const COMMAND_MAX: usize = command_len(8);
+
+/// The longest image.
+pub const IMAGE_MAX: usize = 4096;
+
+/// The length of a command that writes `count` blocks; a list is walked with it.
+pub const fn command_len(count: usize) -> usize {
+    13 + 18 * count
+}
+
+/// A write command; the front `count` entries of `blocks` and 16 · `count` bytes of `data` count.
+#[derive(Clone, Copy, Debug, PartialEq, Eq)]
+pub struct Command {
+    /// How many blocks.
+    pub count: u64,
+    /// Which blocks.
+    pub blocks: [u64; 8],
+    /// What they are to hold.
+    pub data: [u8; 128],
+}
+
+impl Command {
+    /// A command without blocks.
+    pub const EMPTY: Command = Command {
+        count: 0,
+        blocks: [0; 8],
+        data: [0; 128],
+    };
+
+    /// A command that writes these blocks; none if they are more than eight.
+    ///
+    /// ```
+    /// use zanfirotta::type3::Command;
+    ///
+    /// let command = Command::new(&[(1, [7; 16]), (2, [8; 16])]).unwrap();
+    /// assert_eq!(command.count, 2);
+    /// assert_eq!(command.parts().nth(1), Some((2, &[8; 16][..])));
+    /// ```
+    pub fn new(parts: &[(u64, [u8; 16])]) -> Option<Command> {
+        if parts.len() > 8 {
+            return None;
+        }
+        let mut command = Command::EMPTY;
+        command.count = parts.len() as u64;
+        for (i, (block, data)) in parts.iter().enumerate() {
+            command.blocks[i] = *block;
+            command.data[16 * i..16 * i + 16].copy_from_slice(data);
+        }
+        Some(command)
+    }
+
+    /// The blocks with their data.
+    pub fn parts(&self) -> impl Iterator<Item = (u64, &[u8])> {
+        let count = self.count.min(8) as usize;
+        self.blocks[..count]
+            .iter()
+            .copied()
+            .zip(self.data.chunks_exact(16))
+    }
+}
+
+/// Reads a tag. A message starts at 16; see [`message`](crate::message), which needs no gathered
+/// copy here.
+///
+/// ```
+/// use zanfirotta::{type3, Reading};
+///
+/// let mut image = [0; 224];
+/// image[..16].copy_from_slice(&[16, 4, 1, 0, 13, 0, 0, 0, 0, 0, 1, 0, 0, 35, 0, 0x46]);
+/// let report = type3::read(&image)?;
+/// assert_eq!(report.reading, Reading::Message);
+/// assert_eq!(zanfirotta::message(&image, &[], &report), [0; 35]);
+/// # Ok::<(), zanfirotta::Refusal>(())
+/// ```
+pub fn read(image: &[u8]) -> Result<Report, Refusal> {
+    let mut out = [0; 5];
+    answer(ffi::type3_read(image, &mut out))?;
+    Ok(report(out))
+}
+
+/// Puts the commands that write `message` end to end into `list`; answers how many they are.
+///
+/// ```
+/// use zanfirotta::type3;
+///
+/// let mut image = [0; 224];
+/// image[..16].copy_from_slice(&[16, 4, 1, 0, 13, 0, 0, 0, 0, 0, 1, 0, 0, 35, 0, 0x46]);
+/// let number = [1, 2, 3, 4, 5, 6, 7, 8];
+/// let mut list = [0; type3::LIST_MAX];
+/// assert_eq!(type3::write(&image, &[7; 35], &number, &mut list), Ok(5));
+///
+/// let mut rest = &list[..];
+/// for _ in 0..5 {
+///     let (command, after) = rest.split_at(type3::command_len(rest[12] as usize));
+///     type3::model(&mut image, &number, command)?;
+///     rest = after;
+/// }
+/// let report = type3::read(&image)?;
+/// assert_eq!(zanfirotta::message(&image, &[], &report), [7; 35]);
+/// # Ok::<(), zanfirotta::Refusal>(())
+/// ```
+pub fn write(
+    image: &[u8],
+    message: &[u8],
+    number: &[u8; 8],
+    list: &mut [u8],
+) -> Result<usize, Refusal> {
+    answer(ffi::type3_write(image, message, number, list))
+}
+
+/// Judges whether a list, made by anybody, writes `message` safely; answers how many commands it
+/// has.
+///
+/// ```
+/// use zanfirotta::{type3, RefusalNumber};
+///
+/// let mut image = [0; 224];
+/// image[..16].copy_from_slice(&[16, 4, 1, 0, 13, 0, 0, 0, 0, 0, 1, 0, 0, 35, 0, 0x46]);
+/// // The empty list does for a tag that reads as the message already.
+/// assert_eq!(type3::judge(&image, &[0; 35], &[0; 8], &[]), Ok(0));
+/// let refusal = type3::judge(&image, &[1; 35], &[0; 8], &[]).unwrap_err();
+/// assert_eq!(refusal.number, RefusalNumber::Unfinished);
+/// ```
+pub fn judge(
+    image: &[u8],
+    message: &[u8],
+    number: &[u8; 8],
+    list: &[u8],
+) -> Result<usize, Refusal> {
+    answer(ffi::type3_judge(image, message, number, list))
+}
+
+/// The tag as a model: stores what one command says, protected or not.
+///
+/// ```
+/// use zanfirotta::type3::{self, Command};
+///
+/// let mut image = [0; 224];
+/// image[..16].copy_from_slice(&[16, 4, 1, 0, 13, 0, 0, 0, 0, 0, 1, 0, 0, 35, 0, 0x46]);
+/// let number = [1, 2, 3, 4, 5, 6, 7, 8];
+/// let mut bytes = [0; type3::COMMAND_MAX];
+/// let command = Command::new(&[(3, [9; 16])]).unwrap();
+/// let size = type3::encode(&command, &number, 1, 13, &mut bytes)?;
+/// type3::model(&mut image, &number, &bytes[..size])?;
+/// assert_eq!(image[48..64], [9; 16]);
+/// # Ok::<(), zanfirotta::Refusal>(())
+/// ```
+pub fn model(image: &mut [u8], number: &[u8; 8], command: &[u8]) -> Result<(), Refusal> {
+    answer(ffi::type3_model(image, number, command)).map(|_| ())
+}
+
+/// Puts a command into the front of `bytes`; answers how many bytes it has.
+///
+/// ```
+/// use zanfirotta::type3::{self, Command};
+///
+/// let number = [1, 2, 3, 4, 5, 6, 7, 8];
+/// let mut bytes = [0; type3::COMMAND_MAX];
+/// let command = Command::new(&[(1, [7; 16]), (2, [8; 16])]).unwrap();
+/// let size = type3::encode(&command, &number, 4, 13, &mut bytes)?;
+/// assert_eq!(size, type3::command_len(2));
+/// assert_eq!(bytes[9..17], [0x01, 0x09, 0x00, 2, 0x80, 1, 0x80, 2]);
+/// assert_eq!(type3::decode(&bytes[..size], &number, 4, 13)?, command);
+/// # Ok::<(), zanfirotta::Refusal>(())
+/// ```
+pub fn encode(
+    command: &Command,
+    number: &[u8; 8],
+    nbw: u64,
+    nmaxb: u64,
+    bytes: &mut [u8],
+) -> Result<usize, Refusal> {
+    let parts = (command.count, &command.blocks, &command.data);
+    answer(ffi::type3_encode(parts, number, nbw, nmaxb, bytes))
+}
+
+/// Reads one command.
+///
+/// ```
+/// use zanfirotta::{type3, RefusalNumber};
+///
+/// let refusal = type3::decode(&[0x08], &[0; 8], 1, 13).unwrap_err();
+/// assert_eq!(refusal.number, RefusalNumber::NotWellFormed);
+/// ```
+pub fn decode(bytes: &[u8], number: &[u8; 8], nbw: u64, nmaxb: u64) -> Result<Command, Refusal> {
+    let mut command = Command::EMPTY;
+    let parts = (&mut command.count, &mut command.blocks, &mut command.data);
+    answer(ffi::type3_decode(bytes, number, nbw, nmaxb, parts))?;
+    Ok(command)
+}

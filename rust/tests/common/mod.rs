@@ -1,0 +1,244 @@
+//! Seeded random cases for the tests: tags, messages, foreign command lists; and small helpers.
+
+#![allow(dead_code)]
+
+pub mod codec;
+mod layout2;
+pub mod lists2;
+pub mod lists3;
+pub mod tags2;
+pub mod tags3;
+
+use crate::reference::Refusal;
+
+/// SplitMix64: small, seeded, good enough for test cases.
+pub struct Rng(u64);
+
+impl Rng {
+    pub fn new(seed: u64) -> Self {
+        Rng(seed)
+    }
+
+    /// The generator of case `index` of the test with this seed.
+    pub fn case(seed: u64, index: u64) -> Self {
+        let mut rng = Rng(seed.wrapping_mul(0x2545_F491_4F6C_DD1D) ^ index);
+        rng.next();
+        rng
+    }
+
+    pub fn next(&mut self) -> u64 {
+        self.0 = self.0.wrapping_add(0x9E37_79B9_7F4A_7C15);
+        let mut z = self.0;
+        z = (z ^ (z >> 30)).wrapping_mul(0xBF58_476D_1CE4_E5B9);
+        z = (z ^ (z >> 27)).wrapping_mul(0x94D0_49BB_1331_11EB);
+        z ^ (z >> 31)
+    }
+
+    pub fn byte(&mut self) -> u8 {
+        self.next() as u8
+    }
+
+    /// A number from 0 to before `limit`; 0 if that is 0.
+    pub fn below(&mut self, limit: usize) -> usize {
+        if limit == 0 {
+            0
+        } else {
+            (self.next() % limit as u64) as usize
+        }
+    }
+
+    /// A number from `low` to `high`, both included.
+    pub fn between(&mut self, low: usize, high: usize) -> usize {
+        low + self.below(high - low + 1)
+    }
+
+    pub fn percent(&mut self, chance: usize) -> bool {
+        self.below(100) < chance
+    }
+
+    pub fn pick<T: Copy>(&mut self, from: &[T]) -> T {
+        from[self.below(from.len())]
+    }
+
+    pub fn bytes(&mut self, count: usize) -> Vec<u8> {
+        (0..count).map(|_| self.byte()).collect()
+    }
+
+    /// Random bytes, as many as one of these numbers says.
+    pub fn tail(&mut self, counts: &[usize]) -> Vec<u8> {
+        let count = self.pick(counts);
+        self.bytes(count)
+    }
+
+    pub fn shuffle<T>(&mut self, items: &mut [T]) {
+        for i in (1..items.len()).rev() {
+            items.swap(i, self.below(i + 1));
+        }
+    }
+}
+
+/// A buffer to lend that stands between guard bytes.
+#[derive(Clone, PartialEq, Eq)]
+pub struct Lent {
+    whole: Vec<u8>,
+    start: usize,
+    end: usize,
+}
+
+impl Lent {
+    pub fn random(rng: &mut Rng, len: usize) -> Self {
+        let contents = rng.bytes(len);
+        Lent::holding(rng, &contents)
+    }
+
+    pub fn holding(rng: &mut Rng, contents: &[u8]) -> Self {
+        let start = rng.between(1, 24);
+        let after = rng.between(1, 24);
+        let mut whole = rng.bytes(start + contents.len() + after);
+        let end = start + contents.len();
+        whole[start..end].copy_from_slice(contents);
+        Lent { whole, start, end }
+    }
+
+    pub fn slice(&self) -> &[u8] {
+        &self.whole[self.start..self.end]
+    }
+
+    pub fn lend(&mut self) -> &mut [u8] {
+        &mut self.whole[self.start..self.end]
+    }
+}
+
+/// How often each answer came: index 0 is success, else the refusal number.
+pub struct Tally {
+    name: &'static str,
+    counts: [u64; 32],
+    extra: Vec<(&'static str, u64)>,
+}
+
+impl Tally {
+    pub fn new(name: &'static str) -> Self {
+        Tally {
+            name,
+            counts: [0; 32],
+            extra: Vec::new(),
+        }
+    }
+
+    pub fn add<T>(&mut self, answer: &Result<T, Refusal>) {
+        let index = match answer {
+            Ok(_) => 0,
+            Err(refusal) => refusal.number as usize,
+        };
+        self.counts[index] += 1;
+    }
+
+    /// Counts a further property of a case.
+    pub fn note(&mut self, what: &'static str, holds: bool) {
+        match self.extra.iter_mut().find(|(name, _)| *name == what) {
+            Some((_, count)) => *count += holds as u64,
+            None => self.extra.push((what, holds as u64)),
+        }
+    }
+
+    pub fn print(&self) {
+        let mut line = format!("{:<14} accepted {}", self.name, self.counts[0]);
+        for (number, count) in self.counts.iter().enumerate().skip(1) {
+            if *count > 0 {
+                line += &format!(", {number}: {count}");
+            }
+        }
+        for (what, count) in &self.extra {
+            line += &format!(", {what} {count}");
+        }
+        println!("{line}");
+    }
+
+    /// Prints the counts; fails if one of `expected` (0: success) is rarer than `least`, if an
+    /// answer outside of them came, or if a noted property is rare.
+    pub fn expect(&self, expected: &[usize], least: u64) {
+        self.print();
+        for (number, &count) in self.counts.iter().enumerate() {
+            if expected.contains(&number) {
+                assert!(
+                    count >= least,
+                    "{}: answer {number} is rare: {count}",
+                    self.name
+                );
+            } else {
+                assert!(
+                    count == 0,
+                    "{}: answer {number} came {count} times",
+                    self.name
+                );
+            }
+        }
+        for (what, count) in &self.extra {
+            assert!(*count >= least, "{}: '{what}' is rare: {count}", self.name);
+        }
+    }
+}
+
+pub fn hex(bytes: &[u8]) -> String {
+    bytes.iter().map(|byte| format!("{byte:02X} ")).collect()
+}
+
+/// The length of a message to write, with the boundaries often: `old` is the length of the
+/// message on the tag, `room` the longest that fits.
+pub fn message_len(rng: &mut Rng, old: usize, room: usize) -> usize {
+    match rng.below(22) {
+        0 => 0,
+        1 | 2 => 1,
+        3 => rng.between(2, 4),
+        4 | 5 => rng.between(253, 257),
+        6 | 7 => room,
+        8 => room.saturating_sub(rng.between(0, 3)),
+        9 => room + 1,
+        10 => room + rng.between(2, 2000),
+        11 => old,
+        12 => 16 * rng.between(1, 8) + rng.between(0, 2),
+        13..=16 => rng.between(1, 60).min(room),
+        _ => rng.below(room + 1),
+    }
+}
+
+/// A message to write on a tag that holds `old`: often new, sometimes the old one or near it.
+pub fn message(rng: &mut Rng, old: &[u8], room: usize) -> Vec<u8> {
+    let kind = if old.is_empty() { 4 } else { rng.below(12) };
+    match kind {
+        0 => old.to_vec(),
+        1 => {
+            let mut near = old.to_vec();
+            if !near.is_empty() {
+                let at = rng.below(near.len());
+                near[at] ^= 1 << rng.below(8);
+            }
+            near
+        }
+        2 => {
+            let mut longer = old.to_vec();
+            longer.extend(rng.bytes(3));
+            longer
+        }
+        3 => old[..rng.below(old.len() + 1)].to_vec(),
+        _ => {
+            let len = message_len(rng, old.len(), room);
+            match rng.below(4) {
+                0 => vec![rng.pick(&[0x00, 0x03, 0xFE, 0xFF]); len],
+                _ => rng.bytes(len),
+            }
+        }
+    }
+}
+
+/// The length of a buffer to lend where `needed` bytes are written: enough, exact or too short.
+pub fn buffer_len(rng: &mut Rng, needed: usize) -> usize {
+    match rng.below(8) {
+        0 => needed.saturating_sub(1),
+        1 => rng.below(needed + 1),
+        2 => 0,
+        3 | 4 => needed,
+        5 => needed + 1,
+        _ => needed + rng.below(200),
+    }
+}

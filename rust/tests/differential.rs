@@ -1,0 +1,133 @@
+//! The verified library against the reference, on the same seeded cases.
+//!
+//! Lent buffers stand between guard bytes and are compared whole, after refusals too. Each test
+//! prints how often each answer came and fails if one that is expected is rare.
+
+#[cfg(not(zanfirotta_archive))]
+compile_error!("libcapi.a is missing: run `rt staticlib capi` at the repository's top");
+
+mod common;
+mod reference;
+#[path = "differential/type2.rs"]
+mod type2;
+#[path = "differential/type3.rs"]
+mod type3;
+
+use std::fmt::Debug;
+
+use common::{hex, Lent, Rng};
+use reference::{Kind, ReadAnswer};
+use zanfirotta::{Reading, Refusal, Report};
+
+/// Cases of each operation in the normal run, and in the long one (`-- --ignored`).
+const SUBSET: u64 = 20_000;
+const WHOLE: u64 = 200_000;
+
+/// Two tests for each operation of a type.
+macro_rules! operations {
+    ($($tests:ident: $type:ident::$operation:ident,)*) => {$(
+        mod $tests {
+            #[test]
+            fn subset() {
+                crate::$type::$operation(crate::SUBSET);
+            }
+
+            #[test]
+            #[ignore = "long"]
+            fn whole() {
+                crate::$type::$operation(crate::WHOLE);
+            }
+        }
+    )*};
+}
+
+operations! {
+    type2_read: type2::read,
+    type2_write: type2::write,
+    type2_judge: type2::judge,
+    type2_model: type2::model,
+    type2_encode: type2::encode,
+    type2_decode: type2::decode,
+    type3_read: type3::read,
+    type3_write: type3::write,
+    type3_judge: type3::judge,
+    type3_model: type3::model,
+    type3_encode: type3::encode,
+    type3_decode: type3::decode,
+}
+
+#[test]
+fn type2_every_length() {
+    type2::every_length();
+}
+
+#[test]
+fn type3_every_length() {
+    type3::every_length();
+}
+
+/// An answer of the library in the terms of the reference.
+fn plain<T>(answer: Result<T, Refusal>) -> Result<T, reference::Refusal> {
+    answer.map_err(|refusal| reference::Refusal {
+        number: refusal.number as u8,
+        position: refusal.position as u64,
+    })
+}
+
+fn read_answer(report: Report) -> ReadAnswer {
+    ReadAnswer {
+        kind: match report.reading {
+            Reading::Message => Kind::Message,
+            Reading::Empty => Kind::Empty,
+            Reading::BeingWritten => Kind::BeingWritten,
+        },
+        address: report.address as u64,
+        length: report.length as u64,
+        interrupted: report.interrupted,
+        writable: report.writable,
+    }
+}
+
+/// The number that the C interface gives for an answer.
+fn number(answer: &Result<usize, reference::Refusal>) -> u64 {
+    match answer {
+        Ok(count) => 256 * *count as u64,
+        Err(refusal) => refusal.number as u64 + 256 * refusal.position,
+    }
+}
+
+fn same<T: PartialEq + Debug>(index: u64, got: &T, expected: &T, inputs: &[&[u8]]) {
+    if got != expected {
+        for input in inputs {
+            println!("{}", hex(input));
+        }
+        panic!("case {index}: the library gives {got:?}, the reference {expected:?}");
+    }
+}
+
+/// Whether the buffers hold the same, guard bytes included.
+fn same_buffers(index: u64, got: &Lent, expected: &Lent, inputs: &[&[u8]]) {
+    same(index, &hex(got.slice()), &hex(expected.slice()), inputs);
+    assert!(got == expected, "case {index}: a guard byte changed");
+}
+
+/// Compares the five numbers of reading: the reference's after success, what they were after a
+/// refusal; and numbers beside them are kept.
+fn same_out(
+    index: u64,
+    rng: &mut Rng,
+    expected: &Result<ReadAnswer, reference::Refusal>,
+    call: impl FnOnce(&mut [u64; 5]) -> u64,
+) {
+    let before: [u64; 7] = std::array::from_fn(|_| rng.next());
+    let mut out = before;
+    let answer = call((&mut out[1..6]).try_into().unwrap());
+    let mut wanted = before;
+    if let Ok(read) = expected {
+        let (kind, interrupted) = (read.kind as u64, read.interrupted as u64);
+        let writable = read.writable as u64;
+        wanted[1..6].copy_from_slice(&[kind, read.address, read.length, interrupted, writable]);
+    }
+    same(index, &answer, &number(&expected.map(|_| 0)), &[]);
+    same(index, &out, &wanted, &[]);
+}

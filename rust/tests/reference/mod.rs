@@ -1,0 +1,66 @@
+//! The rules of `docs/01-scope.md` in ordinary Rust.
+//!
+//! Written from that page alone, without a look at the verified code, so that the two can be run
+//! against each other; it is also the baseline of the speed measurements.
+//!
+//! Every function takes what the verified one takes: slices in, an answer out, and `&mut [u8]`
+//! for a buffer that is lent. A refusal changes no byte of such a buffer.
+
+#![allow(dead_code, unused_imports)]
+
+pub mod type2;
+pub mod type3;
+
+/// Why an operation was refused: a number of the page's table and, for 20 to 23, the position of
+/// the command at fault (0 for all other numbers).
+#[derive(Clone, Copy, Debug, PartialEq, Eq)]
+pub struct Refusal {
+    pub number: u8,
+    pub position: u64,
+}
+
+impl Refusal {
+    pub fn new(number: u8) -> Self {
+        Refusal {
+            number,
+            position: 0,
+        }
+    }
+
+    pub fn at(number: u8, position: usize) -> Self {
+        Refusal {
+            number,
+            position: position as u64,
+        }
+    }
+}
+
+/// What a tag reads as. The discriminants are the numbers of the C interface.
+#[derive(Clone, Copy, Debug, PartialEq, Eq)]
+pub enum Kind {
+    Message = 1,
+    Empty = 2,
+    BeingWritten = 3,
+}
+
+/// The answer of reading. Address and length are 0 without a message.
+#[derive(Clone, Copy, Debug, PartialEq, Eq)]
+pub struct ReadAnswer {
+    pub kind: Kind,
+    pub address: u64,
+    pub length: u64,
+    pub interrupted: bool,
+    pub writable: bool,
+}
+
+impl ReadAnswer {
+    /// The message as a part of the image or, if interrupted, of the gathered copy.
+    pub fn message<'a>(&self, image: &'a [u8], gathered: &'a [u8]) -> &'a [u8] {
+        let (from, start) = match (self.kind, self.interrupted) {
+            (Kind::Message, false) => (image, self.address as usize),
+            (Kind::Message, true) => (gathered, 0),
+            _ => (image, 0),
+        };
+        &from[start..start + self.length as usize]
+    }
+}

@@ -1,0 +1,157 @@
+//! The write list, and the judge of foreign lists.
+
+use super::tag::Tag;
+use super::{decode, BLOCK, COMMAND, TERMINATOR, WRITE};
+use crate::reference::Refusal;
+
+/// What writing a message means for a tag.
+struct Plan {
+    /// The image when all is written.
+    image: Vec<u8>,
+    /// The bytes to set; all others are protected.
+    to_set: Vec<bool>,
+    /// The usable addresses after the type byte; the first `used` of them are to be set.
+    places: Vec<usize>,
+    used: usize,
+}
+
+impl Plan {
+    /// Tests 1 to 11 and, if they pass, what has to be set.
+    fn new(image: &[u8], message: &[u8]) -> Result<Self, Refusal> {
+        let tag = Tag::scan(image)?;
+        let n = message.len();
+        if n == 0 {
+            return Err(Refusal::new(9));
+        }
+        if !tag.writable {
+            return Err(Refusal::new(10));
+        }
+        let places = tag.places();
+        let header_len = if n <= 254 { 1 } else { 3 };
+        if places.len() < header_len || places.len() - header_len < n {
+            return Err(Refusal::new(11));
+        }
+
+        let long = [0xFF, (n >> 8) as u8, n as u8];
+        let header = &long[3 - header_len..];
+        let (header_places, rest) = places.split_at(header_len);
+        let (message_places, rest) = rest.split_at(n);
+        let mut new = image.to_vec();
+        let mut to_set = vec![false; image.len()];
+        let mut set = |places: &[usize], bytes: &[u8]| {
+            for (&address, &byte) in places.iter().zip(bytes) {
+                new[address] = byte;
+                to_set[address] = true;
+            }
+        };
+        set(header_places, header);
+        set(message_places, message);
+        set(rest, &[TERMINATOR]); // nothing if no place is left
+        let used = places.len().min(header_len + n + 1);
+        Ok(Plan {
+            image: new,
+            to_set,
+            places,
+            used,
+        })
+    }
+}
+
+/// Puts the commands that write `message` into `list` and answers how many they are.
+pub fn write(image: &[u8], message: &[u8], list: &mut [u8]) -> Result<usize, Refusal> {
+    let plan = Plan::new(image, message)?;
+    let mut blocks: Vec<usize> = plan.places[..plan.used].iter().map(|a| a / BLOCK).collect();
+    blocks.dedup();
+    let count = blocks.len() + 1;
+    if list.len() < COMMAND * count {
+        return Err(Refusal::new(12));
+    }
+
+    // The block of the first length byte goes out twice, the first time with a length of 0.
+    let home = blocks[0];
+    let mut cleared = [0; BLOCK];
+    cleared.copy_from_slice(&image[home * BLOCK..(home + 1) * BLOCK]);
+    cleared[plan.places[0] % BLOCK] = 0;
+    put(&mut list[..COMMAND], home, &cleared);
+
+    let order = blocks[1..].iter().chain(&blocks[..1]);
+    for (command, &block) in list[COMMAND..].chunks_exact_mut(COMMAND).zip(order) {
+        let data = &plan.image[block * BLOCK..(block + 1) * BLOCK];
+        put(command, block, data);
+    }
+    Ok(count)
+}
+
+fn put(command: &mut [u8], block: usize, data: &[u8]) {
+    command[0] = WRITE;
+    command[1] = block as u8;
+    command[2..].copy_from_slice(data);
+}
+
+/// Judges a list that somebody else made for writing `message`; answers how many commands it has.
+///
+/// The bytes up to the type byte and those at skipped addresses are protected, so as long as the
+/// list is good, only length and value of the message TLV have to be read anew.
+pub fn judge(image: &[u8], message: &[u8], list: &[u8]) -> Result<usize, Refusal> {
+    let plan = Plan::new(image, message)?;
+    let mut now = image.to_vec();
+    let old = bytes_at(image, value_places(image, &plan.places).unwrap_or(&[]));
+
+    let mut count = 0;
+    for bytes in list.chunks(COMMAND) {
+        let Ok(command) = decode(bytes, (image.len() / BLOCK) as u64) else {
+            return Err(Refusal::at(20, count));
+        };
+        let start = command.block as usize * BLOCK;
+        for (address, byte) in (start..).zip(command.data) {
+            if !plan.to_set[address] && now[address] != byte {
+                return Err(Refusal::at(21, count));
+            }
+        }
+        now[start..start + BLOCK].copy_from_slice(&command.data);
+        let good = value_places(&now, &plan.places).is_some_and(|value| {
+            value.is_empty() || holds(&now, value, message) || holds(&now, value, &old)
+        });
+        if !good {
+            return Err(Refusal::at(22, count));
+        }
+        count += 1;
+    }
+
+    match value_places(&now, &plan.places) {
+        Some(value) if holds(&now, value, message) => Ok(count),
+        _ => Err(Refusal::at(23, count)),
+    }
+}
+
+/// The places of the message's bytes, given the usable places after the type byte; none if the
+/// tag is refused.
+fn value_places<'a>(image: &[u8], places: &'a [usize]) -> Option<&'a [usize]> {
+    let byte = |i: usize| places.get(i).map(|&address| image[address]);
+    match byte(0)? {
+        0xFF => match u16::from_be_bytes([byte(1)?, byte(2)?]) {
+            long @ 255..=65_534 => places.get(3..3 + long as usize),
+            _ => None,
+        },
+        short => places.get(1..1 + short as usize),
+    }
+}
+
+fn bytes_at(image: &[u8], places: &[usize]) -> Vec<u8> {
+    places.iter().map(|&address| image[address]).collect()
+}
+
+fn holds(image: &[u8], places: &[usize], message: &[u8]) -> bool {
+    if places.len() != message.len() {
+        return false;
+    }
+    match (places.first(), places.last()) {
+        (Some(&first), Some(&last)) if last - first < places.len() => {
+            image[first..=last] == *message
+        }
+        _ => places
+            .iter()
+            .zip(message)
+            .all(|(&a, &byte)| image[a] == byte),
+    }
+}

@@ -1,0 +1,151 @@
+//! Single commands, and the tag as a model that takes them.
+
+use super::tag::Attributes;
+use super::{command_len, BLOCK, HEADER, MAX_COUNT};
+use crate::reference::Refusal;
+
+/// A write command. Only the front `count` blocks count.
+#[derive(Clone, Copy, Debug, PartialEq, Eq)]
+pub struct Command {
+    pub count: u64,
+    pub blocks: [u64; 8],
+    pub data: [u8; 128],
+}
+
+/// What the tag says about commands.
+#[derive(Clone, Copy)]
+pub struct Limits {
+    pub nbw: u64,
+    pub nmaxb: u64,
+}
+
+impl Limits {
+    fn allow_count(&self, count: u64) -> bool {
+        (1..=self.nbw.min(MAX_COUNT as u64)).contains(&count)
+    }
+
+    fn allow_block(&self, block: u64) -> bool {
+        block <= self.nmaxb.min(255)
+    }
+}
+
+/// The bytes of a well-formed command.
+pub struct WellFormed<'a> {
+    names: &'a [u8],
+    data: &'a [u8],
+}
+
+impl<'a> WellFormed<'a> {
+    /// Block numbers with their data.
+    pub fn parts(&self) -> impl Iterator<Item = (usize, &'a [u8])> {
+        let blocks = self.names.chunks_exact(2).map(|name| name[1] as usize);
+        blocks.zip(self.data.chunks_exact(BLOCK))
+    }
+
+    pub fn len(&self) -> usize {
+        HEADER + self.names.len() + self.data.len()
+    }
+
+    pub fn store(&self, image: &mut [u8]) {
+        for (block, data) in self.parts() {
+            image[block * BLOCK..(block + 1) * BLOCK].copy_from_slice(data);
+        }
+    }
+}
+
+/// The parts of a command if it is well formed; bytes left over are not.
+pub fn well_formed<'a>(
+    bytes: &'a [u8],
+    number: &[u8; 8],
+    limits: Limits,
+) -> Option<WellFormed<'a>> {
+    let (header, rest) = bytes.split_at_checked(HEADER)?;
+    let count = header[12] as usize;
+    if header[0] != 0x08
+        || header[1..9] != *number
+        || header[9..12] != [0x01, 0x09, 0x00]
+        || !limits.allow_count(count as u64)
+        || bytes.len() != command_len(count)
+    {
+        return None;
+    }
+    let (names, data) = rest.split_at(2 * count);
+    for (i, name) in names.chunks_exact(2).enumerate() {
+        let twice = names[..2 * i].chunks_exact(2).any(|n| n[1] == name[1]);
+        if name[0] != 0x80 || !limits.allow_block(name[1] as u64) || twice {
+            return None;
+        }
+    }
+    Some(WellFormed { names, data })
+}
+
+/// Puts a command into the front of `bytes` and answers how many bytes it has.
+pub fn encode(
+    command: &Command,
+    number: &[u8; 8],
+    nbw: u64,
+    nmaxb: u64,
+    bytes: &mut [u8],
+) -> Result<usize, Refusal> {
+    let limits = Limits { nbw, nmaxb };
+    if !limits.allow_count(command.count) {
+        return Err(Refusal::new(20));
+    }
+    let count = command.count as usize;
+    let blocks = &command.blocks[..count];
+    for (i, block) in blocks.iter().enumerate() {
+        if !limits.allow_block(*block) || blocks[..i].contains(block) {
+            return Err(Refusal::new(20));
+        }
+    }
+    let Some(bytes) = bytes.get_mut(..command_len(count)) else {
+        return Err(Refusal::new(12));
+    };
+    bytes[0] = 0x08;
+    bytes[1..9].copy_from_slice(number);
+    bytes[9..12].copy_from_slice(&[0x01, 0x09, 0x00]);
+    bytes[12] = count as u8;
+    let (names, data) = bytes[HEADER..].split_at_mut(2 * count);
+    for (name, &block) in names.chunks_exact_mut(2).zip(blocks) {
+        name[0] = 0x80;
+        name[1] = block as u8;
+    }
+    data.copy_from_slice(&command.data[..count * BLOCK]);
+    Ok(bytes.len())
+}
+
+/// Reads one command into the front of `command`'s arrays.
+pub fn decode(
+    bytes: &[u8],
+    number: &[u8; 8],
+    nbw: u64,
+    nmaxb: u64,
+    command: &mut Command,
+) -> Result<(), Refusal> {
+    let limits = Limits { nbw, nmaxb };
+    let Some(read) = well_formed(bytes, number, limits) else {
+        return Err(Refusal::new(20));
+    };
+    command.count = (read.names.len() / 2) as u64;
+    for (i, (block, data)) in read.parts().enumerate() {
+        command.blocks[i] = block as u64;
+        command.data[i * BLOCK..(i + 1) * BLOCK].copy_from_slice(data);
+    }
+    Ok(())
+}
+
+/// The tag takes one command.
+pub fn model(image: &mut [u8], number: &[u8; 8], command: &[u8]) -> Result<(), Refusal> {
+    let attributes = Attributes::of(image)?;
+    let limits = Limits {
+        nbw: attributes.nbw as u64,
+        nmaxb: attributes.nmaxb as u64,
+    };
+    match well_formed(command, number, limits) {
+        Some(command) => {
+            command.store(image);
+            Ok(())
+        }
+        None => Err(Refusal::new(20)),
+    }
+}

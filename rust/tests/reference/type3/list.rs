@@ -1,0 +1,140 @@
+//! The write list, and the judge of foreign lists.
+
+use super::codec::{well_formed, Limits};
+use super::tag::{checksum, Attributes};
+use super::{BEING_WRITTEN, BLOCK, HEADER, MAX_COUNT, WRITE_FLAG};
+use crate::reference::Refusal;
+
+/// Tests 1 to 11.
+fn writable_for(image: &[u8], message: &[u8]) -> Result<Attributes, Refusal> {
+    let attributes = Attributes::of(image)?;
+    if message.is_empty() {
+        return Err(Refusal::new(9));
+    }
+    if !attributes.writable {
+        return Err(Refusal::new(10));
+    }
+    if message.len() > attributes.room() {
+        return Err(Refusal::new(11));
+    }
+    Ok(attributes)
+}
+
+/// The length of a command that names `count` blocks.
+pub fn command_len(count: usize) -> usize {
+    HEADER + count * (2 + BLOCK)
+}
+
+/// Puts the commands that write `message` into `list` and answers how many they are.
+pub fn write(
+    image: &[u8],
+    message: &[u8],
+    number: &[u8; 8],
+    list: &mut [u8],
+) -> Result<usize, Refusal> {
+    let attributes = writable_for(image, message)?;
+    let blocks = message.len().div_ceil(BLOCK);
+    let width = MAX_COUNT.min(attributes.nbw as usize);
+    let full = blocks / width;
+    let rest = blocks % width;
+    let data_commands = full + usize::from(rest > 0);
+    let size = 2 * command_len(1) + data_commands * HEADER + blocks * (2 + BLOCK);
+    if list.len() < size {
+        return Err(Refusal::new(12));
+    }
+
+    let mut block0 = [0; BLOCK];
+    block0.copy_from_slice(&image[..BLOCK]);
+    block0[WRITE_FLAG] = BEING_WRITTEN;
+    let sum = checksum(&block0);
+    block0[14..].copy_from_slice(&sum);
+    let mut rest = put(list, number, 0, &block0);
+
+    let mut first = 1;
+    for part in message.chunks(width * BLOCK) {
+        rest = put(rest, number, first, part);
+        first += width;
+    }
+
+    block0[WRITE_FLAG] = 0;
+    block0[11..14].copy_from_slice(&(message.len() as u32).to_be_bytes()[1..]);
+    let sum = checksum(&block0);
+    block0[14..].copy_from_slice(&sum);
+    put(rest, number, 0, &block0);
+    Ok(2 + data_commands)
+}
+
+/// Puts one command that writes `bytes` from block `first` on, the last block filled with 00h,
+/// and hands on what is left of the list.
+fn put<'a>(list: &'a mut [u8], number: &[u8; 8], first: usize, bytes: &[u8]) -> &'a mut [u8] {
+    let count = bytes.len().div_ceil(BLOCK);
+    let (command, rest) = list.split_at_mut(command_len(count));
+    command[0] = 0x08;
+    command[1..9].copy_from_slice(number);
+    command[9..12].copy_from_slice(&[0x01, 0x09, 0x00]);
+    command[12] = count as u8;
+    let (names, data) = command[HEADER..].split_at_mut(2 * count);
+    for (name, block) in names.chunks_exact_mut(2).zip(first..) {
+        name[0] = 0x80;
+        name[1] = block as u8;
+    }
+    data[..bytes.len()].copy_from_slice(bytes);
+    data[bytes.len()..].fill(0);
+    rest
+}
+
+/// Judges a list that somebody else made for writing `message`; answers how many commands it has.
+pub fn judge(
+    image: &[u8],
+    message: &[u8],
+    number: &[u8; 8],
+    list: &[u8],
+) -> Result<usize, Refusal> {
+    let attributes = writable_for(image, message)?;
+    let old = attributes.message(image);
+    let blocks = message.len().div_ceil(BLOCK);
+    let limits = Limits {
+        nbw: attributes.nbw as u64,
+        nmaxb: attributes.nmaxb as u64,
+    };
+    let mut now = image.to_vec();
+    let mut rest = list;
+    let mut position = 0;
+
+    while !rest.is_empty() {
+        let Some(command) = well_formed(cut(rest), number, limits) else {
+            return Err(Refusal::at(20, position));
+        };
+        for (block, data) in command.parts() {
+            let held = &now[block * BLOCK..(block + 1) * BLOCK];
+            let kept = match block {
+                0 => data[..9] == held[..9] && data[10] == held[10],
+                _ => block <= blocks || data == held,
+            };
+            if !kept {
+                return Err(Refusal::at(21, position));
+            }
+        }
+        command.store(&mut now);
+        match Attributes::of(&now).map(|attributes| attributes.message(&now)) {
+            Ok(reading) if reading.is_none() || reading == old || reading == Some(message) => {}
+            _ => return Err(Refusal::at(22, position)),
+        }
+        rest = &rest[command.len()..];
+        position += 1;
+    }
+
+    match Attributes::of(&now) {
+        Ok(attributes) if attributes.message(&now) == Some(message) => Ok(position),
+        _ => Err(Refusal::at(23, position)),
+    }
+}
+
+/// The first command of a list that is not empty; all of the list if that is too short for one.
+fn cut(list: &[u8]) -> &[u8] {
+    let size = match list.get(HEADER - 1) {
+        Some(&count) => command_len(count as usize),
+        None => HEADER,
+    };
+    list.get(..size).unwrap_or(list)
+}

@@ -1,0 +1,102 @@
+//! Reading: the attributes in block 0.
+
+use super::{BEING_WRITTEN, BLOCK, MAX_IMAGE, WRITE_FLAG};
+use crate::reference::{Kind, ReadAnswer, Refusal};
+
+/// What block 0 says.
+#[derive(Clone, Copy, Debug)]
+pub struct Attributes {
+    pub nbw: u8,
+    pub nmaxb: u16,
+    pub being_written: bool,
+    pub writable: bool,
+    pub length: usize,
+}
+
+impl Attributes {
+    /// Tests 1 to 7.
+    pub fn of(image: &[u8]) -> Result<Self, Refusal> {
+        if !image.len().is_multiple_of(BLOCK) || !(BLOCK..=MAX_IMAGE).contains(&image.len()) {
+            return Err(Refusal::new(1));
+        }
+        if image[14..16] != checksum(image) {
+            return Err(Refusal::new(2));
+        }
+        if image[0] != 0x10 {
+            return Err(Refusal::new(3));
+        }
+        let (nbr, nbw) = (image[1], image[2]);
+        let being_written = match image[WRITE_FLAG] {
+            0x00 => false,
+            BEING_WRITTEN => true,
+            _ => return Err(Refusal::new(4)),
+        };
+        let read_write = match image[10] {
+            0x00 => false,
+            0x01 => true,
+            _ => return Err(Refusal::new(4)),
+        };
+        if nbr == 0 {
+            return Err(Refusal::new(4));
+        }
+        let nmaxb = u16::from_be_bytes([image[3], image[4]]);
+        if BLOCK * (1 + nmaxb as usize) > image.len() {
+            return Err(Refusal::new(5));
+        }
+        let length = u32::from_be_bytes([0, image[11], image[12], image[13]]) as usize;
+        if length > BLOCK * nmaxb as usize {
+            return Err(Refusal::new(7));
+        }
+        Ok(Attributes {
+            nbw,
+            nmaxb,
+            being_written,
+            writable: read_write && nbw >= 1,
+            length,
+        })
+    }
+
+    /// The longest length that fits.
+    pub fn room(&self) -> usize {
+        BLOCK * self.nmaxb as usize
+    }
+
+    /// The message of the image that these attributes belong to, if it holds one.
+    pub fn message<'a>(&self, image: &'a [u8]) -> Option<&'a [u8]> {
+        if self.being_written || self.length == 0 {
+            None
+        } else {
+            Some(&image[BLOCK..BLOCK + self.length])
+        }
+    }
+}
+
+/// The sum of bytes 0 to 13, high byte first.
+pub fn checksum(attributes: &[u8]) -> [u8; 2] {
+    let sum: u16 = attributes[..14].iter().map(|&byte| byte as u16).sum();
+    sum.to_be_bytes()
+}
+
+/// The longest length that fits.
+pub fn room(image: &[u8]) -> Result<usize, Refusal> {
+    Ok(Attributes::of(image)?.room())
+}
+
+/// Reads a tag.
+pub fn read(image: &[u8]) -> Result<ReadAnswer, Refusal> {
+    let attributes = Attributes::of(image)?;
+    let (kind, address, length) = if attributes.being_written {
+        (Kind::BeingWritten, 0, 0)
+    } else if attributes.length == 0 {
+        (Kind::Empty, 0, 0)
+    } else {
+        (Kind::Message, BLOCK as u64, attributes.length as u64)
+    };
+    Ok(ReadAnswer {
+        kind,
+        address,
+        length,
+        interrupted: false,
+        writable: attributes.writable,
+    })
+}

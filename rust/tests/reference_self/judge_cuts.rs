@@ -1,0 +1,96 @@
+//! The judge against the page said once more; cuts of accepted lists.
+
+use crate::common::{lists2, lists3, message, tags2, tags3, Rng, Tally};
+use crate::reference::{type2, type3};
+use crate::{naive2, naive3, CASES};
+
+/// The judge against the page said once more; and from every cut of an accepted list the model
+/// follows and writing afresh ends where our list ends.
+#[test]
+fn type2_judge_and_cuts() {
+    let mut tally = Tally::new("type2 judge");
+    let mut cuts = 0;
+    for index in 0..CASES {
+        let mut rng = Rng::case(5, index);
+        let image = tags2::for_lists(&mut rng);
+        let (old, room) = tags2::message_and_room(&image);
+        let message = message(&mut rng, &old, room);
+        let list = lists2::any(&mut rng, &image, &message);
+        let answer = type2::judge(&image, &message, &list);
+        tally.add(&answer);
+        assert_eq!(
+            answer,
+            naive2::judge(&image, &message, &list),
+            "case {index}"
+        );
+        if answer.is_err() || !rng.percent(20) {
+            continue;
+        }
+        let end = run2(&image, &lists2::ours(&image, &message));
+        let mut cut = image.clone();
+        for command in lists2::split(&list).iter().map(Some).chain([None]) {
+            cuts += 1;
+            let again = run2(&cut, &lists2::ours(&cut, &message));
+            assert!(again == end, "case {index}");
+            if let Some(command) = command {
+                type2::model(&mut cut, command).unwrap();
+            }
+        }
+        assert_eq!(tags2::message_and_room(&end).0, message);
+    }
+    println!("type2 cuts     {cuts}");
+    tally.expect(&[0, 1, 2, 3, 4, 5, 6, 7, 8, 9, 10, 11, 20, 21, 22, 23], 100);
+}
+
+fn run2(image: &[u8], list: &[lists2::Command]) -> Vec<u8> {
+    let mut image = image.to_vec();
+    for command in list {
+        type2::model(&mut image, command).unwrap();
+    }
+    image
+}
+
+#[test]
+fn type3_judge_and_cuts() {
+    let mut tally = Tally::new("type3 judge");
+    let mut cuts = 0;
+    for index in 0..CASES {
+        let mut rng = Rng::case(6, index);
+        let image = tags3::for_lists(&mut rng);
+        let number = rng.next().to_be_bytes();
+        let (old, room) = tags3::message_and_room(&image);
+        let message = message(&mut rng, &old, room);
+        let list = lists3::any(&mut rng, &image, &message, &number);
+        let answer = type3::judge(&image, &message, &number, &list);
+        tally.add(&answer);
+        assert_eq!(
+            answer,
+            naive3::judge(&image, &message, &number, &list),
+            "case {index}"
+        );
+        if answer.is_err() || !rng.percent(20) {
+            continue;
+        }
+        let end = run3(&image, &message, &number);
+        let mut cut = image.clone();
+        let commands = lists3::split(&list);
+        for command in commands.iter().map(Some).chain([None]) {
+            cuts += 1;
+            assert!(run3(&cut, &message, &number) == end, "case {index}");
+            if let Some(command) = command {
+                type3::model(&mut cut, &number, command).unwrap();
+            }
+        }
+        assert_eq!(tags3::message_and_room(&end).0, message);
+    }
+    println!("type3 cuts     {cuts}");
+    tally.expect(&[0, 1, 2, 3, 4, 5, 7, 9, 10, 11, 20, 21, 22, 23], 100);
+}
+
+fn run3(image: &[u8], message: &[u8], number: &[u8; 8]) -> Vec<u8> {
+    let mut end = image.to_vec();
+    for command in lists3::split(&lists3::our_bytes(image, message, number)) {
+        type3::model(&mut end, number, &command).unwrap();
+    }
+    end
+}

@@ -1,0 +1,17 @@
+//! The reference by itself: the specimens of the page, and consistency over random cases. Needs
+//! no archive.
+
+#[path = "../common/mod.rs"]
+mod common;
+#[path = "../reference/mod.rs"]
+mod reference;
+
+mod codec_model;
+mod judge_cuts;
+mod naive2;
+mod naive3;
+mod read_write;
+mod specimens;
+
+/// Random cases of each kind.
+const CASES: u64 = 20_000;

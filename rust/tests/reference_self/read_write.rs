@@ -1,0 +1,199 @@
+//! Reading against the page said once more; our list.
+
+use crate::common::{buffer_len, hex, lists2, lists3, message, tags2, tags3, Lent, Rng, Tally};
+use crate::reference::{type2, type3, Kind, Refusal};
+use crate::{naive2, naive3, CASES};
+
+/// Reading against the page said once more.
+#[test]
+fn type2_read_is_as_the_page_says() {
+    let mut tally = Tally::new("type2 read");
+    for index in 0..CASES {
+        let mut rng = Rng::case(1, index);
+        let image = tags2::any(&mut rng);
+        let needed = tags2::message_and_room(&image).0.len();
+        let len = buffer_len(&mut rng, needed);
+        let mut gathered = Lent::random(&mut rng, len);
+        let mut expected = gathered.clone();
+        let answer = type2::read(&image, gathered.lend());
+        tally.add(&answer);
+        let naive = naive2::read(&image);
+        let interrupted = match (answer, naive) {
+            (Err(refusal), Err(number)) => {
+                assert_eq!(refusal, Refusal::new(number), "{}", hex(&image));
+                false
+            }
+            (Ok(answer), Ok(tag)) => {
+                let message: Vec<u8> = tag.value.iter().map(|&a| image[a]).collect();
+                let address = *tag.value.first().unwrap_or(&0);
+                let gap = tag.value.windows(2).any(|pair| pair[0] + 1 != pair[1]);
+                assert_eq!(answer.kind == Kind::Empty, message.is_empty());
+                assert_eq!(answer.address, address as u64);
+                assert_eq!(answer.length, message.len() as u64);
+                assert_eq!(answer.interrupted, gap);
+                assert_eq!(answer.writable, tag.writable);
+                if gap {
+                    expected.lend()[..message.len()].copy_from_slice(&message);
+                }
+                assert_eq!(answer.message(&image, gathered.slice()), message);
+                assert_eq!(type2::room(&image).unwrap().0, tag.usable.len());
+                gap
+            }
+            (Err(refusal), Ok(tag)) => {
+                assert_eq!(refusal, Refusal::new(13));
+                assert!(tag.value.windows(2).any(|pair| pair[0] + 1 != pair[1]));
+                assert!(gathered.slice().len() < tag.value.len());
+                false
+            }
+            (answer, _) => panic!("{answer:?} for {}", hex(&image)),
+        };
+        assert!(gathered == expected);
+        tally.note("interrupted", interrupted);
+        tally.note("empty", answer.is_ok_and(|a| a.kind == Kind::Empty));
+        tally.note("read-only", answer.is_ok_and(|a| !a.writable));
+    }
+    tally.expect(&[0, 1, 2, 3, 4, 5, 6, 7, 8, 13], 100);
+}
+
+#[test]
+fn type3_read_is_as_the_page_says() {
+    let mut tally = Tally::new("type3 read");
+    for index in 0..CASES {
+        let image = tags3::any(&mut Rng::case(2, index));
+        let answer = type3::read(&image);
+        tally.add(&answer);
+        match (answer, naive3::read(&image)) {
+            (Err(refusal), Err(number)) => assert_eq!(refusal, Refusal::new(number)),
+            (Ok(answer), Ok((being_written, ln, writable))) => {
+                let expected = match (being_written, ln) {
+                    (true, _) => (Kind::BeingWritten, 0, 0),
+                    (false, 0) => (Kind::Empty, 0, 0),
+                    (false, ln) => (Kind::Message, 16, ln as u64),
+                };
+                assert_eq!((answer.kind, answer.address, answer.length), expected);
+                assert_eq!((answer.interrupted, answer.writable), (false, writable));
+            }
+            (answer, naive) => panic!("{answer:?} {naive:?} for {}", hex(&image)),
+        }
+        for (what, kind) in [
+            ("empty", Kind::Empty),
+            ("being written", Kind::BeingWritten),
+        ] {
+            tally.note(what, answer.is_ok_and(|a| a.kind == kind));
+        }
+    }
+    tally.expect(&[0, 1, 2, 3, 4, 5, 7], 100);
+}
+
+/// Our list is exact, is accepted, leads to the message, and 11 comes exactly if nothing fits.
+#[test]
+fn type2_write_keeps_its_promises() {
+    let mut tally = Tally::new("type2 write");
+    for index in 0..CASES {
+        let mut rng = Rng::case(3, index);
+        let image = tags2::any(&mut rng);
+        let (old, room) = tags2::message_and_room(&image);
+        let message = message(&mut rng, &old, room);
+        let needed = 6 * lists2::ours(&image, &message).len();
+        let len = buffer_len(&mut rng, needed);
+        let mut list = Lent::random(&mut rng, len);
+        let before = list.clone();
+        let answer = type2::write(&image, &message, list.lend());
+        tally.add(&answer);
+        let count = match answer {
+            Ok(count) => count,
+            Err(refusal) => {
+                assert!(list == before);
+                if refusal.number == 12 {
+                    assert!(len < needed);
+                }
+                if refusal.number == 11 {
+                    let tag = naive2::read(&image).unwrap();
+                    assert!(!naive2::fits(message.len(), tag.usable.len()));
+                }
+                continue;
+            }
+        };
+        assert_eq!(6 * count, needed);
+        assert!(list.slice()[needed..] == before.slice()[needed..]);
+        let ours = &list.slice()[..needed];
+        assert_eq!(type2::judge(&image, &message, ours), Ok(count));
+
+        // The bytes to set hold what they should, all others what they held.
+        let tag = naive2::read(&image).unwrap();
+        let to_set = naive2::to_set(&tag, message.len());
+        let mut written = image.clone();
+        for command in ours.chunks(6) {
+            type2::model(&mut written, command).unwrap();
+        }
+        for (address, byte) in image.iter().enumerate() {
+            assert!(to_set.contains(&address) || written[address] == *byte);
+        }
+        let mut expected = vec![message.len() as u8];
+        if message.len() > 254 {
+            let n = message.len();
+            expected = vec![0xFF, (n >> 8) as u8, n as u8];
+        }
+        expected.extend(&message);
+        expected.push(0xFE);
+        for (&address, &byte) in to_set.iter().zip(&expected) {
+            assert_eq!(written[address], byte);
+        }
+        // The order: the first length byte's block, the others rising, that block again.
+        let home = (tag.usable[0] / 4) as u8;
+        let mut blocks: Vec<u8> = to_set.iter().map(|&a| (a / 4) as u8).collect();
+        blocks.dedup();
+        assert_eq!(blocks[0], home);
+        blocks.push(home);
+        let named: Vec<u8> = ours.chunks(6).map(|command| command[1]).collect();
+        assert_eq!(named[1..], blocks[1..]);
+        assert_eq!(named[0], home);
+        let mut cleared = image[4 * home as usize..4 * home as usize + 4].to_vec();
+        cleared[tag.usable[0] % 4] = 0;
+        assert_eq!(ours[2..6], cleared);
+    }
+    tally.expect(&[0, 1, 2, 3, 4, 5, 6, 7, 8, 9, 10, 11, 12], 100);
+}
+
+#[test]
+fn type3_write_keeps_its_promises() {
+    let mut tally = Tally::new("type3 write");
+    for index in 0..CASES {
+        let mut rng = Rng::case(4, index);
+        let image = tags3::any(&mut rng);
+        let number = rng.next().to_be_bytes();
+        let (old, room) = tags3::message_and_room(&image);
+        let message = message(&mut rng, &old, room);
+        let needed = lists3::our_bytes(&image, &message, &number).len();
+        let len = buffer_len(&mut rng, needed);
+        let mut list = Lent::random(&mut rng, len);
+        let before = list.clone();
+        let answer = type3::write(&image, &message, &number, list.lend());
+        tally.add(&answer);
+        let Ok(count) = answer else {
+            assert!(list == before);
+            continue;
+        };
+        assert!(list.slice()[needed..] == before.slice()[needed..]);
+        let ours = &list.slice()[..needed];
+        assert_eq!(type3::judge(&image, &message, &number, ours), Ok(count));
+        let k = message.len().div_ceil(16);
+        let w = image[2].min(8) as usize;
+        assert_eq!(count, 2 + k.div_ceil(w));
+        let mut blocks = Vec::new();
+        let mut written = image.clone();
+        for command in lists3::split(ours) {
+            type3::model(&mut written, &number, &command).unwrap();
+            blocks.extend((0..command[12] as usize).map(|i| command[14 + 2 * i] as usize));
+            assert!(command[12] as usize <= w);
+        }
+        let expected: Vec<usize> = [0].into_iter().chain(1..=k).chain([0]).collect();
+        assert_eq!(blocks, expected);
+        let mut data = message.clone();
+        data.resize(16 * k, 0);
+        assert_eq!(written[16..16 + 16 * k], data);
+        assert_eq!(written[16 + 16 * k..], image[16 + 16 * k..]);
+        assert_eq!((written[..9] == image[..9], written[10]), (true, image[10]));
+    }
+    tally.expect(&[0, 1, 2, 3, 4, 5, 7, 9, 10, 11, 12], 100);
+}
