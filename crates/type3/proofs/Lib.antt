@@ -8,3 +8,5 @@ pub mod Counts
 pub mod Naming
 pub mod Encoding
 pub mod Decoding
+pub mod Attributes
+pub mod Answers

@@ -6,3 +6,4 @@ pub mod Codec
 pub mod Type3
 pub mod InPlace
 pub mod CodecViews
+pub mod Views

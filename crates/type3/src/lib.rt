@@ -2,6 +2,7 @@
 
 pub mod commands;
 mod names;
+pub mod read;
 
 // A write command: the numbers of its blocks, of which the first `count` are used, and sixteen bytes for each of them.
 pub struct Command {

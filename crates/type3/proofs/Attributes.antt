@@ -1,0 +1,33 @@
+-- The attributes as the code has them: sums of bytes, and what the tests have shown.
+-- Assumes nothing.
+use mathlib.Core.Path.{_≡_, refl}
+use mathlib.Core.List.{List, [], _∷_}
+use Prim.Native.Nat.{ℕ, _+_}
+use native.Mathlib.Omega.{arith}
+use native.Mathlib.Numerals.{add-one}
+use lib.ListN.{length}
+use Rattle.tag.specs.Bytes.{byte}
+use Rattle.type3.specs.Attributes.{steadySum, attributes}
+use Rattle.type3.specs.Views.{sumTo, attributeBlock, attributeCommand}
+use Rattle.type3.proofs.Codec.{length-command}
+
+pub sum-more : (i : List ℕ) (n : ℕ) → sumTo i (n + 1) ≡ sumTo i n + byte i n
+unfolding sumTo
+sum-more i n = rw (add-one n)
+
+-- the sum that the checksum is compared with
+pub sum-is : (i : List ℕ) → sumTo i 14 ≡ attributes i .sum
+unfolding sumTo
+sum-is i = omega arith
+
+-- the sum of the bytes of block 0 that writing keeps
+pub sum-steady : (i : List ℕ) → sumTo i 9 + byte i 10 ≡ steadySum i
+unfolding sumTo
+sum-steady i = omega arith
+
+pub length-attribute-block : (i : List ℕ) (flag n : ℕ) → length (attributeBlock i flag n) ≡ 16
+unfolding attributeBlock
+length-attribute-block i flag n = refl
+
+pub length-attribute-command : (number i : List ℕ) (flag n : ℕ) → length number ≡ 8 → length (attributeCommand number i flag n) ≡ 31
+length-attribute-command number i flag n eight = length-command number (0 ∷ []) (attributeBlock i flag n) eight (length-attribute-block i flag n)

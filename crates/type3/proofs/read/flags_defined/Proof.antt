@@ -1,0 +1,33 @@
+-- `read::flags_defined` meets its contract. Assumes nothing.
+use mathlib.Core.Path.{sym, _∙_}
+use borrow.Author.Needs.{needs}
+use borrow.Author.Tests.{not-true, not-false}
+use Rattle.type3.proofs.read.flags_defined.Statement.{statement}
+use Rattle.type3.proofs.read.flags_defined.Tie as tie
+
+returns : tie.Need-returns
+returns c = rw (sym (c .before .is-either .ensures) ∙ not-true _ (c .if1 .taken))
+
+returns-2 : tie.Need-returns-2
+returns-2 c =
+    let first = c .before .before .before .before .is-either .ensures in
+    rw (sym first ∙ not-false _ (c .before .before .before .if1 .left), sym (c .before .is-either2 .ensures) ∙ not-true _ (c .if2 .taken))
+
+returns-3 : tie.Need-returns-3
+returns-3 c =
+    let first = c .before .before .before .before .before .is-either .ensures in
+    let second = c .before .before .is-either2 .ensures in
+    rw (sym first ∙ not-false _ (c .before .before .before .before .if1 .left), sym second ∙ not-false _ (c .before .if2 .left))
+
+pub flags-defined-spec : {M : Type 1} → statement M
+flags-defined-spec =
+    tie.close
+    (tie.spec
+    (λ c. search needs)
+    (λ c κs. search needs)
+    returns
+    (λ c. search needs)
+    (λ c κs. search needs)
+    returns-2
+    (λ c. search needs)
+    returns-3)
