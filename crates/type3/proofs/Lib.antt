@@ -10,3 +10,11 @@ pub mod Encoding
 pub mod Decoding
 pub mod Attributes
 pub mod Answers
+pub mod Parts
+pub mod Runs
+pub mod Body
+pub mod Dealing
+pub mod Chosen
+pub mod Sixteen
+pub mod ListBytes
+pub mod Writing

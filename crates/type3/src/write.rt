@@ -1,0 +1,247 @@
+// Writing to a Type 3 tag: the list of commands for a message, laid straight into the caller's buffer.
+
+use crate::read;
+use crate::read::Attributes;
+use crate::read::Checked;
+use tag::Block;
+use tag::CountAnswer;
+ghost use mathlib.Core.Path.{_≡_};
+ghost use mathlib.Core.List.{[], _∷_, _++_};
+ghost use Prim.Native.Nat.{_+_, _-_, _*_, _/_, _<_, _≤_, min};
+ghost use lib.ListN.{length, take, drop};
+ghost use Rattle.tag.specs.Bytes.{byte, run};
+ghost use Rattle.tag.specs.TagType.{write, outputInto};
+ghost use Rattle.tag.specs.Answers.{countOf, countAs};
+ghost use Rattle.type3.specs.Update.{blocksFor, blocksPerCommand, body};
+ghost use Rattle.type3.specs.Codec.{namesBytes, opening};
+ghost use Rattle.type3.specs.Type3.{type3};
+ghost use Rattle.type3.specs.Views.{filled, attributeBlock, attributeCommand, messageCommand, messageCommands, listAs, Readable, Fills, Dealt, Listing};
+
+// ---- the parts of a command
+
+// The bytes of a command up to its block count.
+fn put_opening(number: &[u8], count: usize, out: &mut [u8])
+    requires { ⌜ (length (now number) ≡ 8) × (count < 256) × (13 ≤ length (now out)) ⌝ }
+    ensures { λ _. ⌜ now (out .exit) ≡ (opening (now (number .entry)) ++ (count ∷ [])) ++ drop 13 (now (out .entry)) ⌝ }
+{
+    let front = [
+        0x08,
+        number[0],
+        number[1],
+        number[2],
+        number[3],
+        number[4],
+        number[5],
+        number[6],
+        number[7],
+        0x01,
+        0x09,
+        0x00,
+        count as u8,
+    ];
+    bytes::copy(&front, out);
+}
+
+// The names of `count` blocks from `first` on: 80h and the number.
+fn put_names(first: Block, count: usize, out: &mut [u8])
+    requires { ⌜ (first .0 + count ≤ 256) × (2 * count ≤ length (now out)) ⌝ }
+    ensures { λ _. ⌜ now (out .exit) ≡ namesBytes (run (first .0) count) ++ drop (2 * count) (now (out .entry)) ⌝ }
+{
+    let b = first.0;
+    let mut j = 0usize;
+    while j < count {
+        out[2 * j] = 0x80;
+        out[2 * j + 1] = (b + j) as u8;
+        j += 1;
+    }
+}
+
+// The byte of a part, or 00h past its end.
+fn byte_or_zero(part: &[u8], at: usize) -> u8
+    ensures { λ r. ⌜ r ≡ byte (now (part .entry)) at ⌝ }
+{
+    if at < part.len() { part[at] } else { 0x00 }
+}
+
+// A block of the message: sixteen bytes of the part, filled with 00h.
+fn fill_block(part: &[u8], out: &mut [u8])
+    requires { ⌜ 16 ≤ length (now out) ⌝ }
+    ensures { λ _. ⌜ now (out .exit) ≡ filled (now (part .entry)) ++ drop 16 (now (out .entry)) ⌝ }
+{
+    let mut j = 0usize;
+    while j < 16 {
+        out[j] = byte_or_zero(part, j);
+        j += 1;
+    }
+}
+
+// The bytes of `count` blocks of the message, past its first `skip` blocks.
+fn put_blocks(message: &[u8], skip: usize, count: usize, out: &mut [u8])
+    requires { ⌜ (skip + count ≤ blocksFor (length (now message))) × (length (now message) ≤ 4096) × (16 * count ≤ length (now out)) ⌝ }
+    ensures { λ _. ⌜ now (out .exit) ≡ take (16 * count) (drop (16 * skip) (body (now (message .entry)))) ++ drop (16 * count) (now (out .entry)) ⌝ }
+{
+    let mut j = 0usize;
+    while j < count {
+        let i = skip + j;
+        fill_block(&message[16 * i..], &mut out[16 * j..]);
+        j += 1;
+    }
+}
+
+// Block 0 with this WriteFlag and this Ln, and its checksum; all else as the image has it.
+fn put_attribute_block(image: &[u8], flag: u8, ln: usize, out: &mut [u8])
+    requires { ⌜ (16 ≤ length (now image)) × (ln < 65536) × (16 ≤ length (now out)) ⌝ }
+    ensures { λ _. ⌜ now (out .exit) ≡ attributeBlock (now (image .entry)) flag ln ++ drop 16 (now (out .entry)) ⌝ }
+{
+    let high = ln / 65536;
+    let mid = ln / 256 % 256;
+    let low = ln % 256;
+    let sum = read::sum(image, 9) + read::wide(image[10]) + read::wide(flag) + high + mid + low;
+    let block = [
+        image[0],
+        image[1],
+        image[2],
+        image[3],
+        image[4],
+        image[5],
+        image[6],
+        image[7],
+        image[8],
+        flag,
+        image[10],
+        high as u8,
+        mid as u8,
+        low as u8,
+        (sum / 256) as u8,
+        (sum % 256) as u8,
+    ];
+    bytes::copy(&block, out);
+}
+
+// ---- the commands
+
+// Writes block 0 with this WriteFlag and this Ln.
+fn put_attributes(image: &[u8], number: &[u8], flag: u8, ln: usize, out: &mut [u8])
+    requires { ⌜ (16 ≤ length (now image)) × (length (now number) ≡ 8) × (ln < 65536) × (31 ≤ length (now out)) ⌝ }
+    ensures { λ _. ⌜ now (out .exit) ≡ attributeCommand (now (number .entry)) (now (image .entry)) flag ln ++ drop 31 (now (out .entry)) ⌝ }
+{
+    put_opening(number, 1, out);
+    put_names(Block(0), 1, &mut out[13..]);
+    put_attribute_block(image, flag, ln, &mut out[15..]);
+}
+
+// Writes `count` blocks of the message, past its first `skip`; the message starts at block 1.
+fn put_command(message: &[u8], number: &[u8], skip: usize, count: usize, out: &mut [u8])
+    requires { ⌜ Fills (now message) (now number) skip count × (13 + 18 * count ≤ length (now out)) ⌝ }
+    ensures { λ _. ⌜ now (out .exit) ≡ messageCommand (now (number .entry)) (now (message .entry)) skip count ++ drop (13 + 18 * count) (now (out .entry)) ⌝ }
+{
+    let first = Block(1 + skip);
+    let at = 13 + 2 * count;
+    put_opening(number, count, out);
+    put_names(first, count, &mut out[13..]);
+    put_blocks(message, skip, count, &mut out[at..]);
+}
+
+// How many of `left` blocks the next command takes.
+fn smaller(w: usize, left: usize) -> usize
+    ensures { λ r. ⌜ r ≡ min w left ⌝ }
+{
+    if w < left { w } else { left }
+}
+
+// Writes all blocks of the message, `w` to a command, in `turns` commands.
+fn put_message(message: &[u8], number: &[u8], w: usize, turns: usize, out: &mut [u8])
+    requires { ⌜ Dealt (blocksFor (length (now message))) w turns × (length (now number) ≡ 8) × (13 * turns + 18 * blocksFor (length (now message)) ≤ length (now out)) ⌝ }
+    ensures { λ _. ⌜ now (out .exit) ≡ messageCommands (now (number .entry)) (now (message .entry)) w turns ++ drop (13 * turns + 18 * blocksFor (length (now (message .entry)))) (now (out .entry)) ⌝ }
+{
+    let k = (message.len() + 15) / 16;
+    let mut at = 0usize;
+    let mut skip = 0usize;
+    let mut t = 0usize;
+    while t < turns {
+        let count = smaller(w, k - skip);
+        put_command(message, number, skip, count, &mut out[at..]);
+        at += 13 + 18 * count;
+        skip += w;
+        t += 1;
+    }
+}
+
+// ---- the list
+
+// Lays the list: block 0 with WriteFlag 0Fh and Ln as it was, the message's blocks, block 0 with WriteFlag 00h and the new Ln.
+fn put_list(
+    image: &[u8],
+    message: &[u8],
+    number: &[u8],
+    ln: usize,
+    w: usize,
+    turns: usize,
+    list: &mut [u8],
+)
+    requires { ⌜ Listing (now image) (now message) (now number) ln w turns (length (now list)) ⌝ }
+    ensures { λ _. ⌜ now (list .exit) ≡ listAs (now (number .entry)) (now (image .entry)) (now (message .entry)) ln w turns ++ drop (62 + 13 * turns + 18 * blocksFor (length (now (message .entry)))) (now (list .entry)) ⌝ }
+{
+    let n = message.len();
+    let k = (n + 15) / 16;
+    let last = 31 + 13 * turns + 18 * k;
+    put_attributes(image, number, 0x0F, ln, list);
+    put_message(message, number, w, turns, &mut list[31..]);
+    put_attributes(image, number, 0x00, n, &mut list[last..]);
+}
+
+// How many commands `k` blocks take, `w` to a command.
+fn turns_for(k: usize, w: usize) -> usize
+    requires { ⌜ (k ≤ 255) × (0 < w) × (w ≤ 8) ⌝ }
+    ensures is { λ r. ⌜ r ≡ (k + (w - 1)) / w ⌝ }
+    ensures dealt { λ r. ⌜ Dealt k w r ⌝ }
+{
+    (k + (w - 1)) / w
+}
+
+// Refusals 9 to 12, or the list, for a tag that reads.
+fn write_to(
+    image: &[u8],
+    message: &[u8],
+    number: &[u8],
+    a: Attributes,
+    list: &mut [u8],
+) -> CountAnswer
+    requires { ⌜ Readable (now image) a × (length (now number) ≡ 8) ⌝ }
+    ensures is { λ r. ⌜ countAs r ≡ countOf (write (type3 (now (number .entry))) (length (now (list .entry))) (now (image .entry)) (now (message .entry))) ⌝ }
+    ensures laid { λ _. ⌜ now (list .exit) ≡ outputInto (now (list .entry)) (write (type3 (now (number .entry))) (length (now (list .entry))) (now (image .entry)) (now (message .entry))) ⌝ }
+{
+    let n = message.len();
+    if n == 0 {
+        return CountAnswer::Refused(9);
+    }
+    if !a.writable {
+        return CountAnswer::Refused(10);
+    }
+    let nmaxb = a.nmaxb;
+    if 16 * nmaxb < n {
+        return CountAnswer::Refused(11);
+    }
+    let k = (n + 15) / 16;
+    let w = smaller(a.nbw, 8);
+    let turns = turns_for(k, w);
+    if list.len() < 62 + 13 * turns + 18 * k {
+        return CountAnswer::Refused(12);
+    }
+    let ln = a.ln;
+    put_list(image, message, number, ln, w, turns, list);
+    let count = 2 + turns;
+    CountAnswer::Count(count)
+}
+
+// Writes the list for the message to the front of `list`, and answers with the number of its commands.
+pub fn write(image: &[u8], message: &[u8], number: &[u8; 8], list: &mut [u8]) -> CountAnswer
+    ensures is { λ r. ⌜ countAs r ≡ countOf (write (type3 (now (number .entry))) (length (now (list .entry))) (now (image .entry)) (now (message .entry))) ⌝ }
+    ensures laid { λ _. ⌜ now (list .exit) ≡ outputInto (now (list .entry)) (write (type3 (now (number .entry))) (length (now (list .entry))) (now (image .entry)) (now (message .entry))) ⌝ }
+{
+    let checked = read::attributes_of(image);
+    match checked {
+        Checked::Fault(n) => CountAnswer::Refused(n),
+        Checked::Fine(a) => write_to(image, message, number, a, list),
+    }
+}
