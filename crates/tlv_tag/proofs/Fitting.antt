@@ -25,7 +25,7 @@ use Rattle.tlv.specs.Finding.{FoundPlaced}
 use Rattle.tlv.proofs.Finding.{find-all}
 use Rattle.tlv_tag.specs.declared.space.Space as code
 use Rattle.tlv_tag.specs.declared.space.Space.the-variants as answer
-use Rattle.tlv_tag.specs.Space.{Blank, SpaceHere, SpacePlaced}
+use Rattle.tlv_tag.specs.Space.{Blank, Room, SpaceHere, SpacePlaced}
 
 -- one byte of length and n of message
 pub ltb-leb : (n u : ℕ) → ltb n u ≡ leb (1 + n) u
@@ -81,3 +81,6 @@ pub here-placed : (i t : List ℕ) (n first end : ℕ) (v : Walk) (r : code.Spac
     → SpaceHere i t n v r → SpacePlaced i t n first end r
 here-placed i t n first end v (answer.Refused k) l e h = tt
 here-placed i t n first end v (answer.At w) l e h = (h .0, omega (arith, h .1), h .2 ∙ e)
+
+pub space-room : {i t : List ℕ} {n : ℕ} {w : Walk} {r : code.Space} (first end : ℕ) → SpacePlaced i t n first end r → r ≡ answer.At w → Room i t n w
+space-room {i} {t} {n} first end p e = subst (SpacePlaced i t n first end) e p .0

@@ -2,7 +2,9 @@
 
 pub mod commands;
 pub mod container;
+pub mod list;
 pub mod read;
+pub mod write;
 
 use tag::Block;
 
