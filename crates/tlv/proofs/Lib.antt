@@ -17,3 +17,4 @@ pub mod Steps
 pub mod Passing
 pub mod Marking
 pub mod Finding
+pub mod Refusals

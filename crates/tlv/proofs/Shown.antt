@@ -75,3 +75,11 @@ module _ (T : TlvTag) (laws : TlvLaws T) where
           let k : length (map (byte i) (a ∷ ms)) ≡ n = length-map (a ∷ ms) (byte i) in
           let g : part a n i ≡ take n (drop a i) = rw (le-leb (a + n) (length i) l) in
           rw (← r) (ap (λ j. part a j i) k ∙ g ∙ sym b)
+
+  -- a message is no longer than the image
+  pub message-short : (i : List ℕ) (p : Report) → reading T i ≡ reads p → length (p .bytes) ≤ length i
+  message-short i p e = let (us, ms, q, r) = by-report i p e in let (x, h) = message-above i us ms q in go x ms r h
+    where
+      go : (x : ℕ) (ms : List ℕ) → reportOf ((T .writable) i) i ms ≡ p → Above (length i) x ms → length (p .bytes) ≤ length i
+      go x [] r h = rw (← r) (omega arith)
+      go x (a ∷ ms) r h = rw (← r) (omega (arith, length-map (a ∷ ms) (byte i), above-length (length i) x (a ∷ ms) h))

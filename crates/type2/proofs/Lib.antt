@@ -11,3 +11,4 @@ pub mod Parts
 pub mod Guarding
 pub mod Preparing
 pub mod Deciding
+pub mod Modelling

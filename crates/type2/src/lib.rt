@@ -3,6 +3,7 @@
 pub mod commands;
 pub mod container;
 pub mod list;
+pub mod model;
 pub mod read;
 pub mod write;
 

@@ -1,0 +1,74 @@
+-- The tag as a model, by the tests that the code makes: reading's refusal, and whether the command is well formed.
+-- Assumes nothing.
+use mathlib.Core.Path.{_≡_, refl, ap, _∙_}
+use mathlib.Core.Bool.{Bool, true, false, _&&_, _||_}
+use mathlib.Core.List.{List, [], _∷_}
+use Prim.Native.Nat.{ℕ, _+_, _*_, _/_}
+use native.Mathlib.Omega.{arith}
+use lib.Dec.{leb, eqb}
+use lib.ListN.{length, drop}
+use lib.Seq.{sets}
+use Rattle.tag.specs.Bytes.{byte}
+use Rattle.tag.specs.Refusals.{not-well-formed}
+use Rattle.tag.specs.Checks.{check, firstOf}
+use Rattle.tag.specs.Reading.{Reading, unreadable, reads, refusalNumber}
+use Rattle.tag.specs.Stores.{Store, Command, ill, stores}
+use Rattle.tag.specs.Model.{unstored, stored, modelBy, model}
+use Rattle.tag.specs.Version.{knownVersion}
+use Rattle.tlv.proofs.Refusals.{Checking, Numbered, numbered}
+use Rattle.type2.specs.Memory.{imageLength, containerChecks, memory}
+use Rattle.type2.specs.Codec.{wellFormed, decode, commandOf}
+use Rattle.type2.specs.Type2.{type2}
+use Rattle.type2.proofs.Encoding.{decode-formed, decode-ill}
+
+-- no refusal of the capability container is 0
+checking : (n mark version size access : ℕ) → Checking (firstOf (containerChecks n mark version size access))
+checking n mark version size access =
+    go (imageLength n) (eqb mark 0xE1) (knownVersion version) (eqb access 0x00 || eqb access 0x0F) (leb (16 + 8 * size) n)
+  where
+    go : (a b c d e : Bool) → Checking (firstOf (check a 1 ∷ check b 2 ∷ check c 3 ∷ check d 4 ∷ check e 5 ∷ []))
+    go false b c d e = omega arith
+    go true false c d e = omega arith
+    go true true false d e = omega arith
+    go true true true false e = omega arith
+    go true true true true false = omega arith
+    go true true true true true = tt
+
+-- nor is one of reading
+pub type2-numbered : (i : List ℕ) → Numbered ((type2 .reading) i)
+type2-numbered i = numbered memory (λ j. checking (length j) (byte j 12) (byte j 13) (byte j 14) (byte j 15)) i
+
+-- ---- commands by their form
+
+pub command-ill : (i bs : List ℕ) → wellFormed (length i / 4) bs ≡ false → (type2 .command) i bs ≡ ill
+command-ill i bs e = ap commandOf (decode-ill (length i / 4) bs e)
+
+pub command-formed : (i bs : List ℕ) → wellFormed (length i / 4) bs ≡ true
+    → (type2 .command) i bs ≡ stores (record { at = 4 * byte bs 1; bytes = drop 2 bs } ∷ [])
+command-formed i bs e = ap commandOf (decode-formed (length i / 4) bs e)
+
+-- ---- the three answers
+
+module _ (i bs : List ℕ) where
+  pub model-unread : (refusalNumber ((type2 .reading) i) ≡ 0 → ⊥) → model type2 i bs ≡ unstored (refusalNumber ((type2 .reading) i))
+  model-unread n = go ((type2 .reading) i) n
+    where
+      go : (v : Reading) → (refusalNumber v ≡ 0 → ⊥) → modelBy i v ((type2 .command) i bs) ≡ unstored (refusalNumber v)
+      go (unreadable r) h = refl
+      go (reads p) h = absurd (h refl)
+
+  pub model-ill : refusalNumber ((type2 .reading) i) ≡ 0 → wellFormed (length i / 4) bs ≡ false → model type2 i bs ≡ unstored not-well-formed
+  model-ill n e = ap (modelBy i ((type2 .reading) i)) (command-ill i bs e) ∙ go ((type2 .reading) i) (type2-numbered i) n
+    where
+      go : (v : Reading) → Numbered v → refusalNumber v ≡ 0 → modelBy i v ill ≡ unstored not-well-formed
+      go (unreadable r) h q = absurd (omega arith)
+      go (reads p) h q = refl
+
+  pub model-stored : refusalNumber ((type2 .reading) i) ≡ 0 → wellFormed (length i / 4) bs ≡ true
+      → model type2 i bs ≡ stored (sets i (4 * byte bs 1) (drop 2 bs))
+  model-stored n e = ap (modelBy i ((type2 .reading) i)) (command-formed i bs e) ∙ go ((type2 .reading) i) (type2-numbered i) n
+    where
+      go : (v : Reading) → Numbered v → refusalNumber v ≡ 0
+          → modelBy i v (stores (record { at = 4 * byte bs 1; bytes = drop 2 bs } ∷ [])) ≡ stored (sets i (4 * byte bs 1) (drop 2 bs))
+      go (unreadable r) h q = absurd (omega arith)
+      go (reads p) h q = refl

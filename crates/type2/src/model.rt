@@ -1,0 +1,44 @@
+// A Type 2 tag as a model that takes one command a call.
+
+use crate::commands;
+use crate::read;
+use tag::Block;
+use tag::ModelAnswer;
+use tag::slices;
+ghost use mathlib.Core.Path.{_≡_};
+ghost use mathlib.Core.Bool.{true};
+ghost use Prim.Native.Nat.{_*_, _/_};
+ghost use lib.ListN.{length, drop};
+ghost use lib.Seq.{sets};
+ghost use Rattle.tag.specs.Bytes.{byte};
+ghost use Rattle.tag.specs.Model.{model, imageAfter};
+ghost use Rattle.tag.specs.Answers.{modelAs, storingOf};
+ghost use Rattle.type2.specs.Codec.{wellFormed};
+ghost use Rattle.type2.specs.Type2.{type2};
+
+// Stores the four bytes of a command in the block that it names.
+pub fn store_block(image: &mut [u8], command: &[u8])
+    requires { ⌜ wellFormed (length (now image) / 4) (now command) ≡ true ⌝ }
+    ensures { λ _. ⌜ now (image .exit) ≡ sets (now (image .entry)) (4 * byte (now (command .entry)) 1) (drop 2 (now (command .entry))) ⌝ }
+{
+    let block = Block(command[1] as usize);
+    let first = block.address(4);
+    let at = first.0;
+    slices::store(&command[2..], at, image);
+}
+
+// Reading's refusals but 13, then 20; else the block that the command names is stored, protected or not.
+pub fn model(image: &mut [u8], command: &[u8]) -> ModelAnswer
+    ensures answer { λ r. ⌜ modelAs r ≡ storingOf (model type2 (now (image .entry)) (now (command .entry))) ⌝ }
+    ensures image { λ _. ⌜ now (image .exit) ≡ imageAfter (now (image .entry)) (model type2 (now (image .entry)) (now (command .entry))) ⌝ }
+{
+    let refusal = read::refusal(image);
+    if refusal != 0 {
+        return ModelAnswer::Refused(refusal);
+    }
+    if !commands::is_command(command, image.len() / 4) {
+        return ModelAnswer::Refused(20);
+    }
+    store_block(image, command);
+    ModelAnswer::Stored
+}

@@ -1,0 +1,3 @@
+-- Laws that the code of the tag as a model needs.
+pub mod Storing
+pub mod Giving

@@ -1,0 +1,2 @@
+-- What the code of the tag as a model goes by.
+pub mod Views
