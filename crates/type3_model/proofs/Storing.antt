@@ -84,8 +84,8 @@ module _ (number : List ℕ) (nbw nmaxb : ℕ) (bytes : List ℕ) (h : isCommand
           let at : byte (numbers (byte bytes 12) (drop 13 bytes)) k ≡ byte bytes (14 + 2 * k)
           = number-at (byte bytes 12) (drop 13 bytes) k u ∙ getD-drop 13 bytes (1 + 2 * k) 0 ∙ ap (byte bytes) e in
           omega (
-          arith,
-          nameable-each nmaxb (numbers (byte bytes 12) (drop 13 bytes)) q k (omega (arith, length-numbers (byte bytes 12) (drop 13 bytes)))
+            arith,
+            nameable-each nmaxb (numbers (byte bytes 12) (drop 13 bytes)) q k (omega (arith, length-numbers (byte bytes 12) (drop 13 bytes))),
           )
 
   -- and it stores what it carries in place
