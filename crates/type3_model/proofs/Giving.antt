@@ -11,7 +11,7 @@ use Rattle.tag.specs.Checks.{fine, fault, firstOf}
 use Rattle.tag.specs.Stores.{Command, ill, stores}
 use Rattle.tag.specs.Model.{modelBy, unstored}
 use Rattle.type3.specs.Attributes.{attributes, attributeChecks, mayWrite}
-use Rattle.type3.specs.Message.{View, busy, view, viewBy, readingOf, reading}
+use Rattle.type3.specs.Message.{busy, view, viewBy, readingOf, reading}
 use Rattle.type3_model.specs.Views.{given}
 
 pub model-refused : (i : List ℕ) (r : ℕ) (c : Command) → firstOf (attributeChecks (length i) (attributes i)) ≡ fault r

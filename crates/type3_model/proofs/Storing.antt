@@ -1,6 +1,6 @@
 -- What a command's bytes store, block by block; and where a well-formed command's blocks lie.
 -- Assumes nothing.
-use mathlib.Core.Path.{_≡_, refl, sym, ap, _∙_}
+use mathlib.Core.Path.{_≡_, refl, ap, _∙_}
 use mathlib.Core.Bool.{true}
 use mathlib.Core.List.{List, [], _∷_}
 use Prim.Native.Nat.{ℕ, zero, suc, _+_, _-_, _*_, _<_, _≤_}
@@ -10,7 +10,7 @@ use lib.Seq.{sets, length-sets, drop-drop, getD-drop}
 use Rattle.tag.specs.Bytes.{byte}
 use Rattle.tag.specs.Stores.{Store, put, puts, stores}
 use Rattle.type3.specs.Codec.{nameable, decode, storesOf, commandOf}
-use Rattle.type3.specs.InPlace.{numbers, carried}
+use Rattle.type3.specs.InPlace.{numbers}
 use Rattle.type3.specs.CodecViews.{isCommand, Framed}
 use Rattle.type3.proofs.Naming.{nameable-each, length-numbers}
 use Rattle.type3.proofs.Decoding.{frame, decode-carried}

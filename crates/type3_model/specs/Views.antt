@@ -1,6 +1,6 @@
 -- What a command's bytes store, taken in place, and a command given to a tag that reads.
 -- Assumes nothing.
-use mathlib.Core.List.{List, [], _∷_}
+use mathlib.Core.List.{List}
 use Prim.Native.Nat.{ℕ, _+_, _-_, _*_, _<_, _≤_}
 use lib.ListN.{length, drop}
 use Rattle.tag.specs.Bytes.{byte}
@@ -9,7 +9,6 @@ use Rattle.tag.specs.Stores.{Store, Command, ill, stores, puts}
 use Rattle.tag.specs.Model.{Modelled, unstored, stored}
 use Rattle.type3.specs.Codec.{storesOf}
 use Rattle.type3.specs.InPlace.{numbers}
-use Rattle.type3.specs.CodecViews.{Framed}
 
 -- what the blocks from place k on store, of a command that names b blocks
 abbrev pub storesFrom : List ℕ → ℕ → ℕ → List Store

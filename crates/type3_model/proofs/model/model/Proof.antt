@@ -1,6 +1,5 @@
 -- `model::model` meets its contract. Assumes nothing.
-use mathlib.Core.Path.{_≡_, sym, ap, subst, _∙_}
-use native.Mathlib.Omega.{arith}
+use mathlib.Core.Path.{sym, ap, subst, _∙_}
 use borrow.Author.Needs.{needs}
 use Rattle.tag.specs.Bytes.{byte}
 use Rattle.tag.specs.Answers.{storingOf}
@@ -12,35 +11,13 @@ use Rattle.type3_model.specs.Views.{given}
 use Rattle.type3_model.proofs.Giving.{model-refused, model-given}
 use Rattle.type3_model.proofs.model.model.Statement.{statement}
 use Rattle.type3_model.proofs.model.model.Tie as tie
-use Rattle.type3_model.proofs.model.model.Reads as reads
-use Rattle.type3_model.proofs.model.model.Lts as lts
-use Rattle.type3.proofs.read.attributes_of.Reads as attributes-of-reads
-use Rattle.type3_model.proofs.model.give.Reads as give-reads
 
--- src/model.rt:36:9
-attributes-of-requires : tie.Need-attributes-of-requires
-attributes-of-requires c κs = search needs
-
--- src/model.rt:38:24
-enum-known-checked : tie.Need-enum-known-checked
-enum-known-checked c = search needs
-
--- src/model.rt:39:23
-enum-known-checked-2 : tie.Need-enum-known-checked-2
-enum-known-checked-2 c = search needs
-
--- src/model.rt:42:13
 give-requires : tie.Need-give-requires
 give-requires c κs =
     let i = c .before .before .before .before .before .before .before .before .args .image .now in
     let known = subst (Known i) (c .before .before .checked2 .given .1) (c .before .before .before .before .attributes-of .ensures .1) in
     known .reach
 
--- src/model.rt:32:1
-same-length : tie.Need-same-length
-same-length c = search needs
-
--- src/model.rt:32:1
 returns : tie.Need-returns
 returns c =
     let a = c .before .before .before .before .before .before .before .args in
@@ -49,11 +26,6 @@ returns c =
     let e = model-refused i (r .0 .0) (commandOf (decode (a .number .now) (byte i 2) (nmaxbOf i) (a .command .now))) (sym (c .before .before .before .attributes-of .ensures .0) ∙ ap checkedAs (r .1)) in
     (ap storingOf (sym e), ap (imageAfter i) (sym e))
 
--- src/model.rt:32:1
-same-length-2 : tie.Need-same-length-2
-same-length-2 c = search needs
-
--- src/model.rt:32:1
 returns-2 : tie.Need-returns-2
 returns-2 c =
     let a = c .before .before .before .before .before .before .before .before .before .before .before .args in
@@ -69,11 +41,11 @@ pub model-spec : {M : Type 1} → statement M
 model-spec =
     tie.close
     (tie.spec
-    attributes-of-requires
-    enum-known-checked
-    enum-known-checked-2
+    (λ c κs. search needs)
+    (λ c. search needs)
+    (λ c. search needs)
     give-requires
-    same-length
+    (λ c. search needs)
     returns
-    same-length-2
+    (λ c. search needs)
     returns-2)

@@ -5,17 +5,13 @@ use Prim.Native.Nat.{_+_, _-_, _*_, _≤_}
 use native.Mathlib.Omega.{arith}
 use borrow.Author.Needs.{needs}
 use lib.ListN.{length, take, drop}
-use lib.Seq.{sets, length-sets}
+use lib.Seq.{length-sets}
 use Rattle.tag.specs.Bytes.{byte}
 use Rattle.tag.specs.Stores.{puts}
 use Rattle.type3_model.specs.Views.{storesFrom}
 use Rattle.type3_model.proofs.Storing.{puts-next, puts-end}
 use Rattle.type3_model.proofs.stores.store_blocks.Statement.{statement}
 use Rattle.type3_model.proofs.stores.store_blocks.Tie as tie
-use Rattle.type3_model.proofs.stores.store_blocks.Reads as reads
-use Rattle.type3_model.proofs.stores.store_blocks.Lts as lts
-use Rattle.type3.proofs.read.wide.Reads as wide-reads
-use Rattle.type3_model.proofs.stores.store_block.Reads as store-block-reads
 
 abbrev Inv-loop : tie.InvT-loop
 Inv-loop command image₀ count k₀ image k =
@@ -24,19 +20,9 @@ Inv-loop command image₀ count k₀ image k =
 abbrev μ-loop : tie.MeasureT-loop
 μ-loop command image₀ count k₀ image k = count - k
 
--- src/stores.rt:32:28
-shared-slice-read-wide : tie.Need-shared-slice-read-wide Inv-loop μ-loop
-shared-slice-read-wide c = search needs
-
--- src/stores.rt:32:9
-wide-requires : tie.Need-wide-requires Inv-loop μ-loop
-wide-requires c κs = search needs
-
--- src/stores.rt:34:5
 loop-holds : tie.Need-loop-holds Inv-loop μ-loop
 loop-holds c = (search needs, refl, refl)
 
--- src/stores.rt:35:9
 store-block-requires : tie.Need-store-block-requires Inv-loop μ-loop
 store-block-requires c κs =
     let l = c .before .before .loop in
@@ -44,15 +30,6 @@ store-block-requires c κs =
     let p = c .before .before .before .before .before .before .before .pre in
     (omega (arith, w .0, p .few), omega arith, omega (arith, w .0, p .whole), omega (arith, w .0, l .inv .1, p .inside (l .k) (omega (arith, w .0))))
 
--- src/stores.rt:36:9
-add-k : tie.Need-add-k Inv-loop μ-loop
-add-k c = search needs
-
--- src/stores.rt:34:5
-loop-less : tie.Need-loop-less Inv-loop μ-loop
-loop-less c = search needs
-
--- src/stores.rt:34:5
 loop-again : tie.Need-loop-again Inv-loop μ-loop
 loop-again c =
     let l = c .before .before .before .before .before .loop in
@@ -65,11 +42,6 @@ loop-again c =
       l .inv .2 ∙ puts-next (l .image) bytes b (l .k) (omega arith) ∙ ap (λ j. puts j (storesFrom bytes b (l .k + 1))) (sym done),
     )
 
--- src/stores.rt:27:1
-same-length : tie.Need-same-length Inv-loop μ-loop
-same-length c = search needs
-
--- src/stores.rt:27:1
 returns : tie.Need-returns Inv-loop μ-loop
 returns c =
     let l = c .before .loop in
@@ -86,12 +58,12 @@ store-blocks-spec =
     (tie.spec
     Inv-loop
     μ-loop
-    shared-slice-read-wide
-    wide-requires
+    (λ c. search needs)
+    (λ c κs. search needs)
     loop-holds
     store-block-requires
-    add-k
-    loop-less
+    (λ c. search needs)
+    (λ c. search needs)
     loop-again
-    same-length
+    (λ c. search needs)
     returns)

@@ -1,0 +1,5 @@
+-- Laws of the judge of Type 2 tags.
+pub mod Holding
+pub mod Faults
+pub mod Turns
+pub mod Preparing

@@ -1,0 +1,69 @@
+-- `judge::judge_area` meets its contract. Assumes nothing.
+use mathlib.Core.Path.{_≡_, sym, ap, _∙_, subst}
+use native.Mathlib.Omega.{arith}
+use borrow.Author.Needs.{needs}
+use lib.ListN.{length}
+use Rattle.tag.specs.Judge.{judgeBy}
+use Rattle.tlv.specs.Space.{no-space}
+use Rattle.tlv.specs.Views.{ahead}
+use Rattle.tlv_tag.specs.Space.{spaceAs, SpacePlaced}
+use Rattle.type2.specs.Type2.{type2}
+use Rattle.type2_judge.proofs.Preparing.{by-space, writable-at, addresses-at}
+use Rattle.type2_judge.proofs.judge.judge_area.Statement.{statement}
+use Rattle.type2_judge.proofs.judge.judge_area.Tie as tie
+
+find-space-requires : tie.Need-find-space-requires
+find-space-requires c κs =
+    let p = c .before .before .before .before .before .pre in
+    record {
+      zeros = p .0 .zeros;
+      ordered = omega (arith, p .1 .ends);
+      in-table = omega (arith, p .1 .inside, p .1 .short, p .0 .size);
+      in-image = p .1 .inside;
+      short = omega (arith, p .0 .size);
+    }
+
+judge-space-requires : tie.Need-judge-space-requires
+judge-space-requires c κs =
+    let s = c .before .before .before .before .before .before .before .before .before .before .before .before in
+    let a = s .args in
+    let f = c .before .before .before .before .before .before .find-space in
+    let g = c .before .before .w .given in
+    let e = sym (ap (spaceAs (f .last .1 .1 .0)) (g .1)) ∙ f .ensures .0 in
+    let room = subst (SpacePlaced (a .image .now) (f .last .1 .1 .0) (length (a .message .now)) 16 (a .end .0)) (g .1) (f .ensures .1) in (
+      writable-at (a .image .now) (a .message .now) (a .end .0) (a .writable) (s .pre .1) (s .pre .2) _ e,
+      room .0,
+      addresses-at (a .image .now) (a .message .now) (a .end .0) (a .writable) (s .pre .1) (s .pre .2) _ e,
+    )
+
+returns : tie.Need-returns
+returns c =
+    let s = c .before .before .before .before .before .before .before .before .before .before .before in
+    let a = s .args in
+    let f = c .before .before .before .before .before .find-space in
+    let g = c .before .r .given in
+    let e = sym (ap (spaceAs (f .last .1 .1 .0)) (g .1)) ∙ f .ensures .0 in
+    sym (ap (judgeBy type2 (a .image .now) (a .message .now) (a .list .now)) (by-space (a .image .now) (a .message .now) (a .end .0) (a .writable) (s .pre .1) (s .pre .2) _ e))
+
+returns-2 : tie.Need-returns-2
+returns-2 c =
+    let s = c .before .before .before .before .before .before .before .before .before .before .before .before .before in
+    let a = s .args in
+    let f = c .before .before .before .before .before .before .before .find-space in
+    let g = c .before .before .before .w .given in
+    let e = sym (ap (spaceAs (f .last .1 .1 .0)) (g .1)) ∙ f .ensures .0 in
+    c .judge-space .ensures
+    ∙ sym (ap (judgeBy type2 (a .image .now) (a .message .now) (a .list .now)) (writable-at (a .image .now) (a .message .now) (a .end .0) (a .writable) (s .pre .1) (s .pre .2) _ e .plan-is))
+
+pub judge-area-spec : {M : Type 1} → statement M
+judge-area-spec =
+    tie.close
+    (tie.spec
+    find-space-requires
+    (λ c. search needs)
+    (λ c. search needs)
+    judge-space-requires
+    (λ c. search needs)
+    returns
+    (λ c. search needs)
+    returns-2)

@@ -1,0 +1,39 @@
+-- `judge::judge_with` meets its contract. Assumes nothing.
+use mathlib.Core.Path.{_≡_, sym, ap, _∙_, subst}
+use borrow.Author.Needs.{needs}
+use Rattle.tag.specs.Judge.{judgeBy}
+use Rattle.type2.specs.Memory.{memory}
+use Rattle.type2.specs.Type2.{type2}
+use Rattle.type2.specs.Views.{checkedAs, Known}
+use Rattle.type2.proofs.Reading.{refused}
+use Rattle.type2_judge.proofs.Preparing.{writing-unread}
+use Rattle.type2_judge.proofs.judge.judge_with.Statement.{statement}
+use Rattle.type2_judge.proofs.judge.judge_with.Tie as tie
+
+judge-area-requires : tie.Need-judge-area-requires
+judge-area-requires c κs =
+    let s = c .before .before .before .before .before .before .before .before .before in
+    let a = s .args in
+    let d = c .before .before .before .before .data-area in
+    let g = c .before .before .end .given in
+    (s .pre, subst (Known (a .image .now) ((memory .writable) (a .image .now))) (g .1) (d .ensures .1), sym (d .ensures .0) ∙ ap checkedAs (g .1))
+
+returns : tie.Need-returns
+returns c =
+    let s = c .before .before .before .before .before .before .before .before in
+    let a = s .args in
+    let d = c .before .before .before .data-area in
+    let g = c .before .r .given in
+    sym (ap (judgeBy type2 (a .image .now) (a .message .now) (a .list .now)) (writing-unread (a .image .now) (a .message .now) _ (refused (a .image .now) (d .result) (d .ensures .0) (d .ensures .1) _ (g .1))))
+
+pub judge-with-spec : {M : Type 1} → statement M
+judge-with-spec =
+    tie.close
+    (tie.spec
+    (λ c κs. search needs)
+    (λ c. search needs)
+    (λ c. search needs)
+    judge-area-requires
+    returns
+    (λ c. search needs)
+    (λ c. search needs))

@@ -1,0 +1,107 @@
+-- `steps::judge_list` meets its contract: what is left of the list, on the tag that the commands so far have left, is judged as
+-- the whole list on the tag handed in. Assumes nothing.
+use mathlib.Core.Path.{_≡_, refl, sym, ap, _∙_}
+use Prim.Native.Nat.{_+_, _-_, _≤_}
+use native.Mathlib.Omega.{arith}
+use borrow.Author.Needs.{needs}
+use lib.ListN.{length, take, drop}
+use Rattle.tag.specs.TagType.{held, commands}
+use Rattle.tag.specs.Judge.{judge}
+use Rattle.tag.proofs.Judging.{judge-good, judge-bad}
+use Rattle.type2.specs.Type2.{type2}
+use Rattle.type2_judge.specs.Task.{taskFor}
+use Rattle.type2_judge.proofs.Turns.{rest, rest-none, turn-stop, turn-next, turn-short}
+use Rattle.type2_judge.proofs.steps.judge_list.Statement.{statement}
+use Rattle.type2_judge.proofs.steps.judge_list.Tie as tie
+
+abbrev Inv-loop : tie.InvT-loop
+Inv-loop image message list set old had work₀ at₀ n₀ work at n =
+    (at ≤ length list) × (n ≤ at) × (length work ≡ length image)
+    × (judge (taskFor image message) 0 image (commands type2 image list) ≡ judge (taskFor image message) n work (rest image list at))
+
+abbrev μ-loop : tie.MeasureT-loop
+μ-loop image message list set old had work₀ at₀ n₀ work at n = length list - at
+
+loop-holds : tie.Need-loop-holds Inv-loop μ-loop
+loop-holds c =
+    let s = c .before .before .before .before .before .before in
+    let a = s .args in
+    (search needs, search needs, ap length (s .pre .1), ap (λ j. judge (taskFor (a .image .now) (a .message .now)) 0 j (commands type2 (a .image .now) (a .list .now))) (sym (s .pre .1)))
+
+returns : tie.Need-returns Inv-loop μ-loop
+returns c =
+    let s = c .before .before .before .before .before .before .before .before .before in
+    let a = s .args in
+    let l = c .before .before .loop in
+    sym (l .inv .3 ∙ turn-short (a .image .now) (a .list .now) (a .message .now) (l .n) (l .work) (l .at) (omega arith) (omega arith))
+
+step-requires : tie.Need-step-requires Inv-loop μ-loop
+step-requires c κs = (c .before .before .before .before .before .before .before .before .before .before .before .pre .0, c .before .before .before .before .loop .inv .2)
+
+same-length-2 : tie.Need-same-length-2 Inv-loop μ-loop
+same-length-2 c = omega (arith, ap length (c .before .before .before .before .before .before .before .before .before .before .before .before .before .before .before .pre .1))
+
+returns-2 : tie.Need-returns-2 Inv-loop μ-loop
+returns-2 c =
+    let s = c .before .before .before .before .before .before .before .before .before .before .before .before .before .before .before in
+    let a = s .args in
+    let l = c .before .before .before .before .before .before .before .before .loop in
+    let f = c .before .before .before .step in
+    let six : l .at + 6 - l .at ≡ 6 = omega arith in
+    sym (l .inv .3 ∙ turn-stop (a .image .now) (a .list .now) (a .message .now) (l .n) (l .work) (l .at) (omega arith) (f .result) (rw six at (f .ensures .0)) (c .if2 .taken))
+
+loop-again : tie.Need-loop-again Inv-loop μ-loop
+loop-again c =
+    let s = c .before .before .before .before .before .before .before .before .before .before .before .before .before .before .before in
+    let a = s .args in
+    let l = c .before .before .before .before .before .before .before .before .loop in
+    let f = c .before .before .before .step in
+    let six : l .at + 6 - l .at ≡ 6 = omega arith in (
+      search needs,
+      search needs,
+      search needs,
+      l .inv .3 ∙ turn-next (a .image .now) (a .list .now) (a .message .now) (l .n) (l .work) (l .at) (omega arith) (f .result) _ (rw six at (f .ensures .0)) (c .if2 .left) (rw six at (f .ensures .1)),
+    )
+
+returns-3 : tie.Need-returns-3 Inv-loop μ-loop
+returns-3 c =
+    let s = c .before .before .before .before .before .before .before .before .before .before .before in
+    let a = s .args in
+    let l = c .before .before .before .before .loop in
+    let t = taskFor (a .image .now) (a .message .now) in
+    sym (l .inv .3 ∙ ap (judge t (l .n) (l .work)) (rest-none (a .image .now) (a .list .now) (l .at) (omega arith)) ∙ judge-good t (l .n) (l .work) (sym (c .before .holds .ensures) ∙ c .if3 .taken))
+
+returns-4 : tie.Need-returns-4 Inv-loop μ-loop
+returns-4 c =
+    let s = c .before .before .before .before .before .before .before .before .before .before .before in
+    let a = s .args in
+    let l = c .before .before .before .before .loop in
+    let t = taskFor (a .image .now) (a .message .now) in
+    sym (l .inv .3 ∙ ap (judge t (l .n) (l .work)) (rest-none (a .image .now) (a .list .now) (l .at) (omega arith)) ∙ judge-bad t (l .n) (l .work) (sym (c .before .holds .ensures) ∙ c .if3 .left))
+
+pub judge-list-spec : {M : Type 1} → statement M
+judge-list-spec =
+    tie.close
+    (tie.spec
+    Inv-loop
+    μ-loop
+    loop-holds
+    (λ c. search needs)
+    (λ c. search needs)
+    returns
+    (λ c. search needs)
+    (λ c. search needs)
+    (λ c. search needs)
+    (λ c. search needs)
+    step-requires
+    same-length-2
+    returns-2
+    (λ c. search needs)
+    (λ c. search needs)
+    (λ c. search needs)
+    loop-again
+    (λ c κs. search needs)
+    (λ c. search needs)
+    returns-3
+    (λ c. search needs)
+    returns-4)

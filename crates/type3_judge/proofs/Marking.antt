@@ -1,0 +1,75 @@
+-- The marks are the addresses that writing sets.
+-- Assumes nothing.
+use mathlib.Core.Path.{_≡_, refl, sym, _∙_}
+use mathlib.Core.Bool.{Bool, true, false, not, _||_}
+use mathlib.Core.List.{List, [], _∷_}
+use Prim.Native.Nat.{ℕ, zero, suc, _+_, _-_, _*_, _<_, _≤_}
+use native.Mathlib.Omega.{arith}
+use native.Mathlib.Decide.{ℕ-discrete}
+use borrow.Author.Tests.{eq-eqb, ne-eqb, le-ltb, ltb-true, ltb-false, leb-true, leb-false}
+use lib.Dec.{leb, ltb, eqb}
+use lib.ListN.{length, drop, set, replicate, length-append, length-replicate}
+use lib.Seq.{getD-set-same, getD-set-other}
+use Rattle.tag.specs.Bytes.{byte, run, isSet}
+use Rattle.type3.specs.Update.{blocksFor, addresses, body, values}
+use Rattle.type3_judge.specs.Views.{markAt}
+
+-- a run of addresses sets each of them, and nothing else
+run-in : (s n : ℕ) (vs : List ℕ) (a : ℕ) → n ≤ length vs → s ≤ a → a < s + n → isSet (run s n) vs a ≡ true
+run-in s zero vs a l h u = absurd (omega arith)
+run-in s (suc n) [] a l h u = absurd (omega arith)
+run-in s (suc n) (v ∷ vs) a l h u = go (ℕ-discrete s a) (run-in (suc s) n vs a (omega arith))
+  where
+    go : Dec (s ≡ a) → (suc s ≤ a → a < suc s + n → isSet (run (suc s) n) vs a ≡ true) → eqb s a || isSet (run (suc s) n) vs a ≡ true
+    go (yes e) ih = rw (eq-eqb s a e)
+    go (no e) ih = rw (ne-eqb s a e) (ih (omega arith) (omega arith))
+
+run-below : (s n : ℕ) (vs : List ℕ) (a : ℕ) → a < s → isSet (run s n) vs a ≡ false
+run-below s zero vs a h = refl
+run-below s (suc n) [] a h = refl
+run-below s (suc n) (v ∷ vs) a h = rw (ne-eqb s a (λ e. omega arith)) (run-below (suc s) n vs a (omega arith))
+
+run-above : (s n : ℕ) (vs : List ℕ) (a : ℕ) → s + n ≤ a → isSet (run s n) vs a ≡ false
+run-above s zero vs a h = refl
+run-above s (suc n) [] a h = refl
+run-above s (suc n) (v ∷ vs) a h = rw (ne-eqb s a (λ e. omega arith)) (run-above (suc s) n vs a (omega arith))
+
+-- 9, and a run from 11 on
+mark-is : (n v : ℕ) (vs : List ℕ) (a : ℕ) → 5 + n ≤ length vs → eqb (markAt (16 + n) a) 0 ≡ not (isSet (9 ∷ run 11 (suc (suc (suc (suc (suc n)))))) (v ∷ vs) a)
+mark-is n v vs a l = go (ℕ-discrete a 9)
+  where
+    high : (a ≡ 9 → ⊥) → 11 ≤ a → (b : Bool) → leb (16 + n) a ≡ b → eqb (markAt (16 + n) a) 0 ≡ not (isSet (9 ∷ run 11 (suc (suc (suc (suc (suc n)))))) (v ∷ vs) a)
+    high e h true q =
+        let f : (9 ≡ a → ⊥) = λ r. e (sym r) in
+        rw (ne-eqb a 9 e, le-ltb a 11 h, q, ne-eqb 9 a f, run-above 11 (suc (suc (suc (suc (suc n))))) vs a (omega (arith, leb-true (16 + n) a q)))
+    high e h false q =
+        let f : (9 ≡ a → ⊥) = λ r. e (sym r) in
+        rw (ne-eqb a 9 e, le-ltb a 11 h, q, ne-eqb 9 a f, run-in 11 (suc (suc (suc (suc (suc n))))) vs a (omega arith) h (omega (arith, leb-false (16 + n) a q)))
+
+    other : (a ≡ 9 → ⊥) → (b : Bool) → ltb a 11 ≡ b → eqb (markAt (16 + n) a) 0 ≡ not (isSet (9 ∷ run 11 (suc (suc (suc (suc (suc n)))))) (v ∷ vs) a)
+    other e true q =
+        let f : (9 ≡ a → ⊥) = λ r. e (sym r) in
+        rw (ne-eqb a 9 e, q, ne-eqb 9 a f, run-below 11 (suc (suc (suc (suc (suc n))))) vs a (ltb-true a 11 q))
+    other e false q = high e (ltb-false a 11 q) (leb (16 + n) a) refl
+
+    go : Dec (a ≡ 9) → eqb (markAt (16 + n) a) 0 ≡ not (isSet (9 ∷ run 11 (suc (suc (suc (suc (suc n)))))) (v ∷ vs) a)
+    go (yes e) = rw (eq-eqb a 9 e, eq-eqb 9 a (sym e))
+    go (no e) = other e (ltb a 11) refl
+
+-- one address more
+pub mark-more : (l : List ℕ) (end a : ℕ) → a < length l → ((b : ℕ) → b < a → byte l b ≡ markAt end b)
+    → (b : ℕ) → b < a + 1 → byte (set l a (markAt end a)) b ≡ markAt end b
+mark-more l end a h f b u = go (ℕ-discrete b a)
+  where
+    go : Dec (b ≡ a) → byte (set l a (markAt end a)) b ≡ markAt end b
+    go (yes e) = rw e (getD-set-same l a (markAt end a) 0 h)
+    go (no e) = getD-set-other l a b (markAt end a) 0 e ∙ f b (omega arith)
+
+length-body : (m : List ℕ) → length (body m) ≡ 16 * blocksFor (length m)
+length-body m =
+    let rest = 16 * blocksFor (length m) - length m in
+    omega (arith, length-append m (replicate rest 0x00), length-replicate {A = ℕ} rest 0x00)
+
+pub marks-are : (i m : List ℕ) (a : ℕ) → eqb (markAt (16 + 16 * blocksFor (length m)) a) 0 ≡ not (isSet (addresses m) (values i m) a)
+marks-are i m a =
+    mark-is (16 * blocksFor (length m)) 0x00 (drop 1 (values i m)) a (omega (arith, length-body m))

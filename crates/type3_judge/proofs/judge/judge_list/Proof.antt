@@ -1,0 +1,100 @@
+-- `judge::judge_list` meets its contract: the verdict on the whole list is that from here on. Assumes nothing.
+use mathlib.Core.Path.{_≡_, refl, sym, ap, subst, _∙_}
+use Prim.Native.Nat.{_+_, _-_, _≤_}
+use native.Mathlib.Omega.{arith}
+use lib.ListN.{length, take, drop}
+use Rattle.tag.specs.Judge.{judge}
+use Rattle.tag.proofs.Judging.{judge-good, judge-bad}
+use Rattle.type3_judge.specs.Views.{task, Judging}
+use Rattle.type3_judge.proofs.Stepping.{from, goes-on, stops, at-end}
+use borrow.Author.Needs.{needs}
+use Rattle.type3_judge.proofs.judge.judge_list.Statement.{statement}
+use Rattle.type3_judge.proofs.judge.judge_list.Tie as tie
+
+abbrev Inv-loop : tie.InvT-loop
+Inv-loop list image message old had number nbw nmaxb set work₀ at₀ count₀ work at count =
+    (at ≤ length list)
+    × (count ≤ at)
+    × (length work ≡ length work₀)
+    × (judge (task number image message) 0 work₀ (from number image message list 0) ≡ judge (task number image message) count work (from number image message list at))
+
+abbrev μ-loop : tie.MeasureT-loop
+μ-loop list image message old had number nbw nmaxb set work₀ at₀ count₀ work at count = length list - at
+
+loop-holds : tie.Need-loop-holds Inv-loop μ-loop
+loop-holds c = (search needs, search needs, refl, refl)
+
+step-requires : tie.Need-step-requires Inv-loop μ-loop
+step-requires c κs =
+    let a = c .before .before .before .before .before .before .before .before .before .before .before .args in
+    let l = c .before .before .before .before .loop in
+    subst (Judging (a .number .now) (a .image .now) (a .message .now) (a .old .now) (a .had) (a .nbw) (a .nmaxb) (a .set .now)) (sym (l .inv .2)) (c .before .before .before .before .before .before .before .before .before .before .before .pre)
+
+returns : tie.Need-returns Inv-loop μ-loop
+returns c =
+    let a = c .before .before .before .before .before .before .before .before .before .before .before .before .before .before .before .args in
+    let l = c .before .before .before .before .before .before .before .before .loop in
+    let p = c .before .before .before .before .before .before .piece-size in
+    let size : l .at + p .result - l .at ≡ p .result = omega arith in
+    sym (
+    l .inv .3
+    ∙ stops (a .number .now) (a .image .now) (a .message .now) (a .list .now) (l .count) (l .at) (p .result) (l .work) _ (omega arith) (p .ensures) (ap (λ n. take n (drop (l .at) (a .list .now))) size) (c .before .before .before .step .result) (c .before .before .before .step .ensures .0) (c .if1 .taken)
+    )
+
+loop-again : tie.Need-loop-again Inv-loop μ-loop
+loop-again c =
+    let a = c .before .before .before .before .before .before .before .before .before .before .before .before .before .before .before .args in
+    let l = c .before .before .before .before .before .before .before .before .loop in
+    let p = c .before .before .before .before .before .before .piece-size in
+    let size : l .at + p .result - l .at ≡ p .result = omega arith in
+    let s = c .before .before .before .step in (
+      omega (arith, p .ensures .inside),
+      omega (arith, p .ensures .some-bytes),
+      s .ensures .1 .1 ∙ l .inv .2,
+      l .inv .3
+          ∙ goes-on (a .number .now) (a .image .now) (a .message .now) (a .list .now) (l .count) (l .at) (p .result) (l .work) _ (omega arith) (p .ensures) (ap (λ n. take n (drop (l .at) (a .list .now))) size) _ (s .result) (s .ensures .0) (c .if1 .left) (s .ensures .1 .0),
+    )
+
+returns-2 : tie.Need-returns-2 Inv-loop μ-loop
+returns-2 c =
+    let a = c .before .before .before .before .before .before .before .before .before .before .before .args in
+    let l = c .before .before .before .before .loop in
+    sym (
+    l .inv .3
+    ∙ ap (judge (task (a .number .now) (a .image .now) (a .message .now)) (l .count) (l .work)) (at-end (a .number .now) (a .image .now) (a .message .now) (a .list .now) (l .at) (omega arith))
+    ∙ judge-good (task (a .number .now) (a .image .now) (a .message .now)) (l .count) (l .work) (sym (c .before .reads-as .ensures) ∙ c .if2 .taken)
+    )
+
+returns-3 : tie.Need-returns-3 Inv-loop μ-loop
+returns-3 c =
+    let a = c .before .before .before .before .before .before .before .before .before .before .before .args in
+    let l = c .before .before .before .before .loop in
+    sym (
+    l .inv .3
+    ∙ ap (judge (task (a .number .now) (a .image .now) (a .message .now)) (l .count) (l .work)) (at-end (a .number .now) (a .image .now) (a .message .now) (a .list .now) (l .at) (omega arith))
+    ∙ judge-bad (task (a .number .now) (a .image .now) (a .message .now)) (l .count) (l .work) (sym (c .before .reads-as .ensures) ∙ c .if2 .left)
+    )
+
+pub judge-list-spec : {M : Type 1} → statement M
+judge-list-spec =
+    tie.close
+    (tie.spec
+    Inv-loop
+    μ-loop
+    loop-holds
+    (λ c κs. search needs)
+    (λ c. search needs)
+    (λ c. search needs)
+    (λ c. search needs)
+    (λ c. search needs)
+    step-requires
+    (λ c. search needs)
+    returns
+    (λ c. search needs)
+    (λ c. search needs)
+    loop-again
+    (λ c κs. search needs)
+    (λ c. search needs)
+    returns-2
+    (λ c. search needs)
+    returns-3)

@@ -1,0 +1,71 @@
+-- `steps::step` meets its contract: the tests in their order. Assumes nothing.
+use mathlib.Core.Path.{refl, sym, ap, _∙_}
+use borrow.Author.Tests.{not-true, not-false}
+use Rattle.tag.specs.Stores.{done}
+use Rattle.type3_judge.proofs.Stepping.{command-ill, command-stored, command-inside, step-ill, step-left, step-change, step-misread, step-none}
+use borrow.Author.Needs.{needs}
+use Rattle.type3_judge.proofs.steps.step.Statement.{statement}
+use Rattle.type3_judge.proofs.steps.step.Tie as tie
+
+returns : tie.Need-returns
+returns c =
+    let a = c .before .before .before .before .before .before .before .before .args in
+    let k = c .before .before .before .before .before .before .before .before .pre in
+    let e = command-ill k (a .command .now) (sym (c .before .is-command .ensures) ∙ not-true _ (c .if1 .taken)) in
+    (step-ill k (a .work .now) _ e, (ap (done (a .work .now)) (sym e), refl))
+
+store-blocks-requires : tie.Need-store-blocks-requires
+store-blocks-requires c κs =
+    let a = c .before .before .before .before .before .before .before .before .before .args in
+    let k = c .before .before .before .before .before .before .before .before .before .pre in
+    let q = sym (c .before .before .is-command .ensures) ∙ not-false _ (c .before .if1 .left) in
+    command-inside k (a .command .now) q
+
+returns-2 : tie.Need-returns-2
+returns-2 c =
+    let a = c .before .before .before .before .before .before .before .before .before .before .before .before .before .before .before .args in
+    let k = c .before .before .before .before .before .before .before .before .before .before .before .before .before .before .before .pre in
+    let q = sym (c .before .before .before .before .before .before .before .before .is-command .ensures) ∙ not-false _ (c .before .before .before .before .before .before .before .if1 .left) in
+    let e = command-stored k (a .command .now) q in
+    let d = c .before .before .before .before .before .store-blocks .ensures in (
+      step-change k (a .work .now) _ _ _ e (d .0) (sym (c .before .is-kept .ensures) ∙ not-true _ (c .if2 .taken)),
+      (step-left k (a .work .now) _ _ _ e (d .0), d .1),
+    )
+
+returns-3 : tie.Need-returns-3
+returns-3 c =
+    let a = c .before .before .before .before .before .before .before .before .before .before .before .before .before .before .before .before .before .before .args in
+    let k = c .before .before .before .before .before .before .before .before .before .before .before .before .before .before .before .before .before .before .pre in
+    let q = sym (c .before .before .before .before .before .before .before .before .before .before .before .is-command .ensures) ∙ not-false _ (c .before .before .before .before .before .before .before .before .before .before .if1 .left) in
+    let e = command-stored k (a .command .now) q in
+    let d = c .before .before .before .before .before .before .before .before .store-blocks .ensures in (
+      step-misread k (a .work .now) _ _ _ e (d .0) (sym (c .before .before .before .before .is-kept .ensures) ∙ not-false _ (c .before .before .before .if2 .left)) (sym (c .before .reads-safely .ensures) ∙ not-true _ (c .if3 .taken)),
+      (step-left k (a .work .now) _ _ _ e (d .0), d .1),
+    )
+
+returns-4 : tie.Need-returns-4
+returns-4 c =
+    let a = c .before .before .before .before .before .before .before .before .before .before .before .before .before .before .before .before .before .before .args in
+    let k = c .before .before .before .before .before .before .before .before .before .before .before .before .before .before .before .before .before .before .pre in
+    let q = sym (c .before .before .before .before .before .before .before .before .before .before .before .is-command .ensures) ∙ not-false _ (c .before .before .before .before .before .before .before .before .before .before .if1 .left) in
+    let e = command-stored k (a .command .now) q in
+    let d = c .before .before .before .before .before .before .before .before .store-blocks .ensures in (
+      step-none k (a .work .now) _ _ _ e (d .0) (sym (c .before .before .before .before .is-kept .ensures) ∙ not-false _ (c .before .before .before .if2 .left)) (sym (c .before .reads-safely .ensures) ∙ not-false _ (c .if3 .left)),
+      (step-left k (a .work .now) _ _ _ e (d .0), d .1),
+    )
+
+pub step-spec : {M : Type 1} → statement M
+step-spec =
+    tie.close
+    (tie.spec
+    (λ c κs. search needs)
+    returns
+    store-blocks-requires
+    (λ c κs. search needs)
+    (λ c. search needs)
+    returns-2
+    (λ c κs. search needs)
+    (λ c. search needs)
+    returns-3
+    (λ c. search needs)
+    returns-4)
