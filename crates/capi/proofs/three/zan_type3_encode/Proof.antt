@@ -1,0 +1,27 @@
+-- `three::zan_type3_encode` meets its contract. Assumes nothing.
+use mathlib.Core.Path.{ap, _∙_}
+use lib.ListN.{length}
+use Rattle.tag.specs.Answers.{countOf}
+use Rattle.tag.specs.TagType.{outputInto}
+use Rattle.type3.specs.Codec.{encode}
+use Rattle.capi.specs.Packed.{packedCount}
+use borrow.Author.Needs.{needs}
+use Rattle.capi.proofs.three.zan_type3_encode.Statement.{statement}
+use Rattle.capi.proofs.three.zan_type3_encode.Tie as tie
+
+returns : tie.Need-returns
+returns c =
+    let a = c .before .before .before .before .before .before .before .before .before .args in
+    let r = c .before .before .before .encode .ensures in
+    let e = ap (λ bs. encode (a .number .now) (a .nbw) (a .nmaxb) (a .count) bs (a .sixteens .now) (length (a .bytes .now))) (c .before .before .before .before .before .before .numbers .ensures) in
+    (c .count .ensures ∙ ap packedCount (r .0 ∙ ap countOf e), r .1 ∙ ap (outputInto (a .bytes .now)) e)
+
+pub zan-type3-encode-spec : {M : Type 1} → statement M
+zan-type3-encode-spec =
+    tie.close
+    (tie.spec
+    (λ c κs. search needs)
+    (λ c κs. search needs)
+    (λ c κs. search needs)
+    (λ c. search needs)
+    returns)

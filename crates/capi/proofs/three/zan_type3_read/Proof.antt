@@ -1,0 +1,16 @@
+-- `three::zan_type3_read` meets its contract. Assumes nothing.
+use mathlib.Core.Path.{ap, _∙_}
+use Rattle.capi.specs.Packed.{packedRead, reportInto}
+use borrow.Author.Needs.{needs}
+use Rattle.capi.proofs.three.zan_type3_read.Statement.{statement}
+use Rattle.capi.proofs.three.zan_type3_read.Tie as tie
+
+returns : tie.Need-returns
+returns c = (c .reading .ensures .0 ∙ ap packedRead (c .before .before .read .ensures), c .reading .ensures .1 ∙ ap (reportInto (c .before .before .before .before .args .out .now)) (c .before .before .read .ensures))
+
+pub zan-type3-read-spec : {M : Type 1} → statement M
+zan-type3-read-spec = tie.close
+    (tie.spec
+    (λ c κs. search needs)
+    (λ c κs. search needs)
+    returns)

@@ -1,0 +1,20 @@
+-- `two::zan_type2_decode` meets its contract. Assumes nothing.
+use mathlib.Core.Path.{refl}
+use borrow.Author.Tests.{eq-eqb, ne-eqb}
+use borrow.Author.Needs.{needs}
+use Rattle.capi.proofs.two.zan_type2_decode.Statement.{statement}
+use Rattle.capi.proofs.two.zan_type2_decode.Tie as tie
+
+returns : tie.Need-returns
+returns c = rw (← c .before .decode .ensures .0, ne-eqb (c .before .decode .result .refusal) 0 (c .if1 .taken)) (refl, (refl, refl))
+
+returns-2 : tie.Need-returns-2
+returns-2 c = rw (← c .before .before .decode .ensures .0, eq-eqb (c .before .before .decode .result .refusal) 0 (c .before .if1 .left)) (refl, (refl, refl))
+
+pub zan-type2-decode-spec : {M : Type 1} → statement M
+zan-type2-decode-spec = tie.close
+    (tie.spec
+    (λ c κs. search needs)
+    (λ c. search needs)
+    returns
+    returns-2)

@@ -1,0 +1,84 @@
+-- The answers as C gets them. An answer is one number: a refusal in its low byte, and above it the position, or on success the
+-- count. Of a count or a position 56 bits are kept, which is all of it: no list that a machine holds has 2^56 commands.
+-- Assumes nothing.
+use mathlib.Core.Bool.{Bool, true, false}
+use mathlib.Core.List.{List, [], _∷_}
+use Prim.Native.Nat.{ℕ, _+_, _*_, _%_, _^_}
+use lib.ListN.{length}
+use Rattle.tag.specs.Bytes.{overwrite}
+use Rattle.tag.specs.Reading.{What, message, empty, being-written, Answer, refusal, answer}
+use Rattle.tag.specs.Answers.{Counting, uncounted, counts, Storing, unstoring, storing}
+use Rattle.tag.specs.Judge.{Verdict, accepted, refused}
+use Rattle.type2.specs.Codec as two
+use Rattle.type3.specs.Codec as three
+
+-- a count or a position, above the low byte
+abbrev pub above : ℕ → ℕ
+above n = 256 * (n % 2 ^ 56)
+
+-- writing and encoding give a count
+abbrev pub packedCount : Counting → ℕ
+packedCount (uncounted r) = r
+packedCount (counts n) = above n
+
+-- judging gives a count, or a refusal with a position
+abbrev pub packedVerdict : Verdict → ℕ
+packedVerdict (accepted n) = above n
+packedVerdict (refused r p) = r + above p
+
+-- the model gives no count
+abbrev pub packedStoring : Storing → ℕ
+packedStoring (unstoring r) = r
+packedStoring storing = 0
+
+-- ---- reading
+
+abbrev pub packedRead : Answer → ℕ
+packedRead (refusal r) = r
+packedRead (answer what a n interrupted w) = 0
+
+abbrev pub kindOf : What → ℕ
+kindOf message = 1
+kindOf empty = 2
+kindOf being-written = 3
+
+abbrev pub flagOf : Bool → ℕ
+flagOf false = 0
+flagOf true = 1
+
+-- `out` afterwards: kind, address, length, interrupted, writable; as it was after a refusal
+abbrev pub reportInto : List ℕ → Answer → List ℕ
+reportInto out (refusal r) = out
+reportInto out (answer what a n interrupted w) = kindOf what ∷ a ∷ n ∷ flagOf interrupted ∷ flagOf w ∷ []
+
+-- ---- decoding
+
+abbrev pub packedDecoded2 : two.Decoded → ℕ
+packedDecoded2 (two.undecoded r) = r
+packedDecoded2 (two.decoded b bytes) = 0
+
+-- a command's block, and its bytes; what they were after a refusal
+abbrev pub blockInto : ℕ → two.Decoded → ℕ
+blockInto old (two.undecoded r) = old
+blockInto old (two.decoded b bytes) = b
+
+abbrev pub dataInto : List ℕ → two.Decoded → List ℕ
+dataInto old (two.undecoded r) = old
+dataInto old (two.decoded b bytes) = bytes
+
+abbrev pub packedDecoded3 : three.Decoded → ℕ
+packedDecoded3 (three.undecoded r) = r
+packedDecoded3 (three.decoded bs bytes) = 0
+
+-- how many blocks, their numbers, their bytes; unused entries keep what they held
+abbrev pub countInto : ℕ → three.Decoded → ℕ
+countInto old (three.undecoded r) = old
+countInto old (three.decoded bs bytes) = length bs
+
+abbrev pub blocksInto : List ℕ → three.Decoded → List ℕ
+blocksInto old (three.undecoded r) = old
+blocksInto old (three.decoded bs bytes) = overwrite bs old
+
+abbrev pub sixteensInto : List ℕ → three.Decoded → List ℕ
+sixteensInto old (three.undecoded r) = old
+sixteensInto old (three.decoded bs bytes) = overwrite bytes old

@@ -1,0 +1,97 @@
+// The answers of the library as one number, a refusal in the low byte and a count or a position above it.
+
+use tag::CountAnswer;
+use tag::JudgeAnswer;
+use tag::ModelAnswer;
+use tag::ReadAnswer;
+use tag::Report;
+use tag::What;
+ghost use mathlib.Core.Path.{_≡_};
+ghost use Rattle.tag.specs.Answers.{whatOf, readAs, countAs, verdictAs, modelAs};
+ghost use Rattle.capi.specs.Packed.{above, packedCount, packedVerdict, packedStoring, packedRead, kindOf, flagOf, reportInto};
+
+// 2^56, the counts that fit above the low byte.
+const COUNTS: usize = 72057594037927936;
+
+// A count or a position, above the low byte.
+fn above(n: usize) -> u64
+    ensures { λ r. ⌜ r ≡ above n ⌝ }
+{
+    256 * ((n % COUNTS) as u64)
+}
+
+pub fn count(answer: CountAnswer) -> u64
+    ensures { λ r. ⌜ r ≡ packedCount (countAs answer) ⌝ }
+{
+    match answer {
+        CountAnswer::Refused(r) => r as u64,
+        CountAnswer::Count(n) => above(n),
+    }
+}
+
+pub fn verdict(answer: JudgeAnswer) -> u64
+    ensures { λ r. ⌜ r ≡ packedVerdict (verdictAs answer) ⌝ }
+{
+    match answer {
+        JudgeAnswer::Refused(r, position) => r as u64 + above(position),
+        JudgeAnswer::Accepted(n) => above(n),
+    }
+}
+
+pub fn storing(answer: ModelAnswer) -> u64
+    ensures { λ r. ⌜ r ≡ packedStoring (modelAs answer) ⌝ }
+{
+    match answer {
+        ModelAnswer::Refused(r) => r as u64,
+        ModelAnswer::Stored => 0,
+    }
+}
+
+fn kind(what: What) -> u64
+    ensures { λ r. ⌜ r ≡ kindOf (whatOf what) ⌝ }
+{
+    match what {
+        What::Message => 1,
+        What::Empty => 2,
+        What::BeingWritten => 3,
+    }
+}
+
+fn flag(b: bool) -> u64
+    ensures { λ r. ⌜ r ≡ flagOf b ⌝ }
+{
+    if b { 1 } else { 0 }
+}
+
+// What a tag that reads says of itself, as five numbers.
+fn report(p: Report) -> [u64; 5]
+    ensures { λ r. ⌜ r ≡ reportInto r (readAs (ReadAnswer.Reads p)) ⌝ }
+{
+    let what = p.what;
+    let interrupted = p.interrupted;
+    let writable = p.writable;
+    let address = p.address.0;
+    let length = p.length;
+    [
+        kind(what),
+        address as u64,
+        length as u64,
+        flag(interrupted),
+        flag(writable),
+    ]
+}
+
+// Reading's answer; what the tag says of itself goes to `out`.
+pub fn reading(answer: ReadAnswer, out: &mut [u64; 5]) -> u64
+    ensures { λ r. ⌜ r ≡ packedRead (readAs answer) ⌝ }
+    ensures { λ _. ⌜ now (out .exit) ≡ reportInto (now (out .entry)) (readAs answer) ⌝ }
+{
+    match answer {
+        ReadAnswer::Refused(r) => r as u64,
+        ReadAnswer::Reads(p) => {
+            let five = report(p);
+            *out = five;
+            0
+        }
+    }
+}

@@ -1,0 +1,158 @@
+// Type 3 for C.
+
+use crate::answers;
+use tag::slices;
+use type3::Command;
+use type3::commands;
+ghost use mathlib.Core.Path.{_≡_};
+ghost use Prim.Native.Nat.{_*_, _≤_};
+ghost use lib.ListN.{length, take};
+ghost use lib.Seq.{sets};
+ghost use Rattle.tag.specs.Bytes.{overwrite};
+ghost use Rattle.tag.specs.Reading.{answerOf};
+ghost use Rattle.tag.specs.Answers.{countOf, storingOf};
+ghost use Rattle.tag.specs.TagType.{write, outputInto};
+ghost use Rattle.tag.specs.Judge.{judged};
+ghost use Rattle.tag.specs.Model.{model, imageAfter};
+ghost use Rattle.type3.specs.Message.{reading};
+ghost use Rattle.type3.specs.Type3.{type3};
+ghost use Rattle.type3.specs.Codec.{encode, decode};
+ghost use Rattle.capi.specs.Packed.{packedRead, reportInto, packedCount, packedVerdict, packedStoring, packedDecoded3, countInto, blocksInto, sixteensInto};
+
+#[no_mangle]
+pub extern "C" fn zan_type3_read(image: &[u8], out: &mut [u64; 5]) -> u64
+    ensures answer { λ r. ⌜ r ≡ packedRead (answerOf 0 (reading (now (image .entry)))) ⌝ }
+    ensures report { λ _. ⌜ now (out .exit) ≡ reportInto (now (out .entry)) (answerOf 0 (reading (now (image .entry)))) ⌝ }
+{
+    let answer = type3::read::read(image);
+    answers::reading(answer, out)
+}
+
+#[no_mangle]
+pub extern "C" fn zan_type3_write(
+    image: &[u8],
+    message: &[u8],
+    number: &[u8; 8],
+    list: &mut [u8],
+) -> u64
+    ensures answer { λ r. ⌜ r ≡ packedCount (countOf (write (type3 (now (number .entry))) (length (now (list .entry))) (now (image .entry)) (now (message .entry)))) ⌝ }
+    ensures buffer { λ _. ⌜ now (list .exit) ≡ outputInto (now (list .entry)) (write (type3 (now (number .entry))) (length (now (list .entry))) (now (image .entry)) (now (message .entry))) ⌝ }
+{
+    let answer = type3::write::write(image, message, number, list);
+    answers::count(answer)
+}
+
+#[no_mangle]
+pub extern "C" fn zan_type3_judge(
+    image: &[u8],
+    message: &[u8],
+    number: &[u8; 8],
+    list: &[u8],
+) -> u64
+    ensures { λ r. ⌜ r ≡ packedVerdict (judged (type3 (now (number .entry))) (now (image .entry)) (now (message .entry)) (now (list .entry))) ⌝ }
+{
+    let answer = type3_judge::judge::judge(image, message, number, list);
+    answers::verdict(answer)
+}
+
+#[no_mangle]
+pub extern "C" fn zan_type3_model(image: &mut [u8], number: &[u8; 8], command: &[u8]) -> u64
+    ensures answer { λ r. ⌜ r ≡ packedStoring (storingOf (model (type3 (now (number .entry))) (now (image .entry)) (now (command .entry)))) ⌝ }
+    ensures stored { λ _. ⌜ now (image .exit) ≡ imageAfter (now (image .entry)) (model (type3 (now (number .entry))) (now (image .entry)) (now (command .entry))) ⌝ }
+{
+    let answer = type3_model::model::model(image, number, command);
+    answers::storing(answer)
+}
+
+#[no_mangle]
+pub extern "C" fn zan_type3_encode(
+    count: u64,
+    blocks: &[u64; 8],
+    sixteens: &[u8; 128],
+    number: &[u8; 8],
+    nbw: u64,
+    nmaxb: u64,
+    bytes: &mut [u8],
+) -> u64
+    ensures answer { λ r. ⌜ r ≡ packedCount (countOf (encode (now (number .entry)) nbw nmaxb count (now (blocks .entry)) (now (sixteens .entry)) (length (now (bytes .entry))))) ⌝ }
+    ensures written { λ _. ⌜ now (bytes .exit) ≡ outputInto (now (bytes .entry)) (encode (now (number .entry)) nbw nmaxb count (now (blocks .entry)) (now (sixteens .entry)) (length (now (bytes .entry)))) ⌝ }
+{
+    let named = numbers(blocks);
+    let carried = *sixteens;
+    let used = count as usize;
+    let command = Command {
+        count: used,
+        blocks: named,
+        bytes: carried,
+    };
+    let answer = commands::encode(command, number, nbw as usize, nmaxb as usize, bytes);
+    answers::count(answer)
+}
+
+// Eight block numbers from C.
+fn numbers(blocks: &[u64]) -> [usize; 8]
+    requires { ⌜ length (now blocks) ≡ 8 ⌝ }
+    ensures { λ r. ⌜ r ≡ now (blocks .entry) ⌝ }
+{
+    [
+        blocks[0] as usize,
+        blocks[1] as usize,
+        blocks[2] as usize,
+        blocks[3] as usize,
+        blocks[4] as usize,
+        blocks[5] as usize,
+        blocks[6] as usize,
+        blocks[7] as usize,
+    ]
+}
+
+// Stores block numbers at the front of `to`.
+fn store(from: &[usize], to: &mut [u64])
+    requires { ⌜ length (now from) ≤ length (now to) ⌝ }
+    ensures { λ _. ⌜ now (to .exit) ≡ sets (now (to .entry)) 0 (now (from .entry)) ⌝ }
+{
+    let mut i = 0usize;
+    while i < from.len() {
+        to[i] = from[i] as u64;
+        i += 1;
+    }
+}
+
+// Delivers the first `count` blocks of a command and their bytes.
+fn deliver(count: usize, named: &[usize], carried: &[u8], blocks: &mut [u64], sixteens: &mut [u8])
+    requires { ⌜ (count ≤ 8) × (length (now named) ≡ 8) × (length (now carried) ≡ 128) × (length (now blocks) ≡ 8) × (length (now sixteens) ≡ 128) ⌝ }
+    ensures { λ _. ⌜ now (blocks .exit) ≡ overwrite (take count (now (named .entry))) (now (blocks .entry)) ⌝ }
+    ensures { λ _. ⌜ now (sixteens .exit) ≡ overwrite (take (16 * count) (now (carried .entry))) (now (sixteens .entry)) ⌝ }
+{
+    let used = 16 * count;
+    store(&named[..count], blocks);
+    slices::store(&carried[..used], 0, sixteens);
+}
+
+#[no_mangle]
+pub extern "C" fn zan_type3_decode(
+    bytes: &[u8],
+    number: &[u8; 8],
+    nbw: u64,
+    nmaxb: u64,
+    count: &mut u64,
+    blocks: &mut [u64; 8],
+    sixteens: &mut [u8; 128],
+) -> u64
+    ensures answer { λ r. ⌜ r ≡ packedDecoded3 (decode (now (number .entry)) nbw nmaxb (now (bytes .entry))) ⌝ }
+    ensures many { λ _. ⌜ now (count .exit) ≡ countInto (now (count .entry)) (decode (now (number .entry)) nbw nmaxb (now (bytes .entry))) ⌝ }
+    ensures named { λ _. ⌜ now (blocks .exit) ≡ blocksInto (now (blocks .entry)) (decode (now (number .entry)) nbw nmaxb (now (bytes .entry))) ⌝ }
+    ensures carried { λ _. ⌜ now (sixteens .exit) ≡ sixteensInto (now (sixteens .entry)) (decode (now (number .entry)) nbw nmaxb (now (bytes .entry))) ⌝ }
+{
+    let decoded = commands::decode(bytes, number, nbw as usize, nmaxb as usize);
+    let refusal = decoded.refusal;
+    if refusal != 0 {
+        return refusal as u64;
+    }
+    let used = decoded.command.count;
+    let named = decoded.command.blocks;
+    let carried = decoded.command.bytes;
+    *count = used as u64;
+    deliver(used, &named, &carried, blocks, sixteens);
+    0
+}
