@@ -4,5 +4,6 @@ pub mod Demand2
 pub mod Octets
 pub mod TooLong
 pub mod Codecs
+pub mod ByContract
 pub mod Theorems
 pub mod Witness

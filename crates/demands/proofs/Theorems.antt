@@ -10,6 +10,7 @@ use Rattle.tag.specs.Cuts.{Ready}
 use Rattle.tag.proofs.Blocks.{block-of}
 use Rattle.tag.proofs.Counts.{length-single}
 use Rattle.tag.proofs.Writes.{touch-of}
+use Rattle.tag.proofs.Laws.{ready-written}
 use Rattle.tlv.specs.Message.{viewed}
 use Rattle.tlv.specs.Update.{usable, content, lengthAt}
 use Rattle.tlv.proofs.Field.{first-set}
@@ -24,9 +25,11 @@ use Rattle.type3.proofs.Laws.{type3-laws}
 use Rattle.type3.proofs.Counts.{list-count}
 use Rattle.demands.specs.Demand2.{Demand2, TooLong2, TooLong3, Codec2, Codec3, Count2, Count3}
 use Rattle.demands.specs.Demand3.{Demand3}
+use Rattle.demands.specs.ByContract.{Code3}
 use Rattle.demands.proofs.Demand2 as demand2
 use Rattle.demands.proofs.Demand3 as demand3
 use Rattle.demands.proofs.TooLong.{too-long-2, too-long-3}
+use Rattle.demands.proofs.ByContract.{by-contract}
 use Rattle.demands.proofs.Codecs.{codec-2, codec-3}
 
 -- ---- Type 2
@@ -56,6 +59,10 @@ type2-count i m r =
 pub type2-demand3 : (i m : List ℕ) → Ready type2 i m → Demand3 type2 i m
 type2-demand3 = demand3.claim type2 type2-laws
 
+-- and of the code, by the contracts of write, judge and model
+pub type2-code3 : (i m : List ℕ) → Ready type2 i m → Code3 type2 i m
+type2-code3 i m r = by-contract type2 i m (type2-demand3 i m r) (ready-written type2 i m r)
+
 -- ---- Type 3, for the caller's eight-byte number
 
 module _ (number : List ℕ) (eight : length number ≡ 8) where
@@ -73,3 +80,6 @@ module _ (number : List ℕ) (eight : length number ≡ 8) where
 
   pub type3-demand3 : (i m : List ℕ) → Ready (type3 number) i m → Demand3 (type3 number) i m
   type3-demand3 = demand3.claim (type3 number) (type3-laws number eight)
+
+  pub type3-code3 : (i m : List ℕ) → Ready (type3 number) i m → Code3 (type3 number) i m
+  type3-code3 i m r = by-contract (type3 number) i m (type3-demand3 i m r) (ready-written (type3 number) i m r)

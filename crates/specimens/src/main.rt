@@ -3,6 +3,7 @@
 
 use libc::STDOUT_FILENO;
 use tag::CountAnswer;
+use tag::JudgeAnswer;
 use tag::ReadAnswer;
 use tag::Report;
 use tag::What;
@@ -96,6 +97,23 @@ fn print_count(answer: CountAnswer) {
     }
 }
 
+fn print_verdict(answer: JudgeAnswer) {
+    match answer {
+        JudgeAnswer::Refused(r, position) => {
+            text(b"refused ");
+            number(r as usize);
+            text(b" at ");
+            number(position);
+            text(b"\n");
+        }
+        JudgeAnswer::Accepted(n) => {
+            text(b"accepted, ");
+            number(n);
+            text(b" commands\n");
+        }
+    }
+}
+
 // ---- Type 2
 
 fn read2_into(image: &[u8], gathered: &mut [u8]) {
@@ -156,7 +174,43 @@ fn fit2(name: &[u8], front: &[u8], message: &[u8]) {
     fit2_in(name, front, message, &mut image);
 }
 
+fn judge2_in(name: &[u8], front: &[u8], message: &[u8], list: &[u8], image: &mut [u8]) {
+    if image.len() < 12 {
+        return;
+    }
+    if image.len() - 12 < front.len() {
+        return;
+    }
+    slices::store(front, 12, image);
+    text(name);
+    text(b": ");
+    let answer = type2_judge::judge::judge(image, message, list);
+    print_verdict(answer);
+}
+
+fn judge2(name: &[u8], front: &[u8], message: &[u8], list: &[u8]) {
+    let mut image = [0u8; 64];
+    judge2_in(name, front, message, list, &mut image);
+}
+
 // ---- Type 3
+
+fn judge3_in(name: &[u8], attributes: &[u8], message: &[u8], list: &[u8], image: &mut [u8]) {
+    if image.len() < attributes.len() {
+        return;
+    }
+    slices::store(attributes, 0, image);
+    text(name);
+    text(b": ");
+    let number = [1u8, 2, 3, 4, 5, 6, 7, 8];
+    let answer = type3_judge::judge::judge(image, message, &number, list);
+    print_verdict(answer);
+}
+
+fn judge3(name: &[u8], attributes: &[u8], message: &[u8], list: &[u8]) {
+    let mut image = [0u8; 224];
+    judge3_in(name, attributes, message, list, &mut image);
+}
 
 fn write3_in(image: &[u8], message: &[u8], list: &mut [u8]) {
     let number = [1u8, 2, 3, 4, 5, 6, 7, 8];
@@ -334,10 +388,85 @@ fn lengths3() {
     fit3(b"35 bytes, Nbw 4", &four);
 }
 
+// The empty list: on a tag that reads as the message, and on another.
+fn empty_lists() {
+    let holds = [0xE1, 0x10, 0x06, 0x00, 0x03, 0x03, 0xD0, 0x00, 0x00, 0xFE];
+    judge2(b"empty list, message there", &holds, b"\xD0\x00\x00", b"");
+    let empty = [0xE1, 0x10, 0x06, 0x00, 0x03, 0x00, 0xFE];
+    judge2(b"empty list, another tag", &empty, b"\xD0\x00\x00", b"");
+    let tag3 = [
+        0x10,
+        0x04,
+        0x01,
+        0x00,
+        0x0D,
+        0x00,
+        0x00,
+        0x00,
+        0x00,
+        0x00,
+        0x01,
+        0x00,
+        0x00,
+        0x03,
+        0x00,
+        0x26,
+    ];
+    judge3(
+        b"Type 3, empty list, message there",
+        &tag3,
+        b"\x00\x00\x00",
+        b"",
+    );
+    judge3(
+        b"Type 3, empty list, another tag",
+        &tag3,
+        b"\xD0\x00\x00",
+        b"",
+    );
+}
+
+// Foreign lists on the empty tag: another order, and one for each of 20 to 23.
+fn foreign_lists() {
+    let tag2 = [0xE1, 0x10, 0x06, 0x00, 0x03, 0x00, 0xFE];
+    judge2(
+        b"block 5 first",
+        &tag2,
+        b"\xD0\x00\x01",
+        b"\xA2\x05\x01\xFE\x00\x00\xA2\x04\x03\x03\xD0\x00",
+    );
+    judge2(
+        b"block 3 named",
+        &tag2,
+        b"\xD0\x00\x01",
+        b"\xA2\x05\x01\xFE\x00\x00\xA2\x03\xE1\x10\x06\x00",
+    );
+    judge2(
+        b"block 6 changed",
+        &tag2,
+        b"\xD0\x00\x01",
+        b"\xA2\x06\x01\x00\x00\x00",
+    );
+    judge2(
+        b"length first",
+        &tag2,
+        b"\xD0\x00\x01",
+        b"\xA2\x04\x03\x03\xD0\x00\xA2\x05\x01\xFE\x00\x00",
+    );
+    judge2(
+        b"broken off",
+        &tag2,
+        b"\xD0\x00\x01",
+        b"\xA2\x05\x01\xFE\x00\x00",
+    );
+}
+
 fn main() {
     interrupted();
     appendix_c2();
     appendix_c7();
     appendix_c8();
     lengths3();
+    empty_lists();
+    foreign_lists();
 }

@@ -1,0 +1,50 @@
+-- Demand 3 about what the public functions answer. A contract says what comes back for what is handed in; the relations below
+-- are those contracts of `write`, `judge` and `model`, word by word, for any type of tag. `Code3` is demand 3 of any answers
+-- that meet them. This file states; `proofs/ByContract.antt` proves.
+-- Assumes nothing.
+use mathlib.Core.Path.{_≡_}
+use mathlib.Core.Logic.{_↔_}
+use mathlib.Core.List.{List, []}
+use Prim.Native.Nat.{ℕ, suc, _<_, _≤_}
+use lib.ListN.{length, getD, take}
+use Rattle.tag.specs.declared.CountAnswer as count
+use Rattle.tag.specs.declared.CountAnswer.the-variants as counted
+use Rattle.tag.specs.declared.JudgeAnswer as judge
+use Rattle.tag.specs.declared.JudgeAnswer.the-variants as verdict
+use Rattle.tag.specs.declared.ModelAnswer as model-answer
+use Rattle.tag.specs.declared.ModelAnswer.the-variants as storing
+use Rattle.tag.specs.TagType.{TagType, outputInto, write, pieces, commands}
+use Rattle.tag.specs.Judge.{judged}
+use Rattle.tag.specs.Model.{model, imageAfter}
+use Rattle.tag.specs.Answers.{countOf, countAs, verdictAs, storingOf, modelAs}
+use Rattle.tag.specs.Cuts.{Three, First}
+use Rattle.demands.specs.Demand3.{task, cutOf, ourBytes, ourImage}
+
+-- `write`, given a tag, a message and a list buffer, answers r and leaves the buffer as out
+abbrev pub Wrote : TagType → List ℕ → List ℕ → List ℕ → count.CountAnswer → List ℕ → Type 0
+Wrote T i m buffer r out = (countAs r ≡ countOf (write T (length buffer) i m)) × (out ≡ outputInto buffer (write T (length buffer) i m))
+
+-- `judge`, given a tag, a message and a list, answers r
+abbrev pub Judged : TagType → List ℕ → List ℕ → List ℕ → judge.JudgeAnswer → Type 0
+Judged T i m list r = verdictAs r ≡ judged T i m list
+
+-- `model`, given a tag and a command, answers r and leaves the tag as j
+abbrev pub Took : TagType → List ℕ → List ℕ → model-answer.ModelAnswer → List ℕ → Type 0
+Took T i command r j = (modelAs r ≡ storingOf (model T i command)) × (j ≡ imageAfter i (model T i command))
+
+pub record Code3 (T : TagType) (i m : List ℕ) : Type 0 where
+  -- the judge accepts just the lists for which the three things hold, with the number of their commands
+  pub accepts : (list : List ℕ) (n : ℕ) → Judged T i m list (verdict.Accepted n) → (n ≡ length (commands T i list)) × Three (task T i m) (commands T i list)
+  pub accepted : (list : List ℕ) (r : judge.JudgeAnswer) → Judged T i m list r → Three (task T i m) (commands T i list) → r ≡ verdict.Accepted (length (commands T i list))
+  -- and else reports the first fault
+  pub refuses : (list : List ℕ) (f p : ℕ) → Judged T i m list (verdict.Refused f p) → First (task T i m) (commands T i list) f p
+  -- what is written is accepted, with the count that was answered
+  pub ours : (buffer out : List ℕ) (n : ℕ) → Wrote T i m buffer (counted.Count n) out
+      → (r : judge.JudgeAnswer) → Judged T i m (take (length (ourBytes T i m)) out) r → r ≡ verdict.Accepted n
+  -- the model takes cut k of an accepted list to cut k + 1 by its command k
+  pub followed : (list : List ℕ) (n : ℕ) → Judged T i m list (verdict.Accepted n) → (k : ℕ) → k < n
+      → (r : model-answer.ModelAnswer) (j : List ℕ) → Took T (cutOf T i list k) (getD (pieces T list) k []) r j → (r ≡ storing.Stored) × (j ≡ cutOf T i list (suc k))
+  -- from every cut of an accepted list, a buffer that is long enough gets a list that ends in the image that ours gives
+  pub restart : (list : List ℕ) (n : ℕ) → Judged T i m list (verdict.Accepted n) → (k : ℕ) → k ≤ n
+      → (buffer out : List ℕ) (r : count.CountAnswer) → length (ourBytes T (cutOf T i list k) m) ≤ length buffer → Wrote T (cutOf T i list k) m buffer r out
+      → ((c : ℕ) × (r ≡ counted.Count c)) × (ourImage T (cutOf T i list k) m ≡ ourImage T i m) × (take (length (ourBytes T (cutOf T i list k) m)) out ≡ ourBytes T (cutOf T i list k) m)
