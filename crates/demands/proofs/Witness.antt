@@ -1,13 +1,17 @@
--- What the theorems take for granted is met by something: specimen tags, for each premise.
+-- What the theorems take for granted is met by something: a specimen tag of each type is ready for a message, and is a tag of
+-- bytes that refusal 11 can be asked of.
 -- Assumes nothing.
 use mathlib.Core.Path.{_≡_, refl}
-use mathlib.Core.Bool.{true, false}
+use mathlib.Core.Bool.{Bool, true, false, _&&_}
 use mathlib.Core.List.{List, [], _∷_}
 use Prim.Native.Nat.{ℕ}
 use native.Mathlib.Omega.{arith}
+use borrow.Author.Tests.{ltb-true}
+use lib.Dec.{ltb}
 use lib.ListN.{replicate}
 use Rattle.tag.specs.Reading.{empty, message, Report, reads}
 use Rattle.tag.specs.Cuts.{Ready}
+use Rattle.tag.proofs.Logic.{and-l, and-r}
 use Rattle.tlv.specs.Areas.{without}
 use Rattle.tlv.specs.Walk.{longBy, lengthBy, passValue, areaBy, controlBy, find}
 use Rattle.tlv.specs.Message.{viewBy, viewed, reading}
@@ -15,6 +19,7 @@ use Rattle.tlv.specs.Update.{fitsIn}
 use Rattle.type2.specs.Type2.{type2}
 use Rattle.type3.specs.Message as message3
 use Rattle.type3.specs.Type3.{type3}
+use Rattle.demands.specs.Demand2.{Octets, Asked}
 use Rattle.demands.specs.Specimens.{small, tag3}
 
 -- an empty tag of 64 bytes, and a message of three
@@ -37,4 +42,37 @@ ready-3 = record {
   writable = refl;
   some-bytes = omega arith;
   room = refl;
+}
+
+-- ---- a list of bytes, by a test that computes
+
+below : List ℕ → Bool
+below [] = true
+below (b ∷ bs) = ltb b 256 && below bs
+
+below-octets : (bs : List ℕ) → below bs ≡ true → Octets bs
+unfolding below
+below-octets [] e = tt
+below-octets (b ∷ bs) e = (ltb-true b 256 (and-l (ltb b 256) (below bs) e), below-octets bs (and-r (ltb b 256) (below bs) e))
+
+pub asked-2 : Asked type2 (small (0x03 ∷ 0x00 ∷ 0xFE ∷ [])) (0xD0 ∷ 0x00 ∷ 0x00 ∷ [])
+unfolding below
+asked-2 = record {
+  report = ready-2 .report;
+  reads-as = ready-2 .reads-as;
+  writable = ready-2 .writable;
+  some-bytes = ready-2 .some-bytes;
+  image-octets = below-octets (small (0x03 ∷ 0x00 ∷ 0xFE ∷ [])) refl;
+  message-octets = below-octets (0xD0 ∷ 0x00 ∷ 0x00 ∷ []) refl;
+}
+
+pub asked-3 : Asked (type3 (replicate 8 0x00)) (tag3 0x00 0x46) (0xD0 ∷ 0x00 ∷ 0x00 ∷ [])
+unfolding below
+asked-3 = record {
+  report = ready-3 .report;
+  reads-as = ready-3 .reads-as;
+  writable = ready-3 .writable;
+  some-bytes = ready-3 .some-bytes;
+  image-octets = below-octets (tag3 0x00 0x46) refl;
+  message-octets = below-octets (0xD0 ∷ 0x00 ∷ 0x00 ∷ []) refl;
 }

@@ -63,8 +63,8 @@ fn byte_or_zero(part: &[u8], at: usize) -> u8
     if at < part.len() { part[at] } else { 0x00 }
 }
 
-// A block of the message: sixteen bytes of the part, filled with 00h.
-fn fill_block(part: &[u8], out: &mut [u8])
+// The last block of the message: what the part has, filled with 00h.
+fn fill_short(part: &[u8], out: &mut [u8])
     requires { ⌜ 16 ≤ length (now out) ⌝ }
     ensures { λ _. ⌜ now (out .exit) ≡ filled (now (part .entry)) ++ drop 16 (now (out .entry)) ⌝ }
 {
@@ -73,6 +73,18 @@ fn fill_block(part: &[u8], out: &mut [u8])
         out[j] = byte_or_zero(part, j);
         j += 1;
     }
+}
+
+// A block of the message: sixteen bytes of the part, filled with 00h.
+fn fill_block(part: &[u8], out: &mut [u8])
+    requires { ⌜ 16 ≤ length (now out) ⌝ }
+    ensures { λ _. ⌜ now (out .exit) ≡ filled (now (part .entry)) ++ drop 16 (now (out .entry)) ⌝ }
+{
+    if 16 <= part.len() {
+        bytes::copy(&part[..16], out);
+        return;
+    }
+    fill_short(part, out);
 }
 
 // The bytes of `count` blocks of the message, past its first `skip` blocks.

@@ -1,58 +1,45 @@
--- `write::fill_block` meets its contract. The loop's invariant: the bytes passed are laid over the buffer. Assumes nothing.
-use mathlib.Core.Path.{_≡_, refl, ap, _∙_}
-use mathlib.Core.List.{List, [], _∷_, _++_, map, map-append}
-use Prim.Native.Nat.{_+_, _-_, _≤_}
+-- `write::fill_block` meets its contract: sixteen bytes are copied where the part has them. Assumes nothing.
+use mathlib.Core.Path.{_≡_, refl, sym, ap, _∙_}
+use mathlib.Core.List.{List, _++_}
+use Prim.Native.Nat.{ℕ, _+_, _≤_}
 use native.Mathlib.Omega.{arith}
 use borrow.Author.Needs.{needs}
-use lib.ListN.{length, drop, length-set, length-map}
+use lib.ListN.{length, take, drop}
+use lib.Seq.{length-take-le, take-take}
 use Rattle.tag.specs.Bytes.{byte, run}
-use Rattle.tag.proofs.Addresses.{length-run}
-use Rattle.type3.proofs.Parts.{lay-byte}
-use Rattle.type3.proofs.Runs.{run-more}
+use Rattle.tag.proofs.Addresses.{map-run}
+use Rattle.type3.specs.Views.{filled}
 use Rattle.type3.proofs.write.fill_block.Statement.{statement}
 use Rattle.type3.proofs.write.fill_block.Tie as tie
 
-abbrev Inv-loop : tie.InvT-loop
-Inv-loop part out₀ j₀ out j =
-    (j ≤ 16) × (16 ≤ length out₀) × (length out ≡ length out₀) × (out ≡ map (byte part) (run 0 j) ++ drop j out₀)
+-- a part that has sixteen bytes needs no filling
+whole : (part out : List ℕ) (n : ℕ) → 16 ≤ length part → n ≡ 16 → take n (take 16 part) ++ drop n out ≡ filled part ++ drop 16 out
+whole part out n l e =
+    let f : filled part ≡ take 16 part = map-run 16 0 part (omega arith) in
+    rw e (ap (λ x. x ++ drop 16 out) (take-take 16 16 part (omega arith) ∙ sym f))
 
-abbrev μ-loop : tie.MeasureT-loop
-μ-loop part out₀ j₀ out j = 16 - j
+slice-aggregate-copy : tie.Need-slice-aggregate-copy
+slice-aggregate-copy c = sym (length-take-le 16 (c .before .before .before .before .args .part .now) (c .before .if1 .taken))
 
-loop-holds : tie.Need-loop-holds Inv-loop μ-loop
-loop-holds c = (search needs, search needs, refl, refl)
+copy-requires : tie.Need-copy-requires
+copy-requires c κs =
+    omega (arith, length-take-le 16 (c .before .before .before .before .before .args .part .now) (c .before .before .if1 .taken), c .before .before .before .before .before .pre)
 
-loop-again : tie.Need-loop-again Inv-loop μ-loop
-loop-again c =
-    let a = c .before .before .before .before .before .args in
-    let l = c .before .before .loop in
-    let m = a .part .now in
-    let here : 0 + l .j ≡ l .j = omega arith in
-    let long : length (map (byte m) (run 0 (l .j))) ≡ l .j = length-map (run 0 (l .j)) (byte m) ∙ length-run (l .j) 0 in
-    let more : map (byte m) (run 0 (l .j + 1)) ≡ map (byte m) (run 0 (l .j)) ++ (byte m (l .j) ∷ [])
-    = ap (map (byte m)) (run-more 0 (l .j)) ∙ map-append (byte m) (run 0 (l .j)) ((0 + l .j) ∷ []) ∙ rw here in (
-      omega arith,
-      search needs,
-      simp length-set (search needs),
-      rw (c .byte-or-zero .ensures, more) (lay-byte (l .out) (map (byte m) (run 0 (l .j))) (a .out .now) (l .j) (byte m (l .j)) (l .inv .3) long (omega arith)),
-    )
-
-returns : tie.Need-returns Inv-loop μ-loop
+returns : tie.Need-returns
 returns c =
-    let all : c .before .loop .j ≡ 16 = omega arith in
-    rw all at (c .before .loop .inv .3)
+    let a = c .before .before .before .before .before .before .before .before .args in
+    let l : 16 ≤ length (a .part .now) = c .before .before .before .before .before .if1 .taken in
+    c .before .before .copy .ensures .1
+    ∙ whole (a .part .now) (a .out .now) (length (take 16 (a .part .now))) l (length-take-le 16 (a .part .now) l)
 
 pub fill-block-spec : {M : Type 1} → statement M
 fill-block-spec =
     tie.close
     (tie.spec
-    Inv-loop
-    μ-loop
-    loop-holds
+    slice-aggregate-copy
+    copy-requires
+    (λ c. search needs)
+    returns
     (λ c κs. search needs)
-    (λ c. omega arith)
     (λ c. search needs)
-    (λ c. search needs)
-    loop-again
-    (λ c. search needs)
-    returns)
+    (λ c. search needs))
