@@ -34,12 +34,13 @@ fn judge_copy(
     old: &[u8],
     had: bool,
     work: &mut [u8],
+    gathered: &mut [u8],
 ) -> JudgeAnswer
-    requires { ⌜ Prepared (now image) (now message) (now set) (now old) had × (length (now work) ≡ length (now image)) ⌝ }
+    requires { ⌜ Prepared (now image) (now message) (now set) (now old) had × (length (now work) ≡ length (now image)) × (length (now gathered) ≡ 1024) ⌝ }
     ensures { λ r. ⌜ verdictAs r ≡ judge (taskFor (now (image .entry)) (now (message .entry))) 0 (now (image .entry)) (commands type2 (now (image .entry)) (now (list .entry))) ⌝ }
 {
     slices::store(image, 0, work);
-    steps::judge_list(image, message, list, set, old, had, work)
+    steps::judge_list(image, message, list, set, old, had, work, gathered)
 }
 
 fn judge_from(
@@ -54,6 +55,7 @@ fn judge_from(
     ensures { λ r. ⌜ verdictAs r ≡ judge (taskFor (now (image .entry)) (now (message .entry))) 0 (now (image .entry)) (commands type2 (now (image .entry)) (now (list .entry))) ⌝ }
 {
     let mut work = [0u8; 1024];
+    let mut gathered = [0u8; 1024];
     judge_copy(
         image,
         message,
@@ -62,6 +64,7 @@ fn judge_from(
         old,
         had,
         &mut work[..image.len()],
+        &mut gathered,
     )
 }
 

@@ -1,4 +1,4 @@
-// What the judge asks of a tag: each call reads it, with a gathering buffer of its own that every message fits.
+// What the judge asks of a tag: each call reads it, with a lent gathering buffer that every message fits.
 
 use tag::holding;
 use tag::slices;
@@ -9,7 +9,8 @@ ghost use Rattle.tag.specs.Judge.{holdsAs, readsAs};
 ghost use Rattle.tag.specs.Answers.{oldHeld};
 ghost use Rattle.type2.specs.Type2.{type2};
 
-fn is_safe_with(image: &[u8], new: &[u8], old: &[u8], had: bool, gathered: &mut [u8]) -> bool
+// Does the tag read as none, as the new message, or as the old one where there was one?
+pub fn is_safe(image: &[u8], new: &[u8], old: &[u8], had: bool, gathered: &mut [u8]) -> bool
     requires { ⌜ length (now gathered) ≡ 1024 ⌝ }
     ensures { λ r. ⌜ r ≡ readsAs (now (new .entry)) (oldHeld had (now (old .entry))) (held type2 (now (image .entry))) ⌝ }
 {
@@ -18,27 +19,12 @@ fn is_safe_with(image: &[u8], new: &[u8], old: &[u8], had: bool, gathered: &mut 
     holding::is_safe(answer, shown, new, old, had)
 }
 
-// Does the tag read as none, as the new message, or as the old one where there was one?
-pub fn is_safe(image: &[u8], new: &[u8], old: &[u8], had: bool) -> bool
-    ensures { λ r. ⌜ r ≡ readsAs (now (new .entry)) (oldHeld had (now (old .entry))) (held type2 (now (image .entry))) ⌝ }
-{
-    let mut gathered = [0u8; 1024];
-    is_safe_with(image, new, old, had, &mut gathered)
-}
-
-fn holds_with(image: &[u8], message: &[u8], gathered: &mut [u8]) -> bool
+// Does the tag hold just this message?
+pub fn holds(image: &[u8], message: &[u8], gathered: &mut [u8]) -> bool
     requires { ⌜ length (now gathered) ≡ 1024 ⌝ }
     ensures { λ r. ⌜ r ≡ holdsAs (held type2 (now (image .entry))) (now (message .entry)) ⌝ }
 {
     let answer = type2::read::read(image, gathered);
     let shown = slices::shown(image, gathered, answer);
     holding::holds(answer, shown, message)
-}
-
-// Does the tag hold just this message?
-pub fn holds(image: &[u8], message: &[u8]) -> bool
-    ensures { λ r. ⌜ r ≡ holdsAs (held type2 (now (image .entry))) (now (message .entry)) ⌝ }
-{
-    let mut gathered = [0u8; 1024];
-    holds_with(image, message, &mut gathered)
 }

@@ -23,8 +23,9 @@ pub fn step(
     old: &[u8],
     had: bool,
     work: &mut [u8],
+    gathered: &mut [u8],
 ) -> u8
-    requires { ⌜ Prepared (now image) (now message) (now set) (now old) had × (length (now work) ≡ length (now image)) ⌝ }
+    requires { ⌜ Prepared (now image) (now message) (now set) (now old) had × (length (now work) ≡ length (now image)) × (length (now gathered) ≡ 1024) ⌝ }
     ensures is { λ r. ⌜ r ≡ fault (taskFor (now (image .entry)) (now (message .entry))) (now (work .entry)) ((type2 .command) (now (image .entry)) (now (command .entry))) ⌝ }
     ensures after { λ _. ⌜ now (work .exit) ≡ done (now (work .entry)) ((type2 .command) (now (image .entry)) (now (command .entry))) ⌝ }
 {
@@ -35,7 +36,7 @@ pub fn step(
     if !kept::is_kept(image, work, set) {
         return 21;
     }
-    if !reading::is_safe(work, message, old, had) {
+    if !reading::is_safe(work, message, old, had, gathered) {
         return 22;
     }
     0
@@ -50,8 +51,9 @@ pub fn judge_list(
     old: &[u8],
     had: bool,
     work: &mut [u8],
+    gathered: &mut [u8],
 ) -> JudgeAnswer
-    requires { ⌜ Prepared (now image) (now message) (now set) (now old) had × (now work ≡ now image) ⌝ }
+    requires { ⌜ Prepared (now image) (now message) (now set) (now old) had × (now work ≡ now image) × (length (now gathered) ≡ 1024) ⌝ }
     ensures { λ r. ⌜ verdictAs r ≡ judge (taskFor (now (image .entry)) (now (message .entry))) 0 (now (image .entry)) (commands type2 (now (image .entry)) (now (list .entry))) ⌝ }
 {
     let mut at = 0usize;
@@ -60,14 +62,23 @@ pub fn judge_list(
         if list.len() - at < 6 {
             return JudgeAnswer::Refused(20, n);
         }
-        let fault = step(image, message, &list[at..at + 6], set, old, had, work);
+        let fault = step(
+            image,
+            message,
+            &list[at..at + 6],
+            set,
+            old,
+            had,
+            work,
+            gathered,
+        );
         if fault != 0 {
             return JudgeAnswer::Refused(fault, n);
         }
         at += 6;
         n += 1;
     }
-    if reading::holds(work, message) {
+    if reading::holds(work, message, gathered) {
         return JudgeAnswer::Accepted(n);
     }
     JudgeAnswer::Refused(23, n)

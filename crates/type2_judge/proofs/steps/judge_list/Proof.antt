@@ -15,69 +15,83 @@ use Rattle.type2_judge.proofs.steps.judge_list.Statement.{statement}
 use Rattle.type2_judge.proofs.steps.judge_list.Tie as tie
 
 abbrev Inv-loop : tie.InvT-loop
-Inv-loop image message list set old had work₀ at₀ n₀ work at n =
-    (at ≤ length list) × (n ≤ at) × (length work ≡ length image)
+Inv-loop image message list set old had work₀ gathered₀ at₀ n₀ work gathered at n =
+    (at ≤ length list) × (n ≤ at) × (length work ≡ length image) × (length gathered ≡ 1024)
     × (judge (taskFor image message) 0 image (commands type2 image list) ≡ judge (taskFor image message) n work (rest image list at))
 
 abbrev μ-loop : tie.MeasureT-loop
-μ-loop image message list set old had work₀ at₀ n₀ work at n = length list - at
+μ-loop image message list set old had work₀ gathered₀ at₀ n₀ work gathered at n = length list - at
 
 loop-holds : tie.Need-loop-holds Inv-loop μ-loop
 loop-holds c =
-    let s = c .before .before .before .before .before .before in
-    let a = s .args in
-    (search needs, search needs, ap length (s .pre .1), ap (λ j. judge (taskFor (a .image .now) (a .message .now)) 0 j (commands type2 (a .image .now) (a .list .now))) (sym (s .pre .1)))
+    let s = c .before .before .before .before .before .before .before in
+    let a = s .args in (
+      search needs,
+      search needs,
+      ap length (s .pre .1),
+      s .pre .2,
+      ap (λ j. judge (taskFor (a .image .now) (a .message .now)) 0 j (commands type2 (a .image .now) (a .list .now))) (sym (s .pre .1)),
+    )
 
 returns : tie.Need-returns Inv-loop μ-loop
 returns c =
-    let s = c .before .before .before .before .before .before .before .before .before in
+    let s = c .before .before .before .before .before .before .before .before .before .before in
     let a = s .args in
     let l = c .before .before .loop in
-    sym (l .inv .3 ∙ turn-short (a .image .now) (a .list .now) (a .message .now) (l .n) (l .work) (l .at) (omega arith) (omega arith))
+    sym (l .inv .4 ∙ turn-short (a .image .now) (a .list .now) (a .message .now) (l .n) (l .work) (l .at) (omega arith) (omega arith))
 
 step-requires : tie.Need-step-requires Inv-loop μ-loop
-step-requires c κs = (c .before .before .before .before .before .before .before .before .before .before .before .pre .0, c .before .before .before .before .loop .inv .2)
+step-requires c κs =
+    let l = c .before .before .before .before .before .loop in
+    (c .before .before .before .before .before .before .before .before .before .before .before .before .before .pre .0, l .inv .2, l .inv .3)
 
-same-length-2 : tie.Need-same-length-2 Inv-loop μ-loop
-same-length-2 c = omega (arith, ap length (c .before .before .before .before .before .before .before .before .before .before .before .before .before .before .before .pre .1))
+same-length-3 : tie.Need-same-length-3 Inv-loop μ-loop
+same-length-3 c = omega (arith, ap length (c .before .before .before .before .before .before .before .before .before .before .before .before .before .before .before .before .before .before .before .pre .1))
+
+same-length-4 : tie.Need-same-length-4 Inv-loop μ-loop
+same-length-4 c = omega (arith, c .before .before .before .before .before .before .before .before .before .before .before .before .before .before .before .before .before .before .before .pre .2, c .before .before .before .before .before .before .before .before .before .before .before .loop .inv .3)
 
 returns-2 : tie.Need-returns-2 Inv-loop μ-loop
 returns-2 c =
-    let s = c .before .before .before .before .before .before .before .before .before .before .before .before .before .before .before in
+    let s = c .before .before .before .before .before .before .before .before .before .before .before .before .before .before .before .before .before .before .before in
     let a = s .args in
-    let l = c .before .before .before .before .before .before .before .before .loop in
-    let f = c .before .before .before .step in
+    let l = c .before .before .before .before .before .before .before .before .before .before .before .loop in
+    let f = c .before .before .before .before .before .step in
     let six : l .at + 6 - l .at ≡ 6 = omega arith in
-    sym (l .inv .3 ∙ turn-stop (a .image .now) (a .list .now) (a .message .now) (l .n) (l .work) (l .at) (omega arith) (f .result) (rw six at (f .ensures .0)) (c .if2 .taken))
+    sym (l .inv .4 ∙ turn-stop (a .image .now) (a .list .now) (a .message .now) (l .n) (l .work) (l .at) (omega arith) (f .result) (rw six at (f .ensures .0)) (c .if2 .taken))
 
 loop-again : tie.Need-loop-again Inv-loop μ-loop
 loop-again c =
-    let s = c .before .before .before .before .before .before .before .before .before .before .before .before .before .before .before in
+    let s = c .before .before .before .before .before .before .before .before .before .before .before .before .before .before .before .before .before .before .before in
     let a = s .args in
-    let l = c .before .before .before .before .before .before .before .before .loop in
-    let f = c .before .before .before .step in
+    let l = c .before .before .before .before .before .before .before .before .before .before .before .loop in
+    let f = c .before .before .before .before .before .step in
     let six : l .at + 6 - l .at ≡ 6 = omega arith in (
       search needs,
       search needs,
       search needs,
-      l .inv .3 ∙ turn-next (a .image .now) (a .list .now) (a .message .now) (l .n) (l .work) (l .at) (omega arith) (f .result) _ (rw six at (f .ensures .0)) (c .if2 .left) (rw six at (f .ensures .1)),
+      search needs,
+      l .inv .4 ∙ turn-next (a .image .now) (a .list .now) (a .message .now) (l .n) (l .work) (l .at) (omega arith) (f .result) _ (rw six at (f .ensures .0)) (c .if2 .left) (rw six at (f .ensures .1)),
     )
+
+holds-requires : tie.Need-holds-requires Inv-loop μ-loop
+holds-requires c κs = c .before .before .before .loop .inv .3
 
 returns-3 : tie.Need-returns-3 Inv-loop μ-loop
 returns-3 c =
-    let s = c .before .before .before .before .before .before .before .before .before .before .before in
+    let s = c .before .before .before .before .before .before .before .before .before .before .before .before .before .before .before in
     let a = s .args in
-    let l = c .before .before .before .before .loop in
+    let l = c .before .before .before .before .before .before .before .loop in
     let t = taskFor (a .image .now) (a .message .now) in
-    sym (l .inv .3 ∙ ap (judge t (l .n) (l .work)) (rest-none (a .image .now) (a .list .now) (l .at) (omega arith)) ∙ judge-good t (l .n) (l .work) (sym (c .before .holds .ensures) ∙ c .if3 .taken))
+    sym (l .inv .4 ∙ ap (judge t (l .n) (l .work)) (rest-none (a .image .now) (a .list .now) (l .at) (omega arith)) ∙ judge-good t (l .n) (l .work) (sym (c .before .before .before .holds .ensures) ∙ c .if3 .taken))
 
 returns-4 : tie.Need-returns-4 Inv-loop μ-loop
 returns-4 c =
-    let s = c .before .before .before .before .before .before .before .before .before .before .before in
+    let s = c .before .before .before .before .before .before .before .before .before .before .before .before .before .before .before in
     let a = s .args in
-    let l = c .before .before .before .before .loop in
+    let l = c .before .before .before .before .before .before .before .loop in
     let t = taskFor (a .image .now) (a .message .now) in
-    sym (l .inv .3 ∙ ap (judge t (l .n) (l .work)) (rest-none (a .image .now) (a .list .now) (l .at) (omega arith)) ∙ judge-bad t (l .n) (l .work) (sym (c .before .holds .ensures) ∙ c .if3 .left))
+    sym (l .inv .4 ∙ ap (judge t (l .n) (l .work)) (rest-none (a .image .now) (a .list .now) (l .at) (omega arith)) ∙ judge-bad t (l .n) (l .work) (sym (c .before .before .before .holds .ensures) ∙ c .if3 .left))
 
 pub judge-list-spec : {M : Type 1} → statement M
 judge-list-spec =
@@ -88,20 +102,24 @@ judge-list-spec =
     loop-holds
     (λ c. search needs)
     (λ c. search needs)
+    (λ c. search needs)
     returns
     (λ c. search needs)
     (λ c. search needs)
     (λ c. search needs)
     (λ c. search needs)
     step-requires
-    same-length-2
+    same-length-3
+    same-length-4
     returns-2
     (λ c. search needs)
     (λ c. search needs)
     (λ c. search needs)
     loop-again
-    (λ c κs. search needs)
+    holds-requires
+    (λ c. search needs)
     (λ c. search needs)
     returns-3
+    (λ c. search needs)
     (λ c. search needs)
     returns-4)

@@ -1,11 +1,11 @@
--- `reading::holds_with` meets its contract. Assumes nothing.
+-- `reading::holds` meets its contract. Assumes nothing.
 use mathlib.Core.Path.{_≡_, ap, _∙_}
 use borrow.Author.Needs.{needs}
 use Rattle.tag.specs.Judge.{holdsAs}
 use Rattle.tag.specs.Answers.{readAs}
 use Rattle.type2_judge.proofs.Holding.{held-read}
-use Rattle.type2_judge.proofs.reading.holds_with.Statement.{statement}
-use Rattle.type2_judge.proofs.reading.holds_with.Tie as tie
+use Rattle.type2_judge.proofs.reading.holds.Statement.{statement}
+use Rattle.type2_judge.proofs.reading.holds.Tie as tie
 
 returns : tie.Need-returns
 returns c =
@@ -15,5 +15,5 @@ returns c =
     ∙ ap (λ h. holdsAs h (s .args .message .now))
     (held-read (s .args .image .now) (s .args .gathered .now) (r .last .1 .0) (readAs (r .result)) (c .before .shown .result .now) (s .pre) (r .ensures .0) (r .ensures .1) (c .before .shown .ensures))
 
-pub holds-with-spec : {M : Type 1} → statement M
-holds-with-spec = tie.close (tie.spec (λ c κs. search needs) (λ c κs. search needs) (λ c κs. search needs) (λ c. search needs) returns)
+pub holds-spec : {M : Type 1} → statement M
+holds-spec = tie.close (tie.spec (λ c κs. search needs) (λ c κs. search needs) (λ c κs. search needs) (λ c. search needs) returns)

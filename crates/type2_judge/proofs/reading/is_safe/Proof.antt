@@ -1,11 +1,11 @@
--- `reading::is_safe_with` meets its contract. Assumes nothing.
+-- `reading::is_safe` meets its contract. Assumes nothing.
 use mathlib.Core.Path.{_≡_, ap, _∙_}
 use borrow.Author.Needs.{needs}
 use Rattle.tag.specs.Judge.{readsAs}
 use Rattle.tag.specs.Answers.{readAs, oldHeld}
 use Rattle.type2_judge.proofs.Holding.{held-read}
-use Rattle.type2_judge.proofs.reading.is_safe_with.Statement.{statement}
-use Rattle.type2_judge.proofs.reading.is_safe_with.Tie as tie
+use Rattle.type2_judge.proofs.reading.is_safe.Statement.{statement}
+use Rattle.type2_judge.proofs.reading.is_safe.Tie as tie
 
 returns : tie.Need-returns
 returns c =
@@ -15,5 +15,5 @@ returns c =
     ∙ ap (readsAs (s .args .new .now) (oldHeld (s .args .had) (s .args .old .now)))
     (held-read (s .args .image .now) (s .args .gathered .now) (r .last .1 .0) (readAs (r .result)) (c .before .shown .result .now) (s .pre) (r .ensures .0) (r .ensures .1) (c .before .shown .ensures))
 
-pub is-safe-with-spec : {M : Type 1} → statement M
-is-safe-with-spec = tie.close (tie.spec (λ c κs. search needs) (λ c κs. search needs) (λ c κs. search needs) (λ c. search needs) returns)
+pub is-safe-spec : {M : Type 1} → statement M
+is-safe-spec = tie.close (tie.spec (λ c κs. search needs) (λ c κs. search needs) (λ c κs. search needs) (λ c. search needs) returns)
