@@ -14,7 +14,6 @@ pub mod Measured
 pub mod Turns
 pub mod Space
 pub mod Steps
-pub mod Passing
 pub mod Marking
 pub mod Finding
 pub mod Refusals

@@ -13,7 +13,7 @@ use Rattle.tlv.specs.declared.area.Area as code-area
 use Rattle.tag.specs.Refusals.{bad-length}
 use Rattle.tlv.specs.Areas.{Control, anyArea}
 use Rattle.tlv.specs.Walk.{takeByte, onByte, Length, bad, len, Passed, more, stop, areaBy}
-use Rattle.tlv.specs.Views.{ahead, Onward}
+use Rattle.tlv.specs.Views.{ahead, Within, Onward}
 use Rattle.tlv.specs.Marks.{SmallArea}
 
 -- ---- length fields
@@ -32,12 +32,7 @@ abbrev pub passedAs : List ℕ → code-passed.Passed → Passed
 passedAs table (passed.Stop r) = stop r
 passedAs table (passed.More w) = more (ahead table w)
 
--- the walk lies inside the table
-pub record Within (table : List ℕ) (w : Walk) : Type 0 where
-  pub ordered : w .at .0 ≤ w .end .0
-  pub in-table : w .end .0 ≤ length table
-
--- and has moved on from v
+-- the walk has moved on from v
 pub record Moved (v w : Walk) : Type 0 where
   pub farther : v .at .0 ≤ w .at .0
   pub ordered : w .at .0 ≤ w .end .0
@@ -56,7 +51,6 @@ PassedPlaced image table v (passed.More w) = Onward image table v w
 -- the walk and an area that its table has room for
 pub record Skips (table : List ℕ) (w : Walk) (r : code-area.Area) : Type 0 where
   pub within : Within table w
-  pub short : length table ≤ 1024
   pub small : SmallArea r
 
 -- the walk stays where it is

@@ -1,7 +1,7 @@
 -- The skip table of the code: at each address 0, or where a declared area that covers the address ends. The usable addresses
 -- still to come are those whose entry is 0.
 -- Assumes nothing.
-use mathlib.Core.Bool.{true, false}
+use mathlib.Core.Bool.{Bool, true, false, _&&_}
 use mathlib.Core.List.{List, [], _∷_}
 use Prim.Native.Nat.{ℕ, zero, suc}
 use lib.Dec.{eqb}
@@ -11,3 +11,8 @@ use Rattle.tag.specs.Bytes.{byte}
 unfoldable pub unskipped : List ℕ → ℕ → ℕ → List ℕ
 unskipped table a zero = []
 unskipped table a (suc n) = elim (eqb (byte table a) 0) [ true ↦ a ∷ unskipped table (suc a) n | false ↦ unskipped table (suc a) n ]
+
+-- are the n addresses from a on all usable
+unfoldable pub noneSkipped : List ℕ → ℕ → ℕ → Bool
+noneSkipped table a zero = true
+noneSkipped table a (suc n) = eqb (byte table a) 0 && noneSkipped table (suc a) n

@@ -8,15 +8,8 @@ use lib.Dec.{leb, eqb}
 use lib.ListN.{length, getD, take}
 use Rattle.tag.specs.Bytes.{byte, consecutive}
 use Rattle.tag.specs.Plan.{touches}
-use Rattle.tlv.specs.declared.walk.Walk.{Walk}
 use Rattle.tlv.specs.declared.value.Value as code
 use Rattle.tlv.specs.declared.value.Value.the-variants as value
-
--- the walk lies inside the table: what `Placed` has without the image
-pub record Within (table : List ℕ) (w : Walk) : Type 0 where
-  pub ordered : w .at .0 ≤ w .end .0
-  pub in-table : w .end .0 ≤ length table
-  pub short : length table ≤ 1024
 
 -- a value of n bytes, n at least 1: fewer are left; or its first address, and whether it is interrupted
 pub data Value : Type 0 where

@@ -21,7 +21,13 @@ pub record Placed (image table : List ℕ) (w : Walk) : Type 0 where
   pub in-image : w .end .0 ≤ length image
   pub short : length table ≤ 1024
 
--- and has moved on from v
+-- the walk lies inside the table
+pub record Within (table : List ℕ) (w : Walk) : Type 0 where
+  pub ordered : w .at .0 ≤ w .end .0
+  pub in-table : w .end .0 ≤ length table
+  pub short : length table ≤ 1024
+
+-- the walk lies inside both and has moved on from v
 pub record Onward (image table : List ℕ) (v w : Walk) : Type 0 where
   pub placed : Placed image table w
   pub farther : v .at .0 ≤ w .at .0

@@ -1,13 +1,13 @@
 // Length fields, and values passed over.
 
-use crate::table;
+use crate::value;
 use crate::walk::Taken;
 use crate::walk::Walk;
 use tag::Address;
 ghost use mathlib.Core.Path.{_≡_};
 ghost use Rattle.tlv.specs.Walk.{len, longOf, lengthOf, passValue};
-ghost use Rattle.tlv.specs.Views.{ahead, Placed};
-ghost use Rattle.tlv.specs.Passing.{fieldAs, FieldPlaced, passedAs, Within, PassedWithin, PassedPlaced};
+ghost use Rattle.tlv.specs.Views.{ahead, Placed, Within};
+ghost use Rattle.tlv.specs.Passing.{fieldAs, FieldPlaced, passedAs, PassedWithin, PassedPlaced};
 
 // A length field taken: its number, and the walk past it.
 pub enum Field {
@@ -70,20 +70,16 @@ impl Walk {
         ensures is { λ r. ⌜ passedAs (now (table .entry)) r ≡ passValue (len n (ahead (now (table .entry)) self)) ⌝ }
         ensures placed { λ r. ⌜ PassedWithin self r ⌝ }
     {
-        let end = self.end;
-        let stop = end.0;
-        let mut a = self.at.0;
-        let mut left = n;
-        while 0 < left {
-            let found = table::next_usable(table, Address(a), end);
-            let f = found.0;
-            if stop <= f {
-                return Passed::Stop(7);
-            }
-            a = f + 1;
-            left -= 1;
+        if n == 0 {
+            return Passed::More(self);
         }
-        let at = Address(a);
+        let end = self.end;
+        let last = value::nth(self, n - 1, table);
+        let z = last.0;
+        if z == end.0 {
+            return Passed::Stop(7);
+        }
+        let at = Address(z + 1);
         Passed::More(Walk { at, end })
     }
 

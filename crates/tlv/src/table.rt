@@ -4,7 +4,7 @@ use tag::Address;
 ghost use mathlib.Core.Path.{_≡_};
 ghost use Prim.Native.Nat.{_-_, _<_, _≤_};
 ghost use lib.ListN.{length, getD};
-ghost use Rattle.tlv.specs.Table.{unskipped};
+ghost use Rattle.tlv.specs.Table.{unskipped, noneSkipped};
 ghost use Rattle.tlv.specs.Marks.{Marked};
 
 // The first usable address from `at` on, or `end`.
@@ -23,6 +23,38 @@ pub fn next_usable(table: &[u16], at: Address, end: Address) -> Address
         a += 1;
     }
     Address(a)
+}
+
+// How many of the addresses from `at` up to `end` are usable. Here and in `none_skipped` each turn does the same to one number
+// of 16 bits, so that a compiler can do many addresses at once.
+pub fn count_usable(table: &[u16], at: Address, end: Address) -> usize
+    requires { ⌜ (at .0 ≤ end .0) × (end .0 ≤ length (now table)) × (end .0 ≤ 1024) ⌝ }
+    ensures is { λ r. ⌜ r ≡ length (unskipped (now (table .entry)) (at .0) (end .0 - at .0)) ⌝ }
+    ensures few { λ r. ⌜ r ≤ end .0 - at .0 ⌝ }
+{
+    let stop = end.0;
+    let mut a = at.0;
+    let mut n = 0u16;
+    while a < stop {
+        n += (table[a] == 0) as u16;
+        a += 1;
+    }
+    n as usize
+}
+
+// Whether every address from `at` up to `end` is usable.
+pub fn none_skipped(table: &[u16], at: Address, end: Address) -> bool
+    requires { ⌜ (at .0 ≤ end .0) × (end .0 ≤ length (now table)) ⌝ }
+    ensures { λ r. ⌜ r ≡ noneSkipped (now (table .entry)) (at .0) (end .0 - at .0) ⌝ }
+{
+    let stop = end.0;
+    let mut a = at.0;
+    let mut any = 0u16;
+    while a < stop {
+        any |= table[a];
+        a += 1;
+    }
+    any == 0
 }
 
 // The addresses from `first` up to `stop` marked: an area that ends at `stop` covers them.

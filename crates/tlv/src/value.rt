@@ -10,8 +10,8 @@ ghost use mathlib.Core.List.{map};
 ghost use Prim.Native.Nat.{_*_, _<_, _≤_};
 ghost use lib.ListN.{length, getD, take, drop};
 ghost use Rattle.tag.specs.Bytes.{byte, overlay, overwrite};
-ghost use Rattle.tlv.specs.Views.{ahead, Placed, Onward};
-ghost use Rattle.tlv.specs.Values.{Within, measured, valueAs, ValueRoom, BlocksMarked};
+ghost use Rattle.tlv.specs.Views.{ahead, Placed, Within, Onward};
+ghost use Rattle.tlv.specs.Values.{measured, valueAs, ValueRoom, BlocksMarked};
 
 // A value of so many bytes: fewer usable ones are left; or the address of the first, and whether skipped ones lie in between.
 pub enum Value {
@@ -25,27 +25,25 @@ pub fn count(w: Walk, table: &[u16]) -> usize
     ensures is { λ r. ⌜ r ≡ length (ahead (now (table .entry)) w) ⌝ }
     ensures few { λ r. ⌜ r ≤ 1024 ⌝ }
 {
-    let end = w.end;
-    let stop = end.0;
-    let first = table::next_usable(table, w.at, end);
-    let mut a = first.0;
-    let mut n = 0usize;
-    while a < stop {
-        let next = table::next_usable(table, Address(a + 1), end);
-        a = next.0;
-        n += 1;
-    }
-    n
+    table::count_usable(table, w.at, w.end)
 }
 
-// The usable address that comes after `k` others, or the end where there are no more than `k`.
-fn nth(w: Walk, k: usize, table: &[u16]) -> Address
+// The usable address that comes after `k` others, or the end where there are no more than `k`. Mostly nothing is skipped on the
+// way there, which is tested sooner than going from one to the next.
+pub fn nth(w: Walk, k: usize, table: &[u16]) -> Address
     requires { ⌜ Within (now table) w ⌝ }
     ensures is { λ r. ⌜ r .0 ≡ getD (ahead (now (table .entry)) w) k (w .end .0) ⌝ }
-    ensures within { λ r. ⌜ r .0 ≤ w .end .0 ⌝ }
+    ensures within { λ r. ⌜ (w .at .0 ≤ r .0) × (r .0 ≤ w .end .0) ⌝ }
 {
     let end = w.end;
     let stop = end.0;
+    let here = w.at.0;
+    if stop - here <= k {
+        return end;
+    }
+    if table::none_skipped(table, w.at, Address(here + k + 1)) {
+        return Address(here + k);
+    }
     let first = table::next_usable(table, w.at, end);
     let mut a = first.0;
     let mut left = k;

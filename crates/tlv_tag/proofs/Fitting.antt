@@ -25,7 +25,8 @@ use Rattle.tlv.specs.Finding.{FoundPlaced}
 use Rattle.tlv.proofs.Finding.{find-all}
 use Rattle.tlv_tag.specs.declared.space.Space as code
 use Rattle.tlv_tag.specs.declared.space.Space.the-variants as answer
-use Rattle.tlv_tag.specs.Space.{Blank, Room, SpaceHere, SpacePlaced}
+use Rattle.tlv_tag.specs.Blank.{Blank}
+use Rattle.tlv_tag.specs.Space.{Room, SpaceHere, SpacePlaced}
 
 -- one byte of length and n of message
 pub ltb-leb : (n u : ℕ) → ltb n u ≡ leb (1 + n) u
@@ -69,7 +70,7 @@ module _ (w : Bool) (n : ℕ) (us : List ℕ) (l : Length) where
 pub found-all : (i t : List ℕ) (w : Walk) (first end : ℕ) → Blank i t first end → w .at .0 ≡ first → w .end .0 ≡ end
     → find anyArea (w .end .0 - w .at .0) i (ahead t w) ≡ find anyArea (end - first) i (run first (end - first))
 found-all i t w first end b p q =
-    ap (λ u. find anyArea (w .end .0 - w .at .0) i (ahead u w)) (b .zeros)
+    ap (λ u. find anyArea (w .end .0 - w .at .0) i (ahead u w)) (b .clear)
     ∙ find-all (length t) i w first (end - first) p (omega (arith, b .ordered)) (omega (arith, b .ordered, b .in-table))
 
 pub found-at : {i t : List ℕ} {v w : Walk} {a : Address} {r : code-found.Found} → FoundPlaced i t v r → r ≡ found.At a w

@@ -28,7 +28,8 @@ use Rattle.tlv.specs.Finding.{foundAs}
 use Rattle.tlv.specs.Values.{at, measured}
 use Rattle.tlv.proofs.Measured.{report-measured}
 use Rattle.tlv.proofs.Finding.{find-all}
-use Rattle.tlv_tag.specs.Reading.{areaView, tlvView, valueReading, refusalOf, reportAs, Blank}
+use Rattle.tlv_tag.specs.Blank.{Blank}
+use Rattle.tlv_tag.specs.Reading.{areaView, tlvView, valueReading, refusalOf, reportAs}
 
 -- the answer and the gathering buffer afterwards are those of a reading
 abbrev pub Answers : ReadAnswer → List ℕ → List ℕ → Reading → Type 0

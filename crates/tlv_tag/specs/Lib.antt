@@ -1,4 +1,5 @@
 -- Views of the code over a tag with a TLV area.
+pub mod Blank
 pub mod Reading
 pub mod Space
 pub mod Update

@@ -1,12 +1,11 @@
 -- Reading the message of a tag that has a TLV area, from three places: the data area's start, the message TLV's type byte, and
 -- its value; and the numbers that the code goes by.
 -- Assumes nothing.
-use mathlib.Core.Path.{_≡_}
 use mathlib.Core.Bool.{Bool, cond}
 use mathlib.Core.List.{List, map}
-use Prim.Native.Nat.{ℕ, _-_, _≤_}
+use Prim.Native.Nat.{ℕ, _-_}
 use lib.Dec.{leb}
-use lib.ListN.{length, take, replicate}
+use lib.ListN.{length, take}
 use Rattle.tag.specs.declared.Report as code
 use Rattle.tag.specs.Bytes.{byte, run}
 use Rattle.tag.specs.Refusals.{bad-length}
@@ -42,11 +41,3 @@ reportAs i us p = record {
   interrupted = p .interrupted;
   writable = p .writable;
 }
-
--- the data area lies inside the image, and the table, which is long enough, skips nothing yet
-pub record Blank (image table : List ℕ) (first end : ℕ) : Type 0 where
-  pub ordered : first ≤ end
-  pub in-table : end ≤ length table
-  pub in-image : end ≤ length image
-  pub short : length table ≤ 1024
-  pub clear : table ≡ replicate (length table) 0

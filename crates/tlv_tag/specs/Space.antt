@@ -3,20 +3,12 @@
 use mathlib.Core.Path.{_≡_}
 use mathlib.Core.List.{List}
 use Prim.Native.Nat.{ℕ, _<_, _≤_}
-use lib.ListN.{length, replicate}
+use lib.ListN.{length}
 use Rattle.tlv.specs.declared.walk.Walk.{Walk}
 use Rattle.tlv.specs.Views.{ahead, Placed}
 use Rattle.tlv.specs.Space.{Space, no-space, space}
 use Rattle.tlv_tag.specs.declared.space.Space as code
 use Rattle.tlv_tag.specs.declared.space.Space.the-variants as answer
-
--- a skip table in which nothing is skipped yet, and a data area inside the image and the table
-pub record Blank (image table : List ℕ) (first end : ℕ) : Type 0 where
-  pub zeros : table ≡ replicate (length table) 0
-  pub ordered : first ≤ end
-  pub in-table : end ≤ length table
-  pub in-image : end ≤ length image
-  pub short : length table ≤ 1024
 
 abbrev pub spaceAs : List ℕ → code.Space → Space
 spaceAs table (answer.Refused r) = no-space r

@@ -17,7 +17,8 @@ ghost use Rattle.tag.specs.Reading.{reads, answerOf, gatheredInto};
 ghost use Rattle.tag.specs.Answers.{readAs};
 ghost use Rattle.tlv.specs.Views.{ahead, Placed};
 ghost use Rattle.tlv.specs.Message.{readingOf};
-ghost use Rattle.tlv_tag.specs.Reading.{areaView, tlvView, valueReading, refusalOf, reportAs, Blank};
+ghost use Rattle.tlv_tag.specs.Blank.{Blank};
+ghost use Rattle.tlv_tag.specs.Reading.{areaView, tlvView, valueReading, refusalOf, reportAs};
 
 // The answer for a message that is there, from the walk before its first byte: gathered if it is interrupted, unless the
 // buffer is shorter.

@@ -15,7 +15,8 @@ ghost use Rattle.tlv.specs.Message.{view, viewBy, viewOf};
 ghost use Rattle.tlv.specs.Update.{fitsIn};
 ghost use Rattle.tlv.specs.Space.{spaceOf};
 ghost use Rattle.tlv.specs.Views.{ahead, Placed};
-ghost use Rattle.tlv_tag.specs.Space.{Blank, spaceAs, SpaceHere, SpacePlaced};
+ghost use Rattle.tlv_tag.specs.Blank.{Blank};
+ghost use Rattle.tlv_tag.specs.Space.{spaceAs, SpaceHere, SpacePlaced};
 
 // A refusal; or the walk past the message TLV's type byte, where the message with its length has room.
 pub enum Space {

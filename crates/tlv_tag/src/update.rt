@@ -8,8 +8,7 @@ ghost use Prim.Native.Nat.{_+_, _*_, _<_, _≤_};
 ghost use lib.ListN.{length, drop};
 ghost use Rattle.tag.specs.Bytes.{overlay};
 ghost use Rattle.tlv.specs.Update.{lengthField, content};
-ghost use Rattle.tlv.specs.Views.{ahead, Placed, Onward};
-ghost use Rattle.tlv.specs.Values.{Within};
+ghost use Rattle.tlv.specs.Views.{ahead, Placed, Within, Onward};
 ghost use Rattle.tlv_tag.specs.Update.{contentLength, ContentMarked};
 
 // Sets the length in its shortest form, and hands back the walk past it.

@@ -10,7 +10,8 @@ use Rattle.tag.specs.Bytes.{byte}
 use Rattle.tag.specs.Checks.{firstOf}
 use Rattle.tag.specs.Reading.{unreadable, refusalNumber}
 use Rattle.tlv.specs.Message.{readingOf}
-use Rattle.tlv_tag.specs.Reading.{areaView, refusalOf, Blank}
+use Rattle.tlv_tag.specs.Blank.{Blank}
+use Rattle.tlv_tag.specs.Reading.{areaView, refusalOf}
 use Rattle.tlv_tag.proofs.Reading.{reading-fault, reading-fine, reading-refusal}
 use Rattle.type2.specs.declared.container.DataArea.{DataArea}
 use Rattle.type2.specs.declared.container.DataArea.the-variants as code

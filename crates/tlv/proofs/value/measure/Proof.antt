@@ -38,7 +38,7 @@ returns-2 c =
     let p : At (a .table .now) (f .result .0) (a .w .end .0) =
     record { within = search needs; in-table = search needs; free = f .ensures .1 .1 } in (
       measured-at (a .table .now) (a .w) (a .n) (z .result .0) (s .pre .1) (s .pre .0) (z .ensures .0) (f .result .0) (c .before .if1 .left) p (f .ensures .1 .0),
-      measured-room (a .table .now) (a .w) (a .n) (z .result .0) (s .pre .1) (s .pre .0) (z .ensures .0) (f .result .0) (c .before .if1 .left) p (f .ensures .1 .0),
+      measured-room (a .table .now) (a .w) (a .n) (z .result .0) (s .pre .1) (s .pre .0) (z .ensures .0) (c .before .if1 .left),
     )
 
 pub measure-spec : {M : Type 1} → statement M
