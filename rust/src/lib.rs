@@ -48,6 +48,11 @@ pub mod raw {
     };
 }
 
+// What README.md shows of this crate runs as a doc test.
+#[cfg(doctest)]
+#[doc = include_str!("../../README.md")]
+mod readme {}
+
 use std::error::Error;
 use std::fmt;
 

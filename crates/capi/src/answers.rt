@@ -20,7 +20,7 @@ fn above(n: usize) -> u64
     256 * ((n % COUNTS) as u64)
 }
 
-pub fn count(answer: CountAnswer) -> u64
+pub(crate) fn count(answer: CountAnswer) -> u64
     ensures { λ r. ⌜ r ≡ packedCount (countAs answer) ⌝ }
 {
     match answer {
@@ -29,7 +29,7 @@ pub fn count(answer: CountAnswer) -> u64
     }
 }
 
-pub fn verdict(answer: JudgeAnswer) -> u64
+pub(crate) fn verdict(answer: JudgeAnswer) -> u64
     ensures { λ r. ⌜ r ≡ packedVerdict (verdictAs answer) ⌝ }
 {
     match answer {
@@ -38,7 +38,7 @@ pub fn verdict(answer: JudgeAnswer) -> u64
     }
 }
 
-pub fn storing(answer: ModelAnswer) -> u64
+pub(crate) fn storing(answer: ModelAnswer) -> u64
     ensures { λ r. ⌜ r ≡ packedStoring (modelAs answer) ⌝ }
 {
     match answer {
@@ -82,7 +82,7 @@ fn report(p: Report) -> [u64; 5]
 }
 
 // Reading's answer; what the tag says of itself goes to `out`.
-pub fn reading(answer: ReadAnswer, out: &mut [u64; 5]) -> u64
+pub(crate) fn reading(answer: ReadAnswer, out: &mut [u64; 5]) -> u64
     ensures { λ r. ⌜ r ≡ packedRead (readAs answer) ⌝ }
     ensures { λ _. ⌜ now (out .exit) ≡ reportInto (now (out .entry)) (readAs answer) ⌝ }
 {

@@ -1,10 +1,8 @@
 -- Demand 3 of any answers that meet the contracts, from demand 3 of the definitions.
 -- Assumes nothing.
 use mathlib.Core.Path.{_≡_, refl, sym, ap, _∙_}
-use mathlib.Core.Logic.{_↔_}
 use mathlib.Core.List.{List, [], _++_}
 use Prim.Native.Nat.{ℕ, suc, _<_, _≤_}
-use native.Mathlib.Omega.{arith}
 use borrow.Author.Tests.{le-leb}
 use lib.ListN.{length, getD, take, drop}
 use lib.Seq.{take-append-seam}
@@ -16,12 +14,11 @@ use Rattle.tag.specs.declared.ModelAnswer as model-answer
 use Rattle.tag.specs.declared.ModelAnswer.the-variants as storing
 use Rattle.tag.specs.Plan.{list}
 use Rattle.tag.specs.TagType.{TagType, Output, withheld, output, outputInto, fitted, writing, written, writeBy, write, pieces, commands}
-use Rattle.tag.specs.Judge.{Verdict, accepted, refused, judged}
+use Rattle.tag.specs.Judge.{accepted, judged}
 use Rattle.tag.specs.Model.{stored, model, imageAfter}
-use Rattle.tag.specs.Answers.{Counting, uncounted, counts, countOf, countAs, verdictAs, Storing, unstoring, storing, storingOf, modelAs}
-use Rattle.tag.specs.Cuts.{Ready, Three}
+use Rattle.tag.specs.Answers.{uncounted, counts, countOf, countAs, verdictAs, storing, storingOf, modelAs}
 use Rattle.tag.proofs.Logic.{nope}
-use Rattle.demands.specs.Demand3.{task, cutOf, ourBytes, ourImage, Demand3}
+use Rattle.demands.specs.Demand3.{cutOf, ourBytes, ourImage, Demand3}
 use Rattle.demands.specs.ByContract.{Wrote, Judged, Took, Code3}
 use Rattle.demands.proofs.Demand2.{fitted-is}
 

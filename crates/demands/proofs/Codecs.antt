@@ -2,7 +2,7 @@
 -- Assumes nothing.
 use mathlib.Core.Path.{_≡_, refl, sym, ap, _∙_}
 use mathlib.Core.Bool.{Bool, true, false}
-use mathlib.Core.List.{List, [], _∷_}
+use mathlib.Core.List.{List}
 use Prim.Native.Nat.{ℕ, _+_, _*_, _≤_}
 use native.Mathlib.Omega.{arith}
 use borrow.Author.Tests.{leb-true, le-leb}
@@ -10,7 +10,7 @@ use lib.Dec.{leb}
 use lib.ListN.{length, take}
 use lib.Seq.{length-take-le, take-all}
 use Rattle.tag.specs.Refusals.{not-well-formed}
-use Rattle.tag.specs.TagType.{Output, withheld, output, fitted}
+use Rattle.tag.specs.TagType.{withheld, output, fitted}
 use Rattle.tag.proofs.Logic.{nope}
 use Rattle.type2.specs.Codec as codec2
 use Rattle.type2.proofs.Codec as laws2

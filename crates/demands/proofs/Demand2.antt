@@ -10,14 +10,12 @@ use lib.ListN.{length, length-map}
 use Rattle.tag.specs.Refusals.{short-buffer}
 use Rattle.tag.specs.Reading.{holds}
 use Rattle.tag.specs.Stores.{stores}
-use Rattle.tag.specs.Plan.{Plan, list}
-use Rattle.tag.specs.TagType.{TagType, held, Writing, unwritten, written, writing, Output, withheld, output, fitted, writeBy, write, listBytes, commands}
-use Rattle.tag.specs.Cuts.{Ready}
+use Rattle.tag.specs.Plan.{list}
+use Rattle.tag.specs.TagType.{TagType, held, Writing, unwritten, written, writing, withheld, output, fitted, write, listBytes, commands}
 use Rattle.tag.proofs.Logic.{nope}
-use Rattle.tag.proofs.Writes.{Sound}
 use Rattle.tag.proofs.Laws.{Laws, written-ready}
 use Rattle.tag.proofs.Showing.{shown-part}
-use Rattle.demands.specs.Demand3.{cutOf, ourBytes, ourImage}
+use Rattle.demands.specs.Demand3.{cutOf, ourBytes}
 use Rattle.demands.specs.Demand2.{Demand2}
 use Rattle.demands.proofs.Demand3.{our-commands, our-image}
 

@@ -1,26 +1,25 @@
 -- Demand 3 from the laws of a type of tag.
 -- Assumes nothing.
 use mathlib.Core.Path.{_≡_, refl, sym, ap, ap₂, _∙_}
-use mathlib.Core.Logic.{_↔_}
-use mathlib.Core.List.{List, [], _∷_, _++_, map}
-use Prim.Native.Nat.{ℕ, zero, suc, _+_, _<_, _≤_, zero-le, suc-le-suc}
+use mathlib.Core.List.{List, [], _∷_, map}
+use Prim.Native.Nat.{ℕ, zero, suc, _+_, _<_, _≤_}
 use native.Mathlib.Nat.{le-of-suc-le-suc, not-suc-le-zero, le-refl, zero-add}
 use native.Mathlib.Omega.{arith}
 use lib.ListN.{length, getD, take, drop, length-map, length-drop}
 use lib.Seq.{drop-cons, length-take-le}
 use Rattle.tag.specs.Bytes.{overlay}
-use Rattle.tag.specs.Reading.{Reading, unreadable, reads, broken, holds}
-use Rattle.tag.specs.Stores.{Store, Command, ill, stores, puts, done, cut}
-use Rattle.tag.specs.Plan.{Plan, newImage, list}
-use Rattle.tag.specs.TagType.{TagType, held, writing, written, joined, listBytes, pieces, commands}
-use Rattle.tag.specs.Judge.{Task, taskOf, accepted, refused, judge, judgeBy, judged}
-use Rattle.tag.specs.Model.{Modelled, unstored, stored, modelBy, model, imageAfter}
-use Rattle.tag.specs.Cuts.{Ready, Safe, as-none, as-new, as-old, Three, First}
+use Rattle.tag.specs.Reading.{Reading, unreadable, reads, broken}
+use Rattle.tag.specs.Stores.{Store, Command, ill, stores, puts, done}
+use Rattle.tag.specs.Plan.{newImage, list}
+use Rattle.tag.specs.TagType.{TagType, held, writing, written, pieces, commands}
+use Rattle.tag.specs.Judge.{Task, accepted, judge, judgeBy, judged}
+use Rattle.tag.specs.Model.{stored, model, imageAfter}
+use Rattle.tag.specs.Cuts.{Ready, Safe, as-none, as-new, as-old, Three}
 use Rattle.tag.proofs.Logic.{nope}
 use Rattle.tag.proofs.Each.{Each, each-map, each-of}
 use Rattle.tag.proofs.Images.{restart, length-cut}
 use Rattle.tag.proofs.Judge.{accepts-exactly, refused-first, cut-done}
-use Rattle.tag.proofs.Writes.{Sound, list-accepted, list-ends}
+use Rattle.tag.proofs.Writes.{list-accepted, list-ends}
 use Rattle.tag.proofs.Pieces.{Piece, pieces-joined}
 use Rattle.tag.proofs.Laws.{Laws, Sent, Near, ready-written, ready-reads}
 use Rattle.demands.specs.Demand3.{task, cutOf, ourBytes, ourImage, Calls, end, give, refuse, imageOf, Demand3}

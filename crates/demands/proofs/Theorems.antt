@@ -1,10 +1,10 @@
 -- The theorems, for both types of tag. What each says is in `specs/Demand2.antt` and `specs/Demand3.antt`.
 -- Assumes nothing.
-use mathlib.Core.Path.{_≡_, refl, sym, ap, _∙_}
-use mathlib.Core.List.{List, [], _∷_, _++_}
-use Prim.Native.Nat.{ℕ, _+_, _/_, _<_}
+use mathlib.Core.Path.{_≡_, refl}
+use mathlib.Core.List.{List}
+use Prim.Native.Nat.{ℕ, _/_}
 use native.Mathlib.Omega.{arith}
-use lib.ListN.{length, replicate}
+use lib.ListN.{length}
 use Rattle.tag.specs.Stores.{Command}
 use Rattle.tag.specs.Cuts.{Ready}
 use Rattle.tag.proofs.Blocks.{block-of}

@@ -1,22 +1,22 @@
 -- Refusal 11 comes exactly if no image that the requirements admit reads as the message, for both types.
 -- Assumes nothing.
-use mathlib.Core.Path.{_≡_, refl, sym, ap, _∙_, subst}
+use mathlib.Core.Path.{_≡_, refl, sym, ap, _∙_}
 use mathlib.Core.Bool.{Bool, true, false, not, _||_}
 use mathlib.Core.Logic.{_↔_, ⊎-elim}
-use mathlib.Core.List.{List, [], _∷_, _++_}
-use Prim.Native.Nat.{ℕ, _+_, _-_, _*_, _/_, _%_, _<_, _≤_}
+use mathlib.Core.List.{List, [], _∷_}
+use Prim.Native.Nat.{ℕ, _+_, _-_, _*_, _/_, _<_, _≤_}
 use native.Mathlib.Omega.{arith}
 use borrow.Author.Tests.{ne-eqb, eqb-true, leb-true, le-leb, eq-eqb}
 use lib.Dec.{leb, eqb}
 use lib.ListN.{length, replicate}
 use Rattle.tag.specs.Bytes.{byte, has, overlay, isSet}
 use Rattle.tag.specs.Refusals.{too-long}
-use Rattle.tag.specs.Reading.{reads, holds}
+use Rattle.tag.specs.Reading.{holds}
 use Rattle.tag.specs.Plan.{newImage}
 use Rattle.tag.specs.TagType.{TagType, held, writing, unwritten, written, planned, checksOf, writable}
-use Rattle.tag.specs.Checks.{Checked, fine, fault, firstOf}
+use Rattle.tag.specs.Checks.{fault, firstOf}
 use Rattle.tag.specs.Cuts.{Ready}
-use Rattle.tag.proofs.Logic.{nope, or-l, or-r, or-cases}
+use Rattle.tag.proofs.Logic.{nope, or-l, or-cases}
 use Rattle.tag.proofs.Addresses.{above-length}
 use Rattle.tag.proofs.Laws.{ready-written, ready-reads}
 use Rattle.tlv.specs.Walk.{found, messageTlv}
@@ -30,9 +30,9 @@ use Rattle.type2.specs.Codec.{decode, commandOf, encoded}
 use Rattle.type2.specs.Type2.{type2}
 use Rattle.type2.proofs.Memory.{memory-laws}
 use Rattle.type3.specs.Attributes.{steadySum, nmaxbOf}
-use Rattle.type3.specs.Update.{fits, blocksFor, addresses, lnSum, valuesBy, body, values, plan}
+use Rattle.type3.specs.Update.{fits, blocksFor, addresses, lnSum, values, plan}
 use Rattle.type3.specs.Type3.{type3}
-use Rattle.type3.proofs.Message.{Agrees, steady, bounds, reads-passes}
+use Rattle.type3.proofs.Message.{Agrees, bounds, reads-passes}
 use Rattle.type3.proofs.Update as update3
 use Rattle.demands.specs.Demand2.{Octets, Asked, Alike2, TooLong2, Alike3, TooLong3}
 use Rattle.demands.proofs.Octets.{octets-byte, octets-overlay, octets-append, octets-zeros}

@@ -9,7 +9,7 @@ use native.Mathlib.Omega.{arith}
 use borrow.Author.Tests.{ltb-true}
 use lib.Dec.{ltb}
 use lib.ListN.{replicate}
-use Rattle.tag.specs.Reading.{empty, message, Report, reads}
+use Rattle.tag.specs.Reading.{empty, message}
 use Rattle.tag.specs.Cuts.{Ready}
 use Rattle.tag.proofs.Logic.{and-l, and-r}
 use Rattle.tlv.specs.Areas.{without}

@@ -12,7 +12,7 @@ use Rattle.tag.specs.Plan.{list}
 use Rattle.tag.specs.TagType.{TagType, writing, written, listBytes, pieces, commands}
 use Rattle.tag.specs.Judge.{Task, taskOf, accepted, refused, judged}
 use Rattle.tag.specs.Model.{model, unstored, stored, imageAfter}
-use Rattle.tag.specs.Cuts.{Ready, Three, First}
+use Rattle.tag.specs.Cuts.{Three, First}
 
 -- protected and well formed go by the tag handed in and the new message
 abbrev pub task : TagType → List ℕ → List ℕ → Task

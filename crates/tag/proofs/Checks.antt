@@ -3,7 +3,7 @@
 use mathlib.Core.Path.{_≡_, refl}
 use mathlib.Core.Bool.{Bool, true, false}
 use mathlib.Core.List.{List, [], _∷_}
-use Rattle.tag.specs.Checks.{Check, Checked, fine, fault, firstOf}
+use Rattle.tag.specs.Checks.{Check, fine, fault, firstOf}
 use Rattle.tag.proofs.Logic.{nope}
 
 abbrev pub AllPass : List Check → Type 0

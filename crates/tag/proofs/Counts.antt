@@ -8,20 +8,12 @@ use Prim.Native.Nat.{ℕ, zero, suc, _+_, _-_, _/_, _<_, _≤_}
 use native.Mathlib.Omega.{arith}
 use borrow.Author.Tests.{eq-eqb, ne-eqb}
 use lib.Dec.{eqb}
-use lib.ListN.{length, drop, length-append}
-use Rattle.tag.specs.Stores.{Store}
-use Rattle.tag.specs.Plan.{Plan, newImage, blockOf, touches, between, picks, chunk, middle, list, counted, touched}
+use lib.ListN.{length, length-append}
+use Rattle.tag.specs.Plan.{Plan, newImage, blockOf, touches, between, picks, middle, list, counted, touched}
+use Rattle.tag.proofs.Picks.{length-picks}
+use Rattle.tag.proofs.Chunks.{length-chunk}
 
 module _ (t : ℕ → Bool) where
-  pub length-picks : (z : ℕ) (n : List ℕ) (b k : ℕ) → length (picks t z n b k) ≡ counted t b k
-  unfolding picks
-  length-picks z n b zero = refl
-  length-picks z n b (suc k) = go (t b) refl (length-picks z n (suc b) k)
-    where
-      go : (c : Bool) → t b ≡ c → length (picks t z n (suc b) k) ≡ counted t (suc b) k → length (picks t z n b (suc k)) ≡ counted t b (suc k)
-      go true q ih = rw (q, picks) (omega arith)
-      go false q ih = rw (q, picks) (omega arith)
-
   counted-none : (k b : ℕ) → ((c : ℕ) → b ≤ c → c < b + k → t c ≡ false) → counted t b k ≡ 0
   counted-none zero b h = refl
   counted-none (suc k) b h =
@@ -42,6 +34,24 @@ module _ (t : ℕ → Bool) where
       let f : b + suc k ≡ suc b + k = omega arith in
       rw (e, f) (omega (arith, counted-add k l (suc b)))
 
+  -- one block more, as a loop over rising blocks meets them
+  counted-next : (k : ℕ) → counted t 0 (k + 1) ≡ counted t 0 k + cond (t k) 1 0
+  counted-next k =
+      let e : 0 + k ≡ k = omega arith in
+      counted-add k 1 0 ∙ rw e (omega arith)
+
+  pub counted-yes : (k : ℕ) → t k ≡ true → counted t 0 (k + 1) ≡ counted t 0 k + 1
+  counted-yes k q = counted-next k ∙ rw q
+
+  pub counted-no : (k : ℕ) → t k ≡ false → counted t 0 (k + 1) ≡ counted t 0 k
+  counted-no k q = counted-next k ∙ rw q (omega arith)
+
+  -- more blocks, more of them picked
+  pub counted-more : (k n : ℕ) → k ≤ n → counted t 0 k ≤ counted t 0 n
+  counted-more k n l =
+      let e : k + (n - k) ≡ n = omega arith in
+      omega (arith, ap (counted t 0) e, counted-add k (n - k) 0)
+
   -- a test that is true on the k blocks from a on, and on no other, of N blocks in all
   pub counted-run : (a k N : ℕ) → a + k ≤ N
       → ((c : ℕ) → c < a → t c ≡ false) → ((c : ℕ) → a ≤ c → c < a + k → t c ≡ true) → ((c : ℕ) → a + k ≤ c → c < N → t c ≡ false)
@@ -56,10 +66,6 @@ module _ (t : ℕ → Bool) where
       ∙ counted-add a (k + (N - (a + k))) 0
       ∙ rw (f, counted-add k (N - (a + k)) a) (omega arith)
 
-length-chunk : (w c : ℕ) (ss : List Store) → length (chunk w c ss) ≡ c
-length-chunk w zero ss = refl
-length-chunk w (suc c) ss = ap suc (length-chunk w c (drop w ss))
-
 pub length-list : (p : Plan) (i : List ℕ)
     → length (list p i) ≡ 2 + (counted (between p) 0 (length i / p .size) + (p .width - 1)) / p .width
 length-list p i =
@@ -69,9 +75,13 @@ length-list p i =
     = length-chunk (p .width) ((length chosen + (p .width - 1)) / p .width) chosen ∙ ap (λ k. (k + (p .width - 1)) / p .width) e in
     omega (arith, f, length-append (middle p i) ((blockOf (p .size) (newImage p i) (p .guard) ∷ []) ∷ []))
 
-counted-same : (t u : ℕ → Bool) (k b : ℕ) → ((c : ℕ) → b ≤ c → c < b + k → t c ≡ u c) → counted t b k ≡ counted u b k
-counted-same t u zero b h = refl
-counted-same t u (suc k) b h = rw (h b (omega arith) (omega arith)) (ap (λ n. cond (u b) 1 0 + n) (counted-same t u k (suc b) (λ c l m. h c (omega arith) (omega arith))))
+counted-like : (t u : ℕ → Bool) (k b : ℕ) → ((c : ℕ) → b ≤ c → c < b + k → t c ≡ u c) → counted t b k ≡ counted u b k
+counted-like t u zero b h = refl
+counted-like t u (suc k) b h = rw (h b (omega arith) (omega arith)) (ap (λ n. cond (u b) 1 0 + n) (counted-like t u k (suc b) (λ c l m. h c (omega arith) (omega arith))))
+
+-- tests that agree on the first k blocks
+pub counted-same : (t u : ℕ → Bool) (k : ℕ) → ((c : ℕ) → c < k → t c ≡ u c) → counted t 0 k ≡ counted u 0 k
+counted-same t u k h = counted-like t u k 0 (λ c l m. h c (omega arith))
 
 -- with one block more that passes the test
 counted-but : (t : ℕ → Bool) (g N : ℕ) → g < N → t g ≡ true → counted t 0 N ≡ 1 + counted (λ b. not (eqb b g) && t b) 0 N
@@ -81,8 +91,8 @@ counted-but t g N l q =
     let f : 0 + g ≡ g = omega arith in
     let other : (c : ℕ) → (c ≡ g → ⊥) → t c ≡ u c = λ c n. rw (ne-eqb c g n) in
     let here : u g ≡ false = rw (eq-eqb g g refl) in
-    let low : counted t 0 g ≡ counted u 0 g = counted-same t u g 0 (λ c a b. other c (omega arith)) in
-    let high : counted t (suc g) (N - suc g) ≡ counted u (suc g) (N - suc g) = counted-same t u (N - suc g) (suc g) (λ c a b. other c (omega arith)) in
+    let low : counted t 0 g ≡ counted u 0 g = counted-like t u g 0 (λ c a b. other c (omega arith)) in
+    let high : counted t (suc g) (N - suc g) ≡ counted u (suc g) (N - suc g) = counted-like t u (N - suc g) (suc g) (λ c a b. other c (omega arith)) in
     let x : counted t 0 N ≡ counted t 0 g + (1 + counted t (suc g) (N - suc g))
     = ap (counted t 0) e ∙ counted-add t g (suc (N - suc g)) 0 ∙ rw (f, q) in
     let y : counted u 0 N ≡ counted u 0 g + (0 + counted u (suc g) (N - suc g))

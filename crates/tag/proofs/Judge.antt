@@ -2,8 +2,8 @@
 -- refusal is the first fault with its position. Once for every type of tag.
 -- Assumes nothing.
 use mathlib.Core.Path.{_≡_, refl, sym, ap, _∙_}
-use mathlib.Core.Bool.{Bool, true, false, not, _&&_, _||_, false≢true}
-use mathlib.Core.Logic.{_⊎_, inl, inr, _↔_, ⊎-elim}
+use mathlib.Core.Bool.{Bool, true, false, not, _||_, false≢true}
+use mathlib.Core.Logic.{_⊎_, _↔_, ⊎-elim}
 use mathlib.Core.List.{List, [], _∷_}
 use Prim.Native.Nat.{ℕ, zero, suc, _+_, _<_, _≤_, zero-le, suc-le-suc}
 use native.Mathlib.Nat.{add-zero, le-of-suc-le-suc, not-suc-le-zero}
@@ -15,7 +15,7 @@ use lib.ListN.{length, getD}
 use Rattle.tag.specs.Bytes.{byte, run, same}
 use Rattle.tag.specs.Reading.{Held, broken, nothing, holds}
 use Rattle.tag.specs.Stores.{Store, Command, ill, stores, puts, done, states, cut}
-use Rattle.tag.specs.Judge.{Verdict, accepted, refused, Task, holdsAs, reads, equalAt, keeps, every, fault, judge}
+use Rattle.tag.specs.Judge.{accepted, refused, Task, holdsAs, reads, equalAt, keeps, every, fault, judge}
 use Rattle.tag.specs.Cuts.{Safe, as-none, as-new, as-old, Kept, Three, Left, KeptBy, SafeBy, Fault, none, form, change, reading, Faultless, First, of-command, of-list}
 use Rattle.tag.proofs.Logic.{and-l, and-r, and-both, or-cases, or-l, or-r, same-eq, same-refl, true-false, nope}
 

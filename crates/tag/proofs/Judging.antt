@@ -1,19 +1,16 @@
 -- The judge along a list, step by step, for whoever computes it: a command's fault by the tests made of it, and the judge by
 -- the first command's fault.
 -- Assumes nothing.
-use mathlib.Core.Path.{_≡_, refl, sym, ap, _∙_}
-use mathlib.Core.Bool.{Bool, true, false, not, _&&_, _||_}
+use mathlib.Core.Path.{_≡_, refl}
+use mathlib.Core.Bool.{Bool, true, false, not, _||_}
 use mathlib.Core.List.{List, [], _∷_}
 use Prim.Native.Nat.{ℕ, zero, suc, _+_, _-_, _<_, _≤_}
 use native.Mathlib.Omega.{arith}
-use borrow.Author.Tests.{eq-eqb, ne-eqb}
 use lib.Dec.{eqb}
-use lib.ListN.{length}
 use Rattle.tag.specs.Bytes.{byte, run}
 use Rattle.tag.specs.Refusals.{not-well-formed, changes-protected, misreads, ends-otherwise}
-use Rattle.tag.specs.Stores.{Store, Command, ill, stores, puts, done, states}
-use Rattle.tag.specs.Judge.{Verdict, accepted, refused, Task, holdsAs, reads, equalAt, keeps, every, fault, judge}
-use Rattle.tag.proofs.Logic.{nope}
+use Rattle.tag.specs.Stores.{Store, Command, ill, stores, puts, done}
+use Rattle.tag.specs.Judge.{accepted, refused, Task, holdsAs, reads, equalAt, keeps, fault, judge}
 
 module _ (t : Task) where
   pub fault-ill : (j : List ℕ) → fault t j ill ≡ not-well-formed

@@ -1,17 +1,17 @@
 -- What each type of tag shows of itself, and no more: from these laws demand 3 follows for every type alike.
 -- Assumes nothing.
 use mathlib.Core.Path.{_≡_, refl, sym, ap, _∙_}
-use mathlib.Core.Bool.{Bool, true, false, not}
-use mathlib.Core.List.{List, [], _∷_, _++_}
+use mathlib.Core.Bool.{false}
+use mathlib.Core.List.{List, [], _++_}
 use Prim.Native.Nat.{ℕ, _<_}
 use borrow.Author.Tests.{ne-eqb, eqb-false, not-true}
 use lib.Dec.{eqb}
 use lib.ListN.{length}
-use Rattle.tag.specs.Checks.{Checked, fine, fault, firstOf}
+use Rattle.tag.specs.Checks.{Checked, fine, fault}
 use Rattle.tag.specs.Reading.{What, message, empty, being-written, Report, Reading, unreadable, reads, broken, nothing, holds, part}
 use Rattle.tag.specs.Stores.{Store, stores}
 use Rattle.tag.specs.Plan.{Plan, list}
-use Rattle.tag.specs.TagType.{TagType, held, Writing, unwritten, written, checksOf, writable, planned, writing}
+use Rattle.tag.specs.TagType.{TagType, held, unwritten, written, checksOf, writable, planned, writing}
 use Rattle.tag.specs.Judge.{taskOf}
 use Rattle.tag.specs.Cuts.{Ready, Kept}
 use Rattle.tag.proofs.Logic.{nope}

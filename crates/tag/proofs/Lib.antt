@@ -11,9 +11,13 @@ pub mod Guarded
 pub mod Blocks
 pub mod Writes
 pub mod Sending
+pub mod Picks
+pub mod Chunks
 pub mod Counts
 pub mod Pieces
 pub mod Laws
 pub mod Same
 pub mod Storing
+pub mod Filling
+pub mod Runs
 pub mod Showing

@@ -1,12 +1,12 @@
 -- The commands of a list can be sent: each stores whole blocks, of numbers that its type may name, rising, and no more of them
 -- than a command may store. From this a type shows that its commands are well formed.
 -- Assumes nothing.
-use mathlib.Core.Path.{_≡_, refl, sym, ap, _∙_}
-use mathlib.Core.Bool.{Bool, true, false, not, _&&_, _||_, true≢false, false≢true}
-use mathlib.Core.Logic.{_⊎_, inl, inr, ⊎-elim}
-use mathlib.Core.List.{List, [], _∷_, _++_, map}
+use mathlib.Core.Path.{_≡_, refl}
+use mathlib.Core.Bool.{Bool, true, false, not, false≢true}
+use mathlib.Core.Logic.{_⊎_, ⊎-elim}
+use mathlib.Core.List.{List, [], _∷_, map}
 use Prim.Native.Nat.{ℕ, zero, suc, _+_, _-_, _*_, _/_, _%_, _<_, _≤_}
-use native.Mathlib.Nat.{div-add-mod, mod-lt, mul-le-mul-left, mul-div-cancel-left}
+use native.Mathlib.Nat.{div-add-mod, mul-le-mul-left, mul-div-cancel-left}
 use native.Mathlib.Omega.{arith}
 use borrow.Author.Tests.{eqb-false, not-true}
 use lib.Dec.{eqb}
@@ -15,9 +15,10 @@ use lib.Seq.{length-take-le}
 use Rattle.tag.specs.Stores.{Store}
 use Rattle.tag.specs.Plan.{Plan, newImage, blockOf, inBlock, touches, between, picks, chunk, chunks, middle, list}
 use Rattle.tag.proofs.Logic.{and-l, and-r, or-cases}
-use Rattle.tag.proofs.Each.{Each, each-append, each-both, each-of}
+use Rattle.tag.proofs.Each.{Each, each-append, each-both}
 use Rattle.tag.proofs.Images.{length-overlay}
 use Rattle.tag.proofs.Addresses.{Above, Rising, above-less, above-hi, above-rising, above-take, above-drop}
+use Rattle.tag.proofs.Runs.{map-take, map-drop}
 use Rattle.tag.proofs.Blocks.{chunk-each}
 
 -- ---- whole blocks
@@ -83,16 +84,6 @@ rising-drop hi zero us h = h
 rising-drop hi (suc k) [] h = tt
 rising-drop hi (suc k) (x ∷ us) h = above-rising hi x (drop k us) (above-drop hi x k us h)
 
-map-take : (f : Store → ℕ) (k : ℕ) (ss : List Store) → map f (take k ss) ≡ take k (map f ss)
-map-take f zero ss = refl
-map-take f (suc k) [] = refl
-map-take f (suc k) (s ∷ ss) = ap (λ r. f s ∷ r) (map-take f k ss)
-
-map-drop : (f : Store → ℕ) (k : ℕ) (ss : List Store) → map f (drop k ss) ≡ drop k (map f ss)
-map-drop f zero ss = refl
-map-drop f (suc k) [] = refl
-map-drop f (suc k) (s ∷ ss) = map-drop f k ss
-
 -- ---- commands
 
 -- a command that stores one to w blocks, rising below hi
@@ -105,9 +96,9 @@ chunk-sized z w hi (suc c) ss p l r = (
   (
     rw length-take (omega arith),
     rw length-take (omega arith),
-    rw map-take (rising-take hi w (map (number z) ss) r),
+    rw (← map-take (number z) w ss) (rising-take hi w (map (number z) ss) r),
   ),
-  chunk-sized z w hi c (drop w ss) p (rw length-drop (omega arith)) (rw map-drop (rising-drop hi w (map (number z) ss) r)),
+  chunk-sized z w hi c (drop w ss) p (rw length-drop (omega arith)) (rw (← map-drop (number z) w ss) (rising-drop hi w (map (number z) ss) r)),
 )
 
 pub chunks-sized : (z w hi : ℕ) (ss : List Store) → 0 < w → Rising hi (map (number z) ss) → Each (Sized z w hi) (chunks w ss)

@@ -6,8 +6,8 @@ use Prim.Native.Nat.{ℕ, suc, _+_, _<_, _≤_}
 use native.Mathlib.Numerals.{add-one}
 use native.Mathlib.Nat.{add-zero}
 use native.Mathlib.Omega.{arith}
-use lib.ListN.{length, take, drop, set, length-append, length-drop}
-use lib.Seq.{sets, sets-eq, take-suc, take-at, drop-at, drop-drop, length-take-le}
+use lib.ListN.{length, take, set}
+use lib.Seq.{sets, sets-eq, take-suc, length-take-le}
 use Rattle.tag.specs.Bytes.{byte, overwrite}
 
 pub sets-append : {A : Type 0} (xs ys l : List A) (i : ℕ) → sets l i (xs ++ ys) ≡ sets (sets l i xs) (i + length xs) ys
@@ -29,12 +29,3 @@ sets-front y t h = sets-eq y t 0 (omega arith) ∙ rw zero-add
   where
     zero-add : 0 + length y ≡ length y
     zero-add = omega arith
-
--- bytes behind those that the front has already
-pub sets-behind : (p y t : List ℕ) (at : ℕ) → length p ≡ at → at + length y ≤ length t
-    → sets (overwrite p t) at y ≡ overwrite (p ++ y) t
-sets-behind p y t at e h =
-    let l : length (overwrite p t) ≡ length t = omega (arith, length-append p (drop (length p) t), length-drop (length p) t) in
-    let n : length (p ++ y) ≡ at + length y = omega (arith, length-append p y) in
-    sets-eq y (overwrite p t) at (omega arith)
-    ∙ rw (take-at p (drop (length p) t) at e, n, ← drop-drop (length y) at (overwrite p t), drop-at p (drop (length p) t) at e, e, drop-drop (length y) at t)

@@ -1,21 +1,21 @@
 -- Writing by blocks, for every type of tag: from what a type shows of its plan, the list is accepted and ends in the new image.
 -- Assumes nothing.
 use mathlib.Core.Path.{_≡_, refl, sym, ap, _∙_}
-use mathlib.Core.Bool.{Bool, true, false, not, _&&_, _||_, true≢false, false≢true}
+use mathlib.Core.Bool.{Bool, true, false, false≢true}
 use mathlib.Core.Logic.{_⊎_, inl, inr, ⊎-elim}
-use mathlib.Core.List.{List, [], _∷_, _++_, map, map-append}
-use Prim.Native.Nat.{ℕ, suc, _+_, _*_, _/_, _<_, _≤_}
+use mathlib.Core.List.{List, [], _∷_, map, map-append}
+use Prim.Native.Nat.{ℕ, suc, _*_, _/_, _<_}
 use native.Mathlib.Omega.{arith}
 use native.Mathlib.Decide.{ℕ-discrete}
 use borrow.Author.Tests.{eqb-true, eq-eqb, ne-eqb, not-true}
 use lib.Dec.{eqb}
 use lib.ListN.{length, length-append, length-map}
-use Rattle.tag.specs.Bytes.{byte, overlay, isSet}
+use Rattle.tag.specs.Bytes.{byte, isSet}
 use Rattle.tag.specs.Reading.{broken, nothing, holds}
-use Rattle.tag.specs.Stores.{Store, Command, stores, cut}
+use Rattle.tag.specs.Stores.{Command, stores, cut}
 use Rattle.tag.specs.Plan.{Plan, newImage, blockOf, inBlock, touches, between, picks, chunks, middle, list}
 use Rattle.tag.specs.TagType.{TagType, held}
-use Rattle.tag.specs.Judge.{Task, taskOf, accepted, judge}
+use Rattle.tag.specs.Judge.{taskOf, accepted, judge}
 use Rattle.tag.specs.Cuts.{Kept}
 use Rattle.tag.proofs.Logic.{and-l, or-l, or-r, or-cases, true-false}
 use Rattle.tag.proofs.Images.{length-overlay, overlay-out}

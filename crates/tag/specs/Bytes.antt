@@ -1,7 +1,7 @@
 -- A tag's memory image is the list of its bytes. An address is a place in that list, counted from 0.
 -- Numbers are not bounded here: that a byte is below 256 is a fact about the code's values, and no rule needs it.
 -- Assumes nothing.
-use mathlib.Core.Bool.{Bool, true, false, not, _&&_, _||_}
+use mathlib.Core.Bool.{Bool, true, false, _&&_, _||_}
 use mathlib.Core.List.{List, [], _∷_, _++_}
 use Prim.Native.Nat.{ℕ, zero, suc}
 use lib.Dec.{eqb}

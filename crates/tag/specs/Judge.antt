@@ -1,7 +1,6 @@
 -- The judge of command lists made by anyone, for every type of tag. After each command it tests 20, 21 and 22, in this
 -- order; the first command at fault is reported, and 23 where the list ends otherwise than as the message.
 -- Assumes nothing.
-use mathlib.Core.Path.{_≡_}
 use mathlib.Core.Bool.{Bool, true, false, not, _&&_, _||_}
 use mathlib.Core.List.{List, [], _∷_}
 use Prim.Native.Nat.{ℕ, zero, suc}
@@ -10,7 +9,7 @@ use lib.ListN.{length}
 use Rattle.tag.specs.Bytes.{byte, run, same}
 use Rattle.tag.specs.Refusals.{not-well-formed, changes-protected, misreads, ends-otherwise}
 use Rattle.tag.specs.Reading.{Held, broken, nothing, holds}
-use Rattle.tag.specs.Stores.{Store, Command, ill, stores, done, states}
+use Rattle.tag.specs.Stores.{Command, ill, stores, done, states}
 use Rattle.tag.specs.Plan.{Plan, protected}
 use Rattle.tag.specs.TagType.{TagType, held, Writing, unwritten, written, writing, commands}
 

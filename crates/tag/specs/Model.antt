@@ -1,11 +1,11 @@
 -- The tag as a model that takes one command a call: reading's refusals but 13, then 20, else it stores the named blocks,
 -- protected or not. A refusal leaves the image as it is.
 -- Assumes nothing.
-use mathlib.Core.List.{List, [], _∷_}
+use mathlib.Core.List.{List}
 use Prim.Native.Nat.{ℕ}
 use Rattle.tag.specs.Refusals.{not-well-formed}
 use Rattle.tag.specs.Reading.{Reading, unreadable, reads}
-use Rattle.tag.specs.Stores.{Store, Command, ill, stores, puts}
+use Rattle.tag.specs.Stores.{Command, ill, stores, puts}
 use Rattle.tag.specs.TagType.{TagType}
 
 pub data Modelled : Type 0 where

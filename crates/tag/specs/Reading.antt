@@ -1,7 +1,7 @@
 -- What reading a tag answers, for every type of tag. A type gives a `Reading`, which has the message itself; what the
 -- caller of `read` gets (its length, and the gathering buffer) is worked out here.
 -- Assumes nothing.
-use mathlib.Core.Bool.{Bool, true, false, _&&_, cond}
+use mathlib.Core.Bool.{Bool, _&&_, cond}
 use mathlib.Core.List.{List, []}
 use Prim.Native.Nat.{ℕ, _+_}
 use lib.Dec.{leb, ltb}

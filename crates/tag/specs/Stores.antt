@@ -1,7 +1,6 @@
 -- Commands and what they store. A command stores whole blocks; a store says from which address on, so that nothing here
 -- depends on the size of a block: the type of tag turns a block's number into its first address.
 -- Assumes nothing.
-use mathlib.Core.Path.{_≡_}
 use mathlib.Core.List.{List, [], _∷_}
 use Prim.Native.Nat.{ℕ, zero, suc}
 use lib.Seq.{sets}

@@ -10,7 +10,7 @@ use Rattle.tag.specs.Bytes.{overwrite}
 use Rattle.tag.specs.Refusals.{nothing-to-write, not-writable, too-long, short-buffer}
 use Rattle.tag.specs.Checks.{Check, check, Checked, fine, fault, firstOf}
 use Rattle.tag.specs.Reading.{Report, Reading, unreadable, reads, Held, heldOf}
-use Rattle.tag.specs.Stores.{Store, Command, ill, stores}
+use Rattle.tag.specs.Stores.{Store, Command}
 use Rattle.tag.specs.Plan.{Plan, list}
 
 -- What the caller states besides, as the manufacturer number of Type 3, is fixed before a record is made: it is the same in

@@ -5,7 +5,7 @@ use crate::Report;
 use crate::What;
 use crate::slices;
 ghost use mathlib.Core.Path.{_≡_};
-ghost use mathlib.Core.Bool.{_||_, _&&_};
+ghost use mathlib.Core.Bool.{_||_};
 ghost use Rattle.tag.specs.Bytes.{same};
 ghost use Rattle.tag.specs.Judge.{holdsAs, readsAs};
 ghost use Rattle.tag.specs.Answers.{readAs, heldBy, oldHeld, isMessage};

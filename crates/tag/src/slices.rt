@@ -12,7 +12,7 @@ ghost use Rattle.tag.specs.Reading.{part, shown};
 ghost use Rattle.tag.specs.Answers.{readAs};
 
 // `len` bytes of a slice from `start` on; the empty part where they do not lie in it.
-pub fn part<'a>(s: &'a [u8], start: usize, len: usize) -> &'a [u8]
+fn part<'a>(s: &'a [u8], start: usize, len: usize) -> &'a [u8]
     ensures { λ r. ⌜ now r ≡ part start len (now (s .entry)) ⌝ }
 {
     if s.len() < start {

@@ -1,16 +1,15 @@
 -- A refusal of a tag that has a TLV area is never 0, so that 0 can stand for none.
 -- Assumes nothing.
-use mathlib.Core.Path.{_≡_, refl}
 use mathlib.Core.Bool.{Bool, true, false, cond}
-use mathlib.Core.List.{List, [], _∷_}
+use mathlib.Core.List.{List}
 use Prim.Native.Nat.{ℕ, zero, suc, _<_}
 use native.Mathlib.Omega.{arith}
 use lib.Dec.{leb, eqb}
 use lib.ListN.{length}
-use Rattle.tag.specs.Checks.{Check, Checked, fine, fault, firstOf}
+use Rattle.tag.specs.Checks.{Checked, fine, fault, firstOf}
 use Rattle.tag.specs.Reading.{Reading, unreadable, reads}
 use Rattle.tlv.specs.Areas.{Control, Area, reserved, areaOf}
-use Rattle.tlv.specs.Walk.{Taken, none, took, takeByte, onByte, Length, bad, len, lengthOf, Passed, more, stop, passValue, Kind, null, message, terminator, other, control, kindOf, Step, on, hit, Found, lost, found, areaBy, controlValue, controlBy, passControl, stepAt, step, find, messageTlv}
+use Rattle.tlv.specs.Walk.{Taken, none, took, takeByte, onByte, Length, bad, len, lengthOf, Passed, more, stop, passValue, Kind, null, message, terminator, other, control, kindOf, Step, on, hit, Found, lost, found, areaBy, controlValue, controlBy, stepAt, step, find, messageTlv}
 use Rattle.tlv.specs.Message.{TlvTag, View, refuse, view, viewBy, viewOf, viewAfter, viewed, readingOf, reading}
 
 abbrev Passing : Passed → Type 0

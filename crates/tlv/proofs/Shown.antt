@@ -2,20 +2,19 @@
 -- the image.
 -- Assumes nothing.
 use mathlib.Core.Path.{_≡_, refl, sym, ap, _∙_, subst}
-use mathlib.Core.Bool.{Bool, true, false, not, _&&_, false≢true}
+use mathlib.Core.Bool.{Bool, true, false}
 use mathlib.Core.List.{List, [], _∷_, map}
-use Prim.Native.Nat.{ℕ, suc, _+_, _<_, _≤_}
+use Prim.Native.Nat.{ℕ, suc, _+_, _≤_}
 use native.Mathlib.Omega.{arith}
-use borrow.Author.Tests.{eqb-true, leb-true, le-leb, not-false}
+use borrow.Author.Tests.{eqb-true, le-leb, not-false}
 use lib.Dec.{leb, eqb}
 use lib.ListN.{length, take, drop, length-map}
 use Rattle.tag.specs.Bytes.{byte, run, consecutive}
 use Rattle.tag.specs.Refusals.{bad-length}
-use Rattle.tag.specs.Checks.{Checked, fine, fault, firstOf}
 use Rattle.tag.specs.Reading.{What, message, Report, Reading, unreadable, reads, part}
 use Rattle.tag.proofs.Logic.{and-l, and-r, nope}
 use Rattle.tag.proofs.Addresses.{Above, above-length, above-take, map-run}
-use Rattle.tlv.specs.Walk.{Length, bad, len, lengthOf, Found, lost, found, messageTlv}
+use Rattle.tlv.specs.Walk.{Length, bad, len, lengthOf}
 use Rattle.tlv.specs.Message.{TlvTag, View, refuse, view, viewBy, viewed, reportOf, reading}
 use Rattle.tlv.proofs.Locality.{length-above}
 use Rattle.tlv.proofs.Tag.{TlvLaws, Placed, view-placed, beyond}

@@ -1,6 +1,6 @@
 -- The skip table against the list of usable addresses: one address passed, one taken, and an area marked.
 -- Assumes nothing.
-use mathlib.Core.Path.{_≡_, refl, sym, ap, _∙_}
+use mathlib.Core.Path.{_≡_, refl, ap, _∙_}
 use mathlib.Core.Bool.{Bool, true, false, not, _&&_}
 use mathlib.Core.List.{List, [], _∷_}
 use Prim.Native.Nat.{ℕ, zero, suc, _+_, _-_, _<_, _≤_}
@@ -106,7 +106,7 @@ unskipped-past t a k (suc n) d l = go k (eqb (byte t a) 0) refl l (λ j m. unski
 
     go : (k : ℕ) (b : Bool) → eqb (byte t a) 0 ≡ b → k < length (unskipped t a (suc n))
         → ((j : ℕ) → j < length (unskipped t (suc a) n)
-            → unskipped t (getD (unskipped t (suc a) n) j d + 1) (suc a + n - (getD (unskipped t (suc a) n) j d + 1)) ≡ drop (suc j) (unskipped t (suc a) n))
+        → unskipped t (getD (unskipped t (suc a) n) j d + 1) (suc a + n - (getD (unskipped t (suc a) n) j d + 1)) ≡ drop (suc j) (unskipped t (suc a) n))
         → unskipped t (getD (unskipped t a (suc n)) k d + 1) (a + suc n - (getD (unskipped t a (suc n)) k d + 1)) ≡ drop (suc k) (unskipped t a (suc n))
     go k false q m ih = rw (q, unskipped) (rw e at (ih k (rw (q, unskipped) at m)))
     go zero true q m ih =

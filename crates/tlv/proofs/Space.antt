@@ -10,7 +10,7 @@ use Rattle.tag.specs.Stores.{Store, Command}
 use Rattle.tag.specs.TagType.{Writing, unwritten, written, writing, planned}
 use Rattle.tag.specs.Refusals.{nothing-to-write, not-writable, too-long}
 use Rattle.tag.specs.Checks.{check, Checked, firstOf}
-use Rattle.tlv.specs.Message.{TlvTag, View, refuse, view, viewed, reportOf, reading}
+use Rattle.tlv.specs.Message.{TlvTag, View, refuse, view, viewed, reading}
 use Rattle.tlv.specs.Update.{usable, fitsIn, planBy}
 use Rattle.tlv.specs.Space.{Space, no-space, space, spaceOf}
 use Rattle.tlv.proofs.Writes.{tagOf, report-writable}

@@ -1,6 +1,6 @@
 -- What the code's steps found, as the definitions have it.
 -- Assumes nothing.
-use mathlib.Core.Path.{_≡_, refl, sym, ap, _∙_, subst}
+use mathlib.Core.Path.{_≡_, sym, ap, _∙_, subst}
 use mathlib.Core.Bool.{Bool, true, false, cond}
 use mathlib.Core.List.{List}
 use Prim.Native.Nat.{ℕ, _<_, _≤_}
@@ -14,8 +14,8 @@ use Rattle.tlv.specs.declared.length.Field.the-variants as field
 use Rattle.tlv.specs.declared.length.Passed as code-passed
 use Rattle.tlv.specs.declared.length.Passed.the-variants as passed
 use Rattle.tlv.specs.Passing.{FieldPlaced, Moved, PassedWithin, PassedPlaced, Skipped}
-use Rattle.tlv.specs.Walk.{Taken, none, took, takeByte, onByte}
-use Rattle.tlv.specs.Views.{ahead, takenAs, TakenPlaced, Placed, Onward}
+use Rattle.tlv.specs.Walk.{Taken, takeByte, onByte}
+use Rattle.tlv.specs.Views.{ahead, takenAs, TakenPlaced, Onward}
 
 -- ---- a byte taken
 

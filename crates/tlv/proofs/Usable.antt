@@ -49,9 +49,6 @@ from-above t x a e l h = unskipped-above e t a (e - a) x l (omega arith) (omega 
 pub from-rising : (t : List ℕ) (a e : ℕ) → a ≤ e → Rising e (from t a e)
 from-rising t a e h = unskipped-rising e t a (e - a) (omega arith)
 
-pub ahead-above : (t : List ℕ) (w : Walk) (x : ℕ) → x < w .at .0 → w .at .0 ≤ w .end .0 → Above (w .end .0) x (ahead t w)
-ahead-above t w x l h = from-above t x (w .at .0) (w .end .0) l h
-
 pub ahead-rising : (t : List ℕ) (w : Walk) → w .at .0 ≤ w .end .0 → Rising (w .end .0) (ahead t w)
 ahead-rising t w h = from-rising t (w .at .0) (w .end .0) h
 

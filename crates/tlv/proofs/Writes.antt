@@ -1,28 +1,27 @@
 -- Tags with a TLV area as types of tag: whatever their commands look like, the plan is sound, and protected bytes fix it.
 -- Assumes nothing.
 use mathlib.Core.Path.{_≡_, refl, sym, ap, _∙_}
-use mathlib.Core.Bool.{Bool, true, false, not, true≢false}
+use mathlib.Core.Bool.{Bool, true≢false}
 use mathlib.Core.List.{List, [], _∷_}
 use Prim.Native.Nat.{ℕ, _*_, _/_, _<_, _≤_}
 use native.Mathlib.Nat.{div-lt-iff-lt-mul}
 use native.Mathlib.Omega.{arith}
 use lib.ListN.{length, length-set}
 use lib.Seq.{getD-set-same, getD-set-other}
-use Rattle.tag.specs.Bytes.{byte, overlay, isSet}
-use Rattle.tag.specs.Reading.{Report, Reading, unreadable, reads, broken, nothing}
+use Rattle.tag.specs.Bytes.{byte, overlay}
+use Rattle.tag.specs.Reading.{Report, unreadable, reads, nothing}
 use Rattle.tag.specs.Stores.{Store, Command}
-use Rattle.tag.specs.Plan.{Plan, inBlock}
+use Rattle.tag.specs.Plan.{inBlock}
 use Rattle.tag.specs.TagType.{TagType}
-use Rattle.tag.specs.Judge.{taskOf}
-use Rattle.tag.specs.Cuts.{Ready, Kept}
+use Rattle.tag.specs.Cuts.{Ready}
 use Rattle.tag.proofs.Logic.{nope, true-false}
 use Rattle.tag.proofs.Addresses.{above-unset}
 use Rattle.tag.proofs.Guarded.{Cell, shut, old, fresh, Between}
 use Rattle.tag.proofs.Blocks.{block-of}
 use Rattle.tag.proofs.Writes.{Sound}
-use Rattle.tag.proofs.Laws.{Near, ready-reads}
-use Rattle.tlv.specs.Message.{TlvTag, View, refuse, view, viewed, reportOf, readingOf, reading}
-use Rattle.tlv.specs.Update.{usable, fitsIn, content, lengthAt, planBy, fits, plan}
+use Rattle.tag.proofs.Laws.{Near}
+use Rattle.tlv.specs.Message.{TlvTag, View, refuse, view, viewed, reportOf, reading}
+use Rattle.tlv.specs.Update.{usable, fitsIn, content, lengthAt, fits, plan}
 use Rattle.tlv.proofs.Field.{first-set}
 use Rattle.tlv.proofs.Tag as tlv
 use Rattle.tlv.proofs.Tag.{TlvLaws, Placed, view-placed, ready-of, usable-is}

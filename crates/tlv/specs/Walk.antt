@@ -2,7 +2,7 @@
 -- taking a byte takes the first of them, a control TLV takes out those that its area covers, and a TLV that is passed over
 -- takes away those of its length and value. So an area counts from the byte after its TLV, in the middle of a length too.
 -- Assumes nothing.
-use mathlib.Core.Bool.{Bool, true, false, cond}
+use mathlib.Core.Bool.{Bool, cond}
 use mathlib.Core.List.{List, [], _∷_}
 use Prim.Native.Nat.{ℕ, zero, suc, _+_, _*_}
 use lib.Dec.{leb, eqb}

@@ -19,7 +19,7 @@ pub struct Area {
 }
 
 // Whether a nibble of the value's last byte is reserved.
-pub fn is_reserved(kind: Control, last: u8) -> bool
+pub(crate) fn is_reserved(kind: Control, last: u8) -> bool
     ensures { λ r. ⌜ r ≡ reserved (controlAs kind) last ⌝ }
 {
     if last % 16 == 0 {
@@ -50,7 +50,7 @@ fn area_size(kind: Control, size: u8) -> usize
 }
 
 // The area of a value's three bytes.
-pub fn area_of(kind: Control, place: u8, size: u8, last: u8) -> Area
+pub(crate) fn area_of(kind: Control, place: u8, size: u8, last: u8) -> Area
     ensures is { λ r. ⌜ areaAs r ≡ areaOf (controlAs kind) place size last ⌝ }
     ensures small { λ r. ⌜ SmallArea r ⌝ }
 {

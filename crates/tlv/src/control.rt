@@ -33,7 +33,7 @@ fn earlier(a: Address, b: Address) -> Address
 impl Walk {
     // The addresses of the area that are still to come are skipped from here on. What the area has past the data area's end
     // is cut off first, so that its end goes into the table.
-    pub fn skip_area(self, area: Area, table: &mut [u16]) -> Walk
+    pub(crate) fn skip_area(self, area: Area, table: &mut [u16]) -> Walk
         requires { ⌜ Skips (now table) self area ⌝ }
         ensures is { λ r. ⌜ ahead (now (table .exit)) r ≡ without (areaAs area) (ahead (now (table .entry)) self) ⌝ }
         ensures same { λ r. ⌜ Skipped (now (table .entry)) (now (table .exit)) self r ⌝ }
@@ -87,7 +87,7 @@ impl Walk {
     }
 
     // A control TLV, after its type byte.
-    pub fn pass_control(self, kind: Control, image: &[u8], table: &mut [u16]) -> Passed
+    pub(crate) fn pass_control(self, kind: Control, image: &[u8], table: &mut [u16]) -> Passed
         requires { ⌜ Placed (now image) (now table) self ⌝ }
         ensures is { λ r. ⌜ passedAs (now (table .exit)) r ≡ passControl anyArea (controlAs kind) (now (image .entry)) (ahead (now (table .entry)) self) ⌝ }
         ensures placed { λ r. ⌜ PassedPlaced (now (image .entry)) (now (table .exit)) self r ⌝ }

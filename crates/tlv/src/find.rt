@@ -61,7 +61,7 @@ impl Walk {
     }
 
     // The next TLV passed, unless it is the message TLV.
-    pub fn pass_tlv(self, image: &[u8], table: &mut [u16]) -> Stepped
+    pub(crate) fn pass_tlv(self, image: &[u8], table: &mut [u16]) -> Stepped
         requires { ⌜ Placed (now image) (now table) self ⌝ }
         ensures is { λ r. ⌜ steppedAs (now (table .exit)) r ≡ step anyArea (now (image .entry)) (ahead (now (table .entry)) self) ⌝ }
         ensures placed { λ r. ⌜ SteppedPlaced (now (image .entry)) (now (table .exit)) self r ⌝ }

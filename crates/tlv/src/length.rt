@@ -65,7 +65,7 @@ impl Walk {
     }
 
     // The next `n` usable bytes passed over.
-    pub fn pass_value(self, n: usize, table: &[u16]) -> Passed
+    pub(crate) fn pass_value(self, n: usize, table: &[u16]) -> Passed
         requires { ⌜ Within (now table) self ⌝ }
         ensures is { λ r. ⌜ passedAs (now (table .entry)) r ≡ passValue (len n (ahead (now (table .entry)) self)) ⌝ }
         ensures placed { λ r. ⌜ PassedWithin self r ⌝ }

@@ -27,7 +27,7 @@ pub fn next_usable(table: &[u16], at: Address, end: Address) -> Address
 
 // How many of the addresses from `at` up to `end` are usable. Here and in `none_skipped` each turn does the same to one number
 // of 16 bits, so that a compiler can do many addresses at once.
-pub fn count_usable(table: &[u16], at: Address, end: Address) -> usize
+pub(crate) fn count_usable(table: &[u16], at: Address, end: Address) -> usize
     requires { ⌜ (at .0 ≤ end .0) × (end .0 ≤ length (now table)) × (end .0 ≤ 1024) ⌝ }
     ensures is { λ r. ⌜ r ≡ length (unskipped (now (table .entry)) (at .0) (end .0 - at .0)) ⌝ }
     ensures few { λ r. ⌜ r ≤ end .0 - at .0 ⌝ }
@@ -43,7 +43,7 @@ pub fn count_usable(table: &[u16], at: Address, end: Address) -> usize
 }
 
 // Whether every address from `at` up to `end` is usable.
-pub fn none_skipped(table: &[u16], at: Address, end: Address) -> bool
+pub(crate) fn none_skipped(table: &[u16], at: Address, end: Address) -> bool
     requires { ⌜ (at .0 ≤ end .0) × (end .0 ≤ length (now table)) ⌝ }
     ensures { λ r. ⌜ r ≡ noneSkipped (now (table .entry)) (at .0) (end .0 - at .0) ⌝ }
 {
@@ -58,7 +58,7 @@ pub fn none_skipped(table: &[u16], at: Address, end: Address) -> bool
 }
 
 // The addresses from `first` up to `stop` marked: an area that ends at `stop` covers them.
-pub fn mark(table: &mut [u16], first: Address, stop: Address)
+pub(crate) fn mark(table: &mut [u16], first: Address, stop: Address)
     requires { ⌜ (stop .0 ≤ length (now table)) × (stop .0 < 65536) ⌝ }
     ensures { λ r. ⌜ Marked (now (table .entry)) (now (table .exit)) (first .0) (stop .0) ⌝ }
 {

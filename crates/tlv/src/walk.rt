@@ -27,7 +27,7 @@ impl Walk {
     }
 
     // The next usable byte.
-    pub fn take_byte(self, image: &[u8], table: &[u16]) -> Taken
+    pub(crate) fn take_byte(self, image: &[u8], table: &[u16]) -> Taken
         requires { ⌜ Placed (now image) (now table) self ⌝ }
         ensures is { λ r. ⌜ takenAs (now (table .entry)) r ≡ takeByte (now (image .entry)) (ahead (now (table .entry)) self) ⌝ }
         ensures placed { λ r. ⌜ TakenPlaced (now (image .entry)) (now (table .entry)) self r ⌝ }

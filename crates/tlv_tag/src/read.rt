@@ -77,7 +77,7 @@ fn read_value(
 }
 
 // The message TLV, from the walk past its type byte.
-pub fn read_message(
+fn read_message(
     image: &[u8],
     gathered: &mut [u8],
     table: &[u16],

@@ -1,7 +1,7 @@
 -- The list between the guard block's two commands and with them: its length, what is answered for it, and its three parts as
 -- they are written one after the other.
 -- Assumes nothing.
-use mathlib.Core.Path.{_≡_, sym, ap, _∙_}
+use mathlib.Core.Path.{_≡_, ap, _∙_}
 use mathlib.Core.List.{List, _++_, append-assoc}
 use Prim.Native.Nat.{ℕ, _+_, _-_, _*_, _/_, _<_, _≤_}
 use native.Mathlib.Omega.{arith}
@@ -10,8 +10,8 @@ use borrow.Rule.Slice.PartMut.{putMid}
 use lib.ListN.{length, set, take, drop, length-append, length-drop, length-set}
 use Rattle.tag.specs.Bytes.{overwrite}
 use Rattle.tag.specs.TagType.{withheld, output}
+use Rattle.tag.proofs.Filling.{lay-part}
 use Rattle.type2.specs.Listing.{blockBytes, marked, markedCount, markedBytes, guardedBytes, guardedOutput, Listed}
-use Rattle.type2.proofs.Parts.{lent, grown}
 use Rattle.type2.proofs.Laying.{length-block, length-picked}
 
 module _ (i new marks : List ℕ) (first : ℕ) (h : Listed i new marks first) where
@@ -66,12 +66,12 @@ module _ (i new marks : List ℕ) (first : ℕ) (h : Listed i new marks first) w
         let long : length mid ≡ 6 * n = ap (λ k. length (markedBytes new marks k)) all ∙ length-marked ∙ omega (arith, few, ap (markedCount marks) all) in
         let k : 6 + 6 * markedCount marks b ≡ a = omega (arith, few) in
         let second : most ≡ (x ++ mid) ++ drop (6 + 6 * markedCount marks b) list
-        = lent shut mid y 6 (length shut) (6 * markedCount marks b) (omega arith) (omega arith) q ∙ grown shut x list mid 6 (6 * markedCount marks b) p length-shut in
+        = lay-part shut x list 6 p length-shut mid y (length shut) (6 * markedCount marks b) (omega arith) (omega arith) q in
         let same : length most ≡ length list
         = ap length second ∙ length-append (x ++ mid) (drop (6 + 6 * markedCount marks b) list)
         ∙ omega (arith, length-append x mid, length-drop (6 + 6 * markedCount marks b) list, length-shut, long) in
         let six : a + 6 ≡ length (guardedBytes i new marks first) = omega (arith, length-guarded, guarded-count) in
-        lent most w z a (length most) 6 (omega arith) (omega arith) s
-        ∙ grown most (x ++ mid) list w a 6 (second ∙ ap (λ d. (x ++ mid) ++ drop d list) k) (length-append x mid ∙ omega (arith, length-shut, long))
+        let laid : most ≡ (x ++ mid) ++ drop a list = second ∙ ap (λ d. (x ++ mid) ++ drop d list) k in
+        lay-part most (x ++ mid) list a laid (length-append x mid ∙ omega (arith, length-shut, long)) w z (length most) 6 (omega arith) (omega arith) s
         ∙ ap (λ bytes. bytes ++ drop (a + 6) list) (append-assoc x mid w ∙ ap (λ d. x ++ (markedBytes new marks d ++ w)) all ∙ ap (λ d. x ++ (markedBytes new marks (length i / 4) ++ blockBytes new d)) guard)
         ∙ ap (λ d. guardedBytes i new marks first ++ drop d list) six

@@ -14,12 +14,12 @@ use Rattle.tag.specs.Plan.{blockOf, picks, chunk, chunks, counted}
 use Rattle.tag.specs.TagType.{joined}
 use Rattle.tag.proofs.Each.{Each}
 use Rattle.tag.proofs.Addresses.{map-run}
-use Rattle.tag.proofs.Counts.{length-picks}
+use Rattle.tag.proofs.Filling.{lay-more}
+use Rattle.tag.proofs.Picks.{length-picks, picked, picks-next}
+use Rattle.tag.proofs.Counts.{counted-yes, counted-no}
 use Rattle.tag.proofs.Sending.{Whole, picks-whole}
 use Rattle.type2.specs.Codec.{commandBytes, encoded}
 use Rattle.type2.specs.Listing.{blockBytes, oneEach}
-use Rattle.type2.proofs.Picking.{picked, picks-next, counted-yes, counted-no}
-use Rattle.type2.proofs.Parts.{grown}
 
 -- ---- one block
 
@@ -106,5 +106,5 @@ module _ (t : ℕ → Bool) (i : List ℕ) where
           ≡ oneEach (picks t 4 i 0 (k + 1)) ++ drop (6 * counted t 0 (k + 1)) rest
       go true q =
           let n : 6 * counted t 0 (k + 1) ≡ 6 * counted t 0 k + 6 = omega (arith, counted-yes t k q) in
-          rw (q, picked-yes k q, n) (grown out (oneEach (picks t 4 i 0 k)) rest (blockBytes i k) (6 * counted t 0 k) 6 e (length-picked k h))
+          rw (q, picked-yes k q, n) (lay-more out (oneEach (picks t 4 i 0 k)) rest (6 * counted t 0 k) e (length-picked k h) (blockBytes i k) 6)
       go false q = rw (q, picked-no k q, counted-no t k q) e

@@ -5,9 +5,7 @@ pub mod Codec
 pub mod Laws
 pub mod Encoding
 pub mod Reading
-pub mod Picking
 pub mod Laying
-pub mod Parts
 pub mod Guarding
 pub mod Preparing
 pub mod Deciding

@@ -1,7 +1,7 @@
 -- The tag as a model, by the tests that the code makes: reading's refusal, and whether the command is well formed.
 -- Assumes nothing.
 use mathlib.Core.Path.{_≡_, refl, ap, _∙_}
-use mathlib.Core.Bool.{Bool, true, false, _&&_, _||_}
+use mathlib.Core.Bool.{Bool, true, false, _||_}
 use mathlib.Core.List.{List, [], _∷_}
 use Prim.Native.Nat.{ℕ, _+_, _*_, _/_}
 use native.Mathlib.Omega.{arith}
@@ -12,12 +12,12 @@ use Rattle.tag.specs.Bytes.{byte}
 use Rattle.tag.specs.Refusals.{not-well-formed}
 use Rattle.tag.specs.Checks.{check, firstOf}
 use Rattle.tag.specs.Reading.{Reading, unreadable, reads, refusalNumber}
-use Rattle.tag.specs.Stores.{Store, Command, ill, stores}
+use Rattle.tag.specs.Stores.{ill, stores}
 use Rattle.tag.specs.Model.{unstored, stored, modelBy, model}
 use Rattle.tag.specs.Version.{knownVersion}
 use Rattle.tlv.proofs.Refusals.{Checking, Numbered, numbered}
 use Rattle.type2.specs.Memory.{imageLength, containerChecks, memory}
-use Rattle.type2.specs.Codec.{wellFormed, decode, commandOf}
+use Rattle.type2.specs.Codec.{wellFormed, commandOf}
 use Rattle.type2.specs.Type2.{type2}
 use Rattle.type2.proofs.Encoding.{decode-formed, decode-ill}
 

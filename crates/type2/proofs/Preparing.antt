@@ -15,7 +15,8 @@ use Rattle.tag.specs.Bytes.{byte}
 use Rattle.tag.specs.Stores.{Store}
 use Rattle.tag.specs.Plan.{newImage, blockOf, touches, between, picks, middle, list}
 use Rattle.tag.specs.TagType.{written, joined, listBytes, fitted, writeBy}
-use Rattle.tag.proofs.Counts.{length-list}
+use Rattle.tag.proofs.Picks.{picks-same}
+use Rattle.tag.proofs.Counts.{length-list, counted-same}
 use Rattle.tlv.specs.declared.walk.Walk.{Walk}
 use Rattle.tlv.specs.Update.{content, lengthAt, planBy}
 use Rattle.tlv.specs.Views.{ahead}
@@ -25,7 +26,6 @@ use Rattle.type2.specs.Codec.{encoded}
 use Rattle.type2.specs.Type2.{type2}
 use Rattle.type2.specs.Listing.{blockBytes, oneEach, marked, markedCount, markedBytes, guardedBytes, guardedOutput}
 use Rattle.type2.specs.Writing.{Prepared}
-use Rattle.type2.proofs.Picking.{picks-same, counted-same}
 use Rattle.type2.proofs.Laying.{chunks-one, block-one}
 
 -- ---- the first length byte

@@ -1,6 +1,6 @@
 -- Type 2's write command as bytes: A2h, the block number, four bytes. The codec is told how many blocks the tag has.
 -- Assumes nothing.
-use mathlib.Core.Bool.{Bool, true, false, _&&_, cond}
+use mathlib.Core.Bool.{Bool, _&&_, cond}
 use mathlib.Core.List.{List, [], _∷_}
 use Prim.Native.Nat.{ℕ, _*_, _/_}
 use lib.Dec.{leb, ltb, eqb}

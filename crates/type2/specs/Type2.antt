@@ -1,7 +1,6 @@
 -- Type 2 as a type of tag.
 -- Assumes nothing.
-use mathlib.Core.List.{List}
-use Prim.Native.Nat.{ℕ, _/_}
+use Prim.Native.Nat.{_/_}
 use lib.ListN.{length}
 use Rattle.tag.specs.TagType.{TagType}
 use Rattle.tlv.specs.Message.{reading}

@@ -1,10 +1,12 @@
 // The codec of Type 2's write command: A2h, the block number, four bytes. It is told how many blocks the tag has.
 
 use crate::Command;
+use tag::Address;
 use tag::Block;
 use tag::CountAnswer;
 use tag::slices;
 ghost use mathlib.Core.Path.{_≡_};
+ghost use Prim.Native.Nat.{_/_};
 ghost use lib.ListN.{length, drop};
 ghost use Rattle.tag.specs.Bytes.{byte};
 ghost use Rattle.tag.specs.Answers.{countOf, countAs};
@@ -60,6 +62,14 @@ pub fn is_command(bytes: &[u8], blocks: usize) -> bool
         return false;
     }
     nameable(bytes[1] as usize, blocks)
+}
+
+// Whether the bytes are a well-formed command for this tag.
+pub fn is_command_for(bytes: &[u8], image: &[u8]) -> bool
+    ensures { λ r. ⌜ r ≡ wellFormed (length (now (image .entry)) / 4) (now (bytes .entry)) ⌝ }
+{
+    let end = Address(image.len()).block(4);
+    is_command(bytes, end.0)
 }
 
 // The command that six bytes hold.

@@ -4,9 +4,8 @@ use tag::Address;
 ghost use mathlib.Core.Path.{_≡_};
 ghost use lib.ListN.{length, drop};
 ghost use Prim.Native.Nat.{_≤_};
-ghost use Rattle.tag.specs.Bytes.{byte};
 ghost use Rattle.tag.specs.Checks.{firstOf};
-ghost use Rattle.type2.specs.Memory.{memory, containerChecks};
+ghost use Rattle.type2.specs.Memory.{memory};
 ghost use Rattle.type2.specs.Views.{checkedAs, Known};
 
 // A refusal; or the end of the data area, which begins at 16, and whether the tag is writable.

@@ -88,7 +88,7 @@ fn put_marked(image: &[u8], marks: &[u8], blocks: usize, out: &mut [u8])
 
 // Writes the list that turns `image` into `new`: `first` is the address of the first length byte, and the blocks besides its
 // own that hold a byte to set are marked. Where the list is longer than its buffer, refusal 12.
-pub fn put_list(
+pub(crate) fn put_list(
     image: &[u8],
     new: &[u8],
     marks: &[u8],

@@ -11,13 +11,14 @@ ghost use Prim.Native.Nat.{_*_, _/_};
 ghost use lib.ListN.{length, drop};
 ghost use lib.Seq.{sets};
 ghost use Rattle.tag.specs.Bytes.{byte};
+ghost use Rattle.tag.specs.Stores.{done};
 ghost use Rattle.tag.specs.Model.{model, imageAfter};
 ghost use Rattle.tag.specs.Answers.{modelAs, storingOf};
 ghost use Rattle.type2.specs.Codec.{wellFormed};
 ghost use Rattle.type2.specs.Type2.{type2};
 
 // Stores the four bytes of a command in the block that it names.
-pub fn store_block(image: &mut [u8], command: &[u8])
+fn store_block(image: &mut [u8], command: &[u8])
     requires { ⌜ wellFormed (length (now image) / 4) (now command) ≡ true ⌝ }
     ensures { λ _. ⌜ now (image .exit) ≡ sets (now (image .entry)) (4 * byte (now (command .entry)) 1) (drop 2 (now (command .entry))) ⌝ }
 {
@@ -25,6 +26,18 @@ pub fn store_block(image: &mut [u8], command: &[u8])
     let first = block.address(4);
     let at = first.0;
     slices::store(&command[2..], at, image);
+}
+
+// Stores what the command says, and answers whether it is well formed; nothing is stored if it is not.
+pub fn take_command(image: &mut [u8], command: &[u8]) -> bool
+    ensures is { λ r. ⌜ r ≡ wellFormed (length (now (image .entry)) / 4) (now (command .entry)) ⌝ }
+    ensures stored { λ _. ⌜ now (image .exit) ≡ done (now (image .entry)) ((type2 .command) (now (image .entry)) (now (command .entry))) ⌝ }
+{
+    if commands::is_command_for(command, image) {
+        store_block(image, command);
+        return true;
+    }
+    false
 }
 
 // Reading's refusals but 13, then 20; else the block that the command names is stored, protected or not.
@@ -36,9 +49,8 @@ pub fn model(image: &mut [u8], command: &[u8]) -> ModelAnswer
     if refusal != 0 {
         return ModelAnswer::Refused(refusal);
     }
-    if !commands::is_command(command, image.len() / 4) {
-        return ModelAnswer::Refused(20);
+    if take_command(image, command) {
+        return ModelAnswer::Stored;
     }
-    store_block(image, command);
-    ModelAnswer::Stored
+    ModelAnswer::Refused(20)
 }

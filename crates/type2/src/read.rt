@@ -6,9 +6,10 @@ use crate::container;
 use crate::container::DataArea;
 use tag::Address;
 use tag::ReadAnswer;
+use tag::slices;
 ghost use mathlib.Core.Path.{_≡_};
 ghost use lib.ListN.{length};
-ghost use Rattle.tag.specs.Reading.{answerOf, gatheredInto, refusalNumber};
+ghost use Rattle.tag.specs.Reading.{answerOf, gatheredInto, refusalNumber, shown};
 ghost use Rattle.tag.specs.Answers.{readAs};
 ghost use Rattle.type2.specs.Type2.{type2};
 ghost use Rattle.type2.specs.Table.{Clear};
@@ -34,6 +35,14 @@ pub fn read(image: &[u8], gathered: &mut [u8]) -> ReadAnswer
 {
     let mut table = [0u16; 1024];
     read_with(image, gathered, &mut table)
+}
+
+// The part shown after `read` answered: of the image or, if the message is interrupted, of the gathered copy; empty without
+// a message, after a refusal, and where the answer's numbers do not fit.
+pub fn shown<'a>(image: &'a [u8], gathered: &'a [u8], answer: ReadAnswer) -> &'a [u8]
+    ensures { λ r. ⌜ now r ≡ shown (now (image .entry)) (now (gathered .entry)) (readAs answer) ⌝ }
+{
+    slices::shown(image, gathered, answer)
 }
 
 // Reading's refusal, with the table lent.

@@ -1,6 +1,6 @@
 -- What a Type 2 tag holds, by what reading it answers and shows: the gathering buffer is long enough for every message.
 -- Assumes nothing.
-use mathlib.Core.Path.{_≡_, refl, sym, ap, _∙_}
+use mathlib.Core.Path.{_≡_, refl}
 use mathlib.Core.List.{List}
 use Prim.Native.Nat.{ℕ, _≤_}
 use native.Mathlib.Omega.{arith}

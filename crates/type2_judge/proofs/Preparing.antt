@@ -1,19 +1,19 @@
 -- What the judge has worked out before it looks at the list: where the message goes, which addresses are set, a copy of the tag.
 -- Assumes nothing.
 use mathlib.Core.Path.{_≡_, refl, sym, ap, _∙_}
-use mathlib.Core.Bool.{Bool, true, false, not, _&&_, _||_}
+use mathlib.Core.Bool.{Bool, true, false, not, _&&_}
 use mathlib.Core.List.{List, [], _∷_, _++_, append-nil}
 use Prim.Native.Nat.{ℕ, _+_, _-_, _*_, _<_, _≤_}
 use native.Mathlib.Omega.{arith}
 use native.Mathlib.Decide.{ℕ-discrete, decLt}
 use borrow.Author.Tests.{le-leb, lt-leb, lt-ltb, le-ltb, eq-eqb, ne-eqb}
-use lib.Dec.{leb, ltb, eqb}
+use lib.Dec.{leb, eqb}
 use lib.ListN.{length, replicate, length-replicate, getD-replicate, drop-of-length-le}
 use lib.Seq.{sets}
 use Rattle.tag.specs.Bytes.{byte, run, isSet}
 use Rattle.tag.specs.Checks.{fine, firstOf}
 use Rattle.tag.specs.Reading.{unreadable}
-use Rattle.tag.specs.Plan.{inBlock, touches, protected}
+use Rattle.tag.specs.Plan.{inBlock, touches}
 use Rattle.tag.specs.TagType.{unwritten, written, writing, writingBy}
 use Rattle.tag.proofs.Storing.{sets-front}
 use Rattle.tag.proofs.Laws.{written-ready}

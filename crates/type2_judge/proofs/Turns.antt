@@ -1,17 +1,17 @@
 -- The judge along a list, six bytes a turn: what is left of the list from a place on, and what a turn makes of it.
 -- Assumes nothing.
-use mathlib.Core.Path.{_≡_, refl, sym, ap, _∙_}
-use mathlib.Core.Bool.{true, false}
+use mathlib.Core.Path.{_≡_, sym, ap, _∙_}
+use mathlib.Core.Bool.{false}
 use mathlib.Core.List.{List, [], _∷_, map}
-use Prim.Native.Nat.{ℕ, suc, _+_, _-_, _/_, _<_, _≤_}
+use Prim.Native.Nat.{ℕ, _+_, _-_, _/_, _<_, _≤_}
 use native.Mathlib.Omega.{arith}
 use native.Mathlib.Numerals.{add-one}
 use borrow.Author.Tests.{ne-eqb}
 use lib.ListN.{length, take, drop, length-take, length-drop, drop-of-length-le}
 use lib.Seq.{drop-drop}
-use Rattle.tag.specs.Stores.{Command, ill, done}
-use Rattle.tag.specs.TagType.{cutUp, commands}
-use Rattle.tag.specs.Judge.{Verdict, accepted, refused, fault, judge}
+use Rattle.tag.specs.Stores.{Command, done}
+use Rattle.tag.specs.TagType.{cutUp}
+use Rattle.tag.specs.Judge.{refused, fault, judge}
 use Rattle.tag.proofs.Judging.{fault-ill, judge-next, judge-stop}
 use Rattle.tag.proofs.Pieces.{cut-none, cut-more}
 use Rattle.type2.specs.Codec.{wellFormed}

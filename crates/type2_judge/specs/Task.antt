@@ -7,7 +7,7 @@ use Prim.Native.Nat.{ℕ, _<_, _≤_}
 use lib.Dec.{eqb}
 use lib.ListN.{length}
 use Rattle.tag.specs.Bytes.{byte}
-use Rattle.tag.specs.Plan.{Plan, protected}
+use Rattle.tag.specs.Plan.{protected}
 use Rattle.tag.specs.TagType.{held, written, writing}
 use Rattle.tag.specs.Answers.{oldHeld}
 use Rattle.tag.specs.Judge.{Task, taskOf}

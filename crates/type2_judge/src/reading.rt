@@ -10,7 +10,7 @@ ghost use Rattle.tag.specs.Answers.{oldHeld};
 ghost use Rattle.type2.specs.Type2.{type2};
 
 // Does the tag read as none, as the new message, or as the old one where there was one?
-pub fn is_safe(image: &[u8], new: &[u8], old: &[u8], had: bool, gathered: &mut [u8]) -> bool
+pub(crate) fn is_safe(image: &[u8], new: &[u8], old: &[u8], had: bool, gathered: &mut [u8]) -> bool
     requires { ⌜ length (now gathered) ≡ 1024 ⌝ }
     ensures { λ r. ⌜ r ≡ readsAs (now (new .entry)) (oldHeld had (now (old .entry))) (held type2 (now (image .entry))) ⌝ }
 {
@@ -20,7 +20,7 @@ pub fn is_safe(image: &[u8], new: &[u8], old: &[u8], had: bool, gathered: &mut [
 }
 
 // Does the tag hold just this message?
-pub fn holds(image: &[u8], message: &[u8], gathered: &mut [u8]) -> bool
+pub(crate) fn holds(image: &[u8], message: &[u8], gathered: &mut [u8]) -> bool
     requires { ⌜ length (now gathered) ≡ 1024 ⌝ }
     ensures { λ r. ⌜ r ≡ holdsAs (held type2 (now (image .entry))) (now (message .entry)) ⌝ }
 {

@@ -3,7 +3,6 @@
 use crate::reading;
 use tag::JudgeAnswer;
 use tag::kept;
-use type2::commands;
 use type2::model;
 ghost use mathlib.Core.Path.{_≡_};
 ghost use lib.ListN.{length};
@@ -14,8 +13,8 @@ ghost use Rattle.tag.specs.Judge.{fault, judge};
 ghost use Rattle.type2.specs.Type2.{type2};
 ghost use Rattle.type2_judge.specs.Task.{taskFor, Prepared};
 
-// The fault of one command, 20 to 22, or 0; what it stores is stored in `work` in any case.
-pub fn step(
+// The fault of one command, 20 to 22, or 0; what a well-formed one stores is stored in `work` in any case.
+pub(crate) fn step(
     image: &[u8],
     message: &[u8],
     command: &[u8],
@@ -29,10 +28,9 @@ pub fn step(
     ensures is { λ r. ⌜ r ≡ fault (taskFor (now (image .entry)) (now (message .entry))) (now (work .entry)) ((type2 .command) (now (image .entry)) (now (command .entry))) ⌝ }
     ensures after { λ _. ⌜ now (work .exit) ≡ done (now (work .entry)) ((type2 .command) (now (image .entry)) (now (command .entry))) ⌝ }
 {
-    if !commands::is_command(command, image.len() / 4) {
+    if !model::take_command(work, command) {
         return 20;
     }
-    model::store_block(work, command);
     if !kept::is_kept(image, work, set) {
         return 21;
     }
@@ -43,7 +41,7 @@ pub fn step(
 }
 
 // The list's commands in order; `work` starts as the tag handed in. A rest shorter than a command is not well formed.
-pub fn judge_list(
+pub(crate) fn judge_list(
     image: &[u8],
     message: &[u8],
     list: &[u8],

@@ -1,25 +1,20 @@
--- The answer of reading a Type 3 tag: what its attributes say, whatever the length of a gathering buffer, and what it shows.
+-- The answer of reading a Type 3 tag: what its attributes say, whatever the length of a gathering buffer.
 -- Assumes nothing.
-use mathlib.Core.Path.{_≡_, refl, sym, ap, _∙_}
+use mathlib.Core.Path.{_≡_, refl, sym, ap}
 use mathlib.Core.Bool.{Bool, true, false, cond}
-use mathlib.Core.List.{List, []}
-use Prim.Native.Nat.{ℕ, zero, suc, _+_, _*_, _≤_}
+use mathlib.Core.List.{List}
+use Prim.Native.Nat.{ℕ, zero, suc, _+_, _≤_}
 use native.Mathlib.Omega.{arith}
 use borrow.Author.Tests.{ne-eqb}
-use lib.Dec.{leb, eqb}
+use lib.Dec.{eqb}
 use lib.ListN.{length, take, drop, length-drop}
-use lib.Seq.{length-take-le, take-nil}
-use Rattle.tag.specs.declared.What.the-variants as what
-use Rattle.tag.specs.declared.Report.{Report}
-use Rattle.tag.specs.declared.ReadAnswer.{ReadAnswer}
-use Rattle.tag.specs.declared.ReadAnswer.the-variants as read
+use lib.Seq.{length-take-le}
 use Rattle.tag.specs.Bytes.{byte}
-use Rattle.tag.specs.Checks.{Checked, fine, fault, firstOf}
-use Rattle.tag.specs.Reading.{being-written, empty, message, refusal, answer, answerOf, part, shown}
-use Rattle.tag.specs.Answers.{readAs}
+use Rattle.tag.specs.Checks.{fine, fault, firstOf}
+use Rattle.tag.specs.Reading.{being-written, empty, message, refusal, answer, answerOf}
 use Rattle.type3.specs.declared.read.Attributes.{Attributes}
 use Rattle.type3.specs.Attributes.{attributes, attributeChecks, mayWrite}
-use Rattle.type3.specs.Message.{View, refuse, busy, view, viewBy, viewAfter, viewed, readingOf, reading}
+use Rattle.type3.specs.Message.{View, refuse, busy, view, viewBy, viewed, readingOf, reading}
 use Rattle.type3.specs.Views.{Attests, answerFor}
 
 -- a Type 3 message is never interrupted, so that the gathering buffer does not matter
@@ -55,17 +50,3 @@ answer-known i a e k = rw (e, k .busy-is, k .writable-is, k .ln-is) (go (eqb (by
     go false (suc n) l =
         let whole : length (take (suc n) (drop 16 i)) ≡ suc n = length-take-le (suc n) (drop 16 i) (rw length-drop (omega arith)) in
         rw (ne-eqb (suc n) 0 (omega arith)) (ap (λ k. answer message 16 k false w) (sym whole))
-
--- ---- what an answer shows
-
-part-none : (n : ℕ) → part 0 n [] ≡ []
-part-none n = go (leb (0 + n) 0) (take n []) (take-nil n)
-  where
-    go : (b : Bool) (x : List ℕ) → x ≡ [] → cond b x [] ≡ []
-    go true x e = e
-    go false x e = refl
-
--- an answer that claims a message: the part of the image, or none where it claims to be interrupted
-pub shown-message : (i : List ℕ) (r : ReadAnswer) (p : Report) → r ≡ read.Reads p → p .what ≡ what.Message
-    → shown i [] (readAs r) ≡ cond (p .interrupted) [] (part (p .address .0) (p .length) i)
-shown-message i r p e f = rw (e, f, part-none (p .length))

@@ -10,11 +10,9 @@ pub mod Encoding
 pub mod Decoding
 pub mod Attributes
 pub mod Answers
-pub mod Parts
-pub mod Runs
+pub mod Laying
 pub mod Body
 pub mod Dealing
-pub mod Chosen
 pub mod Sixteen
 pub mod ListBytes
 pub mod Writing

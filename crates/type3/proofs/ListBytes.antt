@@ -11,7 +11,10 @@ use Rattle.tag.specs.Stores.{Store}
 use Rattle.tag.specs.Plan.{newImage, blockOf, between, picks, chunk, chunks, middle, list, counted}
 use Rattle.tag.specs.TagType.{joined, listBytes}
 use Rattle.tag.proofs.Addresses.{length-run}
-use Rattle.tag.proofs.Counts.{length-picks, length-list}
+use Rattle.tag.proofs.Runs.{run-part}
+use Rattle.tag.proofs.Picks.{length-picks, picks-run}
+use Rattle.tag.proofs.Counts.{length-list}
+use Rattle.tag.proofs.Chunks.{chunk-more, joined-append}
 use Rattle.type3.specs.Attributes.{attributes}
 use Rattle.type3.specs.Update.{blocksFor, blocksPerCommand, closed, plan}
 use Rattle.type3.specs.Codec.{commandBytes, storedBytes, encoded}
@@ -20,9 +23,7 @@ use Rattle.type3.specs.Views.{attributeBlock, attributeCommand, messageC
 use Rattle.type3.proofs.Update.{HasRoom, inside}
 use Rattle.type3.proofs.Counts.{between-guard, between-on, between-past}
 use Rattle.type3.proofs.Attributes.{length-attribute-command}
-use Rattle.type3.proofs.Body.{blocksAt}
 use Rattle.type3.proofs.Dealing.{left-over, length-commands}
-use Rattle.type3.proofs.Chosen.{picks-run, run-part, chunk-more, joined-append}
 use Rattle.type3.proofs.Sixteen.{closed-block, new-block, new-blocks}
 
 -- ---- a run of blocks of an image, as a command

@@ -1,22 +1,22 @@
 -- What a reading says can be shown: without a message there are no bytes, and a message is a part of the image.
 -- Assumes nothing.
 use mathlib.Core.Path.{_≡_, refl, sym, ap, _∙_}
-use mathlib.Core.Bool.{Bool, true, false, cond}
+use mathlib.Core.Bool.{Bool, true, false}
 use mathlib.Core.List.{List, []}
-use Prim.Native.Nat.{ℕ, zero, suc, _+_, _*_, _≤_}
+use Prim.Native.Nat.{ℕ, zero, suc, _+_, _≤_}
 use native.Mathlib.Omega.{arith}
 use borrow.Author.Tests.{le-leb}
-use lib.Dec.{leb, eqb}
+use lib.Dec.{eqb}
 use lib.ListN.{length, take, drop, length-drop}
 use lib.Seq.{length-take-le}
 use Rattle.tag.specs.Bytes.{byte}
 use Rattle.tag.specs.Checks.{Checked, fine, fault, firstOf}
-use Rattle.tag.specs.Reading.{What, message, empty, being-written, Report, reads, unreadable, heldOf, broken, part}
+use Rattle.tag.specs.Reading.{What, message, empty, being-written, Report, reads, part}
 use Rattle.tag.proofs.Logic.{nope}
 use Rattle.tag.proofs.Checks.{fine-all}
-use Rattle.type3.specs.Attributes.{nmaxbOf, attributes, attributeChecks, mayWrite}
-use Rattle.type3.specs.Message.{View, refuse, busy, view, viewBy, viewAfter, viewed, without, withMessage, readingOf, reading}
-use Rattle.type3.proofs.Message.{Passes, bounds, ln-fits, reads-passes}
+use Rattle.type3.specs.Attributes.{attributes, attributeChecks, mayWrite}
+use Rattle.type3.specs.Message.{View, refuse, busy, view, viewBy, viewed, without, withMessage, readingOf, reading}
+use Rattle.type3.proofs.Message.{Passes, bounds, ln-fits}
 
 -- the message's bytes lie in the image
 view-inside : (i : List ℕ) (n : ℕ) → viewed i ≡ view n → 16 + n ≤ length i

@@ -12,11 +12,11 @@ use Rattle.tag.specs.Bytes.{byte}
 use Rattle.tag.specs.Refusals.{nothing-to-write, not-writable, too-long, short-buffer}
 use Rattle.tag.specs.Checks.{check, fine, fault, firstOf}
 use Rattle.tag.specs.Plan.{list}
-use Rattle.tag.specs.TagType.{Writing, unwritten, written, planned, writingBy, writing, Output, withheld, output, outputInto, writeBy, write, fitted, listBytes}
+use Rattle.tag.specs.TagType.{unwritten, written, planned, writingBy, writing, withheld, output, outputInto, writeBy, write, fitted, listBytes}
 use Rattle.tag.proofs.Logic.{and-r}
 use Rattle.tag.proofs.Checks.{fine-all}
 use Rattle.type3.specs.Attributes.{nmaxbOf, attributes, attributeChecks, mayWrite}
-use Rattle.type3.specs.Message.{View, busy, view, viewBy, readingOf, reading}
+use Rattle.type3.specs.Message.{busy, view, viewBy, readingOf, reading}
 use Rattle.type3.specs.Update.{fits, blocksFor, blocksPerCommand, plan}
 use Rattle.type3.specs.Type3.{type3}
 use Rattle.type3.specs.Views.{Dealt, listAs}

@@ -1,7 +1,7 @@
 -- The memory of a Type 3 tag: blocks of 16 bytes, of which block 0 holds the attributes. Byte 0 is the version, 1 Nbr, 2 Nbw,
 -- 3 and 4 Nmaxb, 5 to 8 reserved, 9 WriteFlag, 10 RWFlag, 11 to 13 Ln, 14 and 15 the sum of bytes 0 to 13; high byte first.
 -- Assumes nothing.
-use mathlib.Core.Bool.{Bool, true, false, not, _&&_, _||_}
+use mathlib.Core.Bool.{Bool, not, _&&_, _||_}
 use mathlib.Core.List.{List, [], _∷_}
 use Prim.Native.Nat.{ℕ, _+_, _*_, _%_}
 use lib.Dec.{leb, eqb}

@@ -1,7 +1,7 @@
 -- Type 3's write command as bytes: 08h, the eight-byte manufacturer number, 01h, 09h 00h, the block count b, b block names,
 -- 16·b bytes. The codec is told our number, Nbw and Nmaxb.
 -- Assumes nothing.
-use mathlib.Core.Bool.{Bool, true, false, not, _&&_, _||_, cond}
+use mathlib.Core.Bool.{Bool, true, not, _&&_, cond}
 use mathlib.Core.List.{List, [], _∷_, _++_, map}
 use Prim.Native.Nat.{ℕ, zero, suc, _+_, _*_, _/_}
 use lib.Dec.{leb, eqb}

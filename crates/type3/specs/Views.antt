@@ -1,15 +1,15 @@
 -- The code's attributes and answers as the definitions have them, and the facts that the code knows of a tag.
 -- Assumes nothing.
 use mathlib.Core.Path.{_≡_}
-use mathlib.Core.Bool.{Bool, true, false, cond}
-use mathlib.Core.List.{List, [], _∷_, _++_, map}
+use mathlib.Core.Bool.{false, cond}
+use mathlib.Core.List.{List, [], _∷_, _++_}
 use Prim.Native.Nat.{ℕ, zero, suc, _+_, _-_, _*_, _/_, _%_, _<_, _≤_, min}
 use lib.Dec.{eqb}
-use lib.ListN.{length, take, drop}
+use lib.ListN.{length, take, drop, replicate}
 use Rattle.tag.specs.declared.Report.{Report}
 use Rattle.tag.specs.Bytes.{byte, run}
 use Rattle.tag.specs.Checks.{Checked, fine, fault, firstOf}
-use Rattle.tag.specs.Reading.{What, message, empty, being-written, Answer, answer}
+use Rattle.tag.specs.Reading.{message, empty, being-written, Answer, answer}
 use Rattle.tag.specs.Answers.{whatOf}
 use Rattle.type3.specs.declared.read.Attributes.{Attributes}
 use Rattle.type3.specs.declared.read.Checked as code
@@ -68,9 +68,9 @@ answerFor a =
 
 -- ---- the list
 
--- the sixteen bytes at the front of a part of the message, 00h past its end
-abbrev pub filled : List ℕ → List ℕ
-filled part = map (byte part) (run 0 16)
+-- the first n bytes of a part of the message, 00h past its end; a last block lacks at most fifteen
+abbrev pub filled : ℕ → List ℕ → List ℕ
+filled n part = take n (part ++ replicate 15 0x00)
 
 -- block 0 with this WriteFlag, this Ln and this checksum, all else as it is
 abbrev pub attributeBlockBy : List ℕ → ℕ → ℕ → ℕ → List ℕ
@@ -118,6 +118,7 @@ listAs number i m ln w t =
 pub record Fills (m number : List ℕ) (skip count : ℕ) : Type 0 where
   pub eight : length number ≡ 8
   pub most : blocksFor (length m) ≤ 255
+  pub some : 0 < count
   pub inside : skip + count ≤ blocksFor (length m)
 
 -- k blocks dealt out to t commands, w to a command

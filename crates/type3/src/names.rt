@@ -23,7 +23,7 @@ fn has(blocks: &[usize], block: usize) -> bool
 }
 
 // Whether each block is at most Nmaxb and a byte, and none is named twice.
-pub fn nameable(blocks: &[usize], nmaxb: usize) -> bool
+pub(crate) fn nameable(blocks: &[usize], nmaxb: usize) -> bool
     ensures { λ r. ⌜ r ≡ nameable nmaxb (now (blocks .entry)) ⌝ }
 {
     let mut i = 0usize;
@@ -44,7 +44,7 @@ pub fn nameable(blocks: &[usize], nmaxb: usize) -> bool
 }
 
 // Writes the names from byte 13 on.
-pub fn put(blocks: &[usize], bytes: &mut [u8])
+pub(crate) fn put(blocks: &[usize], bytes: &mut [u8])
     requires { ⌜ (13 + 2 * length (now blocks) ≤ length (now bytes)) × ((i : ℕ) → i < length (now blocks) → getD (now blocks) i 0 ≤ 255) ⌝ }
     ensures { λ _. ⌜ now (bytes .exit) ≡ sets (now (bytes .entry)) 13 (namesBytes (now (blocks .entry))) ⌝ }
 {
@@ -58,7 +58,7 @@ pub fn put(blocks: &[usize], bytes: &mut [u8])
 }
 
 // Whether each of the `count` names from byte 13 on begins with 80h.
-pub fn marked(bytes: &[u8], count: usize) -> bool
+pub(crate) fn marked(bytes: &[u8], count: usize) -> bool
     requires { ⌜ 13 + 2 * count ≤ length (now bytes) ⌝ }
     ensures { λ r. ⌜ r ≡ marked count (drop 13 (now (bytes .entry))) ⌝ }
 {
@@ -73,7 +73,7 @@ pub fn marked(bytes: &[u8], count: usize) -> bool
 }
 
 // Reads the numbers of the `count` blocks that are named from byte 13 on.
-pub fn read(bytes: &[u8], count: usize, blocks: &mut [usize])
+pub(crate) fn read(bytes: &[u8], count: usize, blocks: &mut [usize])
     requires { ⌜ (13 + 2 * count ≤ length (now bytes)) × (count ≤ length (now blocks)) ⌝ }
     ensures { λ _. ⌜ now (blocks .exit) ≡ sets (now (blocks .entry)) 0 (numbers count (drop 13 (now (bytes .entry)))) ⌝ }
 {
@@ -85,7 +85,7 @@ pub fn read(bytes: &[u8], count: usize, blocks: &mut [usize])
 }
 
 // Reads them, and says whether a command may name them together.
-pub fn take(bytes: &[u8], count: usize, nmaxb: usize, blocks: &mut [usize]) -> bool
+pub(crate) fn take(bytes: &[u8], count: usize, nmaxb: usize, blocks: &mut [usize]) -> bool
     requires { ⌜ (13 + 2 * count ≤ length (now bytes)) × (count ≤ length (now blocks)) ⌝ }
     ensures named { λ r. ⌜ r ≡ nameable nmaxb (numbers count (drop 13 (now (bytes .entry)))) ⌝ }
     ensures taken { λ _. ⌜ now (blocks .exit) ≡ sets (now (blocks .entry)) 0 (numbers count (drop 13 (now (bytes .entry)))) ⌝ }

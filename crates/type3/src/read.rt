@@ -5,6 +5,7 @@ use tag::Block;
 use tag::ReadAnswer;
 use tag::Report;
 use tag::What;
+use tag::slices;
 ghost use mathlib.Core.Path.{_≡_};
 ghost use mathlib.Core.Bool.{false, _||_};
 ghost use mathlib.Core.List.{[]};
@@ -53,7 +54,7 @@ fn word(image: &[u8], at: usize) -> usize
 }
 
 // The sum of the first `n` bytes.
-pub fn sum(image: &[u8], n: usize) -> usize
+pub(crate) fn sum(image: &[u8], n: usize) -> usize
     requires { ⌜ (n ≤ length (now image)) × (n ≤ 16) ⌝ }
     ensures is { λ r. ⌜ r ≡ sumTo (now (image .entry)) n ⌝ }
     ensures small { λ r. ⌜ r ≤ 255 * n ⌝ }
@@ -214,28 +215,5 @@ pub fn read(image: &[u8]) -> ReadAnswer
 pub fn shown(image: &[u8], answer: ReadAnswer) -> &[u8]
     ensures { λ r. ⌜ now r ≡ shown (now (image .entry)) [] (readAs answer) ⌝ }
 {
-    match answer {
-        ReadAnswer::Refused(_) => &image[0..0],
-        ReadAnswer::Reads(p) => {
-            let what = p.what;
-            match what {
-                What::Empty => &image[0..0],
-                What::BeingWritten => &image[0..0],
-                What::Message => {
-                    let a = p.address.0;
-                    let n = p.length;
-                    if p.interrupted {
-                        return &image[0..0];
-                    }
-                    if image.len() < a {
-                        return &image[0..0];
-                    }
-                    if image.len() - a < n {
-                        return &image[0..0];
-                    }
-                    &image[a..a + n]
-                }
-            }
-        }
-    }
+    slices::shown(image, &image[0..0], answer)
 }

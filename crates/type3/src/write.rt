@@ -8,11 +8,11 @@ use tag::CountAnswer;
 ghost use mathlib.Core.Path.{_≡_};
 ghost use mathlib.Core.List.{[], _∷_, _++_};
 ghost use Prim.Native.Nat.{_+_, _-_, _*_, _/_, _<_, _≤_, min};
-ghost use lib.ListN.{length, take, drop};
-ghost use Rattle.tag.specs.Bytes.{byte, run};
+ghost use lib.ListN.{length, drop};
+ghost use Rattle.tag.specs.Bytes.{run};
 ghost use Rattle.tag.specs.TagType.{write, outputInto};
 ghost use Rattle.tag.specs.Answers.{countOf, countAs};
-ghost use Rattle.type3.specs.Update.{blocksFor, blocksPerCommand, body};
+ghost use Rattle.type3.specs.Update.{blocksFor};
 ghost use Rattle.type3.specs.Codec.{namesBytes, opening};
 ghost use Rattle.type3.specs.Type3.{type3};
 ghost use Rattle.type3.specs.Views.{filled, attributeBlock, attributeCommand, messageCommand, messageCommands, listAs, Readable, Fills, Dealt, Listing};
@@ -56,48 +56,20 @@ fn put_names(first: Block, count: usize, out: &mut [u8])
     }
 }
 
-// The byte of a part, or 00h past its end.
-fn byte_or_zero(part: &[u8], at: usize) -> u8
-    ensures { λ r. ⌜ r ≡ byte (now (part .entry)) at ⌝ }
+// Blocks of the message: the first `size` bytes of the part, 00h past its end. Only the last block of a message is short.
+fn fill_blocks(part: &[u8], size: usize, out: &mut [u8])
+    requires { ⌜ (size ≤ length (now out)) × (size ≤ length (now part) + 15) ⌝ }
+    ensures { λ _. ⌜ now (out .exit) ≡ filled size (now (part .entry)) ++ drop size (now (out .entry)) ⌝ }
 {
-    if at < part.len() { part[at] } else { 0x00 }
-}
-
-// The last block of the message: what the part has, filled with 00h.
-fn fill_short(part: &[u8], out: &mut [u8])
-    requires { ⌜ 16 ≤ length (now out) ⌝ }
-    ensures { λ _. ⌜ now (out .exit) ≡ filled (now (part .entry)) ++ drop 16 (now (out .entry)) ⌝ }
-{
-    let mut j = 0usize;
-    while j < 16 {
-        out[j] = byte_or_zero(part, j);
-        j += 1;
-    }
-}
-
-// A block of the message: sixteen bytes of the part, filled with 00h.
-fn fill_block(part: &[u8], out: &mut [u8])
-    requires { ⌜ 16 ≤ length (now out) ⌝ }
-    ensures { λ _. ⌜ now (out .exit) ≡ filled (now (part .entry)) ++ drop 16 (now (out .entry)) ⌝ }
-{
-    if 16 <= part.len() {
-        bytes::copy(&part[..16], out);
+    let n = part.len();
+    if size <= n {
+        bytes::copy(&part[..size], out);
         return;
     }
-    fill_short(part, out);
-}
-
-// The bytes of `count` blocks of the message, past its first `skip` blocks.
-fn put_blocks(message: &[u8], skip: usize, count: usize, out: &mut [u8])
-    requires { ⌜ (skip + count ≤ blocksFor (length (now message))) × (length (now message) ≤ 4096) × (16 * count ≤ length (now out)) ⌝ }
-    ensures { λ _. ⌜ now (out .exit) ≡ take (16 * count) (drop (16 * skip) (body (now (message .entry)))) ++ drop (16 * count) (now (out .entry)) ⌝ }
-{
-    let mut j = 0usize;
-    while j < count {
-        let i = skip + j;
-        fill_block(&message[16 * i..], &mut out[16 * j..]);
-        j += 1;
-    }
+    let zeros = [0u8; 15];
+    let rest = size - n;
+    bytes::copy(part, out);
+    bytes::copy(&zeros[..rest], &mut out[n..]);
 }
 
 // Block 0 with this WriteFlag and this Ln, and its checksum; all else as the image has it.
@@ -149,9 +121,10 @@ fn put_command(message: &[u8], number: &[u8], skip: usize, count: usize, out: &m
 {
     let first = Block(1 + skip);
     let at = 13 + 2 * count;
+    let size = 16 * count;
     put_opening(number, count, out);
     put_names(first, count, &mut out[13..]);
-    put_blocks(message, skip, count, &mut out[at..]);
+    fill_blocks(&message[16 * skip..], size, &mut out[at..]);
 }
 
 // How many of `left` blocks the next command takes.

@@ -23,7 +23,7 @@ fn mark_of(a: usize, end: usize) -> u8
 }
 
 // Marks every address of `set`.
-pub fn mark(end: usize, set: &mut [u8])
+pub(crate) fn mark(end: usize, set: &mut [u8])
     ensures size { λ _. ⌜ length (now (set .exit)) ≡ length (now (set .entry)) ⌝ }
     ensures marked { λ _. ⌜ ((a : ℕ) → a < length (now (set .entry)) → byte (now (set .exit)) a ≡ markAt end a) ⌝ }
 {

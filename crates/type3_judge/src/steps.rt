@@ -16,7 +16,7 @@ ghost use Rattle.type3.specs.Message.{reading};
 ghost use Rattle.type3_judge.specs.Views.{task, commandFor, Piece, Judging};
 
 // How many bytes the command at `at` takes, by its own count; a rest that is shorter is the last command.
-pub fn piece_size(list: &[u8], at: usize) -> usize
+pub(crate) fn piece_size(list: &[u8], at: usize) -> usize
     requires { ⌜ at < length (now list) ⌝ }
     ensures { λ r. ⌜ Piece (now (list .entry)) at r ⌝ }
 {
@@ -41,7 +41,7 @@ fn reads_safely(work: &[u8], message: &[u8], old: &[u8], had: bool) -> bool
 }
 
 // Does the tag read as the message?
-pub fn reads_as(work: &[u8], message: &[u8]) -> bool
+pub(crate) fn reads_as(work: &[u8], message: &[u8]) -> bool
     ensures { λ r. ⌜ r ≡ holdsAs (heldOf (reading (now (work .entry)))) (now (message .entry)) ⌝ }
 {
     let answer = read::read(work);
@@ -50,7 +50,7 @@ pub fn reads_as(work: &[u8], message: &[u8]) -> bool
 }
 
 // Gives the tag `work` one command; answers the command's fault, or 0.
-pub fn step(
+pub(crate) fn step(
     command: &[u8],
     image: &[u8],
     message: &[u8],

@@ -3,71 +3,27 @@
 // A file that cannot be opened counts as empty. The buffers are longer than any image or message that is not refused for its
 // length, so that a longer file is refused as it would be whole.
 
-use libc::STDOUT_FILENO;
 use tag::CountAnswer;
 ghost use Rattle.io.specs.Counts.{Counts};
 
-const DIGITS: [u8; 16] = [
-    48,
-    49,
-    50,
-    51,
-    52,
-    53,
-    54,
-    55,
-    56,
-    57,
-    65,
-    66,
-    67,
-    68,
-    69,
-    70,
-];
-
-// A byte as two digits, and what stands after it.
-fn print_byte(b: u8, after: u8) {
-    let n = b as usize;
-    let text = [DIGITS[n / 16], DIGITS[n % 16], after];
-    io::write_all(STDOUT_FILENO, &text);
-}
-
-// A command, on a line of its own.
-fn print_command(command: &[u8]) {
-    let mut i = 0usize;
-    while i < command.len() {
-        let next = i + 1;
-        print_byte(command[i], if next == command.len() { b'\n' } else { b' ' });
-        i = next;
-    }
-}
-
 // The first `count` commands of a list, six bytes each.
 fn print_list(list: &[u8], count: usize) {
-    io::print_decimal(STDOUT_FILENO, count as u64);
-    io::write_all(STDOUT_FILENO, b" commands\n");
+    printing::commands(count);
     let mut at = 0usize;
     let mut left = count;
     while 0 < left {
         if list.len() - at < 6 {
             return;
         }
-        print_command(&list[at..at + 6]);
+        printing::line(&list[at..at + 6]);
         at += 6;
         left -= 1;
     }
 }
 
-fn print_refusal(number: u8) {
-    io::write_all(STDOUT_FILENO, b"refused ");
-    io::print_decimal(STDOUT_FILENO, number as u64);
-    io::write_all(STDOUT_FILENO, b"\n");
-}
-
 fn print_answer(image: &[u8], message: &[u8], list: &mut [u8]) {
     match type2::write::write(image, message, list) {
-        CountAnswer::Refused(number) => print_refusal(number),
+        CountAnswer::Refused(number) => printing::refusal(number),
         CountAnswer::Count(count) => print_list(list, count),
     }
 }

@@ -1,5 +1,5 @@
 -- `print_list` meets its contract. Assumes nothing.
-use Prim.Native.Nat.{_≤_, _-_}
+use Prim.Native.Nat.{_≤_}
 use lib.ListN.{length}
 use borrow.Author.Needs.{needs}
 use Rattle.write_list.proofs.print_list.Statement.{statement}

@@ -1,6 +1,4 @@
 -- `answers::verdict` meets its contract. Assumes nothing.
-use mathlib.Core.Path.{ap}
-use Prim.Native.Nat.{_+_}
 use borrow.Author.Needs.{needs}
 use Rattle.capi.proofs.answers.verdict.Statement.{statement}
 use Rattle.capi.proofs.answers.verdict.Tie as tie

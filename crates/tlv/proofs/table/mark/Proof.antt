@@ -6,8 +6,6 @@ use lib.ListN.{length}
 use Rattle.tlv.proofs.Marking.{Marking, mark-start, mark-one, mark-done}
 use Rattle.tlv.proofs.table.mark.Statement.{statement}
 use Rattle.tlv.proofs.table.mark.Tie as tie
-use Rattle.tlv.proofs.table.mark.Reads as reads
-use Rattle.tlv.proofs.table.mark.Lts as lts
 
 abbrev Inv-loop : tie.InvT-loop
 Inv-loop table₀ end entry a₀ table a = Marking table₀ table a₀ a end × (end ≤ length table₀)

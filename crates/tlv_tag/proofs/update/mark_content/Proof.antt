@@ -1,5 +1,5 @@
 -- `update::mark_content` meets its contract. Assumes nothing.
-use mathlib.Core.Path.{_≡_, sym, ap, _∙_}
+use mathlib.Core.Path.{sym, ap, _∙_}
 use borrow.Author.Needs.{needs}
 use Rattle.tlv.specs.Update.{content}
 use Rattle.tlv_tag.specs.Update.{contentLength}

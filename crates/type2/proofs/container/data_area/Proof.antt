@@ -1,5 +1,4 @@
 -- `container::data_area` meets its contract: the tests that led to each answer pick its case. Assumes nothing.
-use mathlib.Core.Path.{_≡_, refl}
 use borrow.Author.Needs.{needs}
 use borrow.Author.Tests.{eq-eqb, ne-eqb}
 use Rattle.type2.proofs.Refusing.{not-blocks, too-short, too-long, no-mark, bad-version, bad-access, writable, read-only}

@@ -1,13 +1,13 @@
 -- `list::count_marked` meets its contract. Assumes nothing.
 use mathlib.Core.Path.{_≡_, refl, sym, ap, _∙_}
-use mathlib.Core.Bool.{true, false, not}
+use mathlib.Core.Bool.{not}
 use mathlib.Core.Logic.{⊎-elim}
 use Prim.Native.Nat.{_+_, _-_, _≤_}
 use native.Mathlib.Omega.{arith}
 use borrow.Author.Needs.{needs}
 use borrow.Author.Tests.{eq-eqb, ne-eqb}
 use Rattle.type2.specs.Listing.{marked, markedCount}
-use Rattle.type2.proofs.Picking.{counted-yes, counted-no}
+use Rattle.tag.proofs.Counts.{counted-yes, counted-no}
 use Rattle.type2.proofs.list.count_marked.Statement.{statement}
 use Rattle.type2.proofs.list.count_marked.Tie as tie
 

@@ -7,8 +7,8 @@ use borrow.Author.Tests.{eq-eqb, ne-eqb}
 use lib.ListN.{length}
 use Rattle.tag.proofs.Cases.{yes-case, no-case}
 use Rattle.type2.specs.Listing.{blockBytes, marked}
-use Rattle.type2.proofs.Picking.{counted-yes, counted-no}
-use Rattle.type2.proofs.Parts.{lent}
+use Rattle.tag.proofs.Counts.{counted-yes, counted-no}
+use Rattle.tag.proofs.Filling.{lent}
 use Rattle.type2.proofs.list.put_if_marked.Statement.{statement}
 use Rattle.type2.proofs.list.put_if_marked.Tie as tie
 

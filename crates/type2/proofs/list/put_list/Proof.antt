@@ -1,5 +1,5 @@
 -- `list::put_list` meets its contract. Assumes nothing.
-use mathlib.Core.Path.{_≡_, refl, sym, ap, _∙_}
+use mathlib.Core.Path.{refl, sym, ap, _∙_}
 use Prim.Native.Nat.{_+_, _*_, _/_, _≤_}
 use native.Mathlib.Omega.{arith}
 use borrow.Author.Needs.{needs}
@@ -9,8 +9,6 @@ use Rattle.tag.specs.Answers.{counts, countOf}
 use Rattle.type2.proofs.Guarding.{guarded-short, guarded-count, guarded-fits, guarded-parts}
 use Rattle.type2.proofs.list.put_list.Statement.{statement}
 use Rattle.type2.proofs.list.put_list.Tie as tie
-use Rattle.type2.proofs.list.put_list.Reads as reads
-use Rattle.type2.proofs.list.put_list.Lts as lts
 
 returns : tie.Need-returns
 returns c =

@@ -1,16 +1,10 @@
 -- `model::model` meets its contract. Assumes nothing.
-use mathlib.Core.Path.{_≡_, sym, ap, _∙_}
-use mathlib.Core.Bool.{true, false}
-use Prim.Native.Nat.{_/_}
+use mathlib.Core.Path.{sym, ap, _∙_}
 use borrow.Author.Needs.{needs}
-use borrow.Author.Tests.{not-true, not-false}
-use lib.ListN.{length}
-use Rattle.tag.specs.Reading.{refusalNumber}
-use Rattle.tag.specs.Model.{unstored, imageAfter}
+use Rattle.tag.specs.Stores.{done}
+use Rattle.tag.specs.Model.{imageAfter}
 use Rattle.tag.specs.Answers.{storingOf, unstoring}
-use Rattle.type2.specs.Codec.{wellFormed}
-use Rattle.type2.specs.Type2.{type2}
-use Rattle.type2.proofs.Modelling.{model-unread, model-ill, model-stored}
+use Rattle.type2.proofs.Modelling.{command-ill, command-formed, model-unread, model-ill, model-stored}
 use Rattle.type2.proofs.model.model.Statement.{statement}
 use Rattle.type2.proofs.model.model.Tie as tie
 
@@ -23,22 +17,21 @@ returns c =
 
 returns-2 : tie.Need-returns-2
 returns-2 c =
-    let a = c .before .before .before .before .before .before .before .args in
-    let f = c .before .before .before .refusal in
-    let k = c .before .is-command in
-    let e = model-ill (a .image .now) (a .command .now) (sym (f .ensures) ∙ c .before .before .if1 .left) (sym (k .ensures) ∙ not-true _ (c .if2 .taken)) in
-    (sym (ap storingOf e), sym (ap (imageAfter (a .image .now)) e))
-
-store-block-requires : tie.Need-store-block-requires
-store-block-requires c κs = sym (c .before .before .is-command .ensures) ∙ not-false _ (c .before .if2 .left)
+    let a = c .before .before .before .before .before .before .before .before .before .before .args in
+    let f = c .before .before .before .before .before .before .refusal in
+    let k = c .before .before .before .take-command in
+    let w = sym (k .ensures .0) ∙ c .if2 .taken in
+    let e = model-stored (a .image .now) (a .command .now) (sym (f .ensures) ∙ c .before .before .before .before .before .if1 .left) w in
+    (sym (ap storingOf e), k .ensures .1 ∙ ap (done (a .image .now)) (command-formed (a .image .now) (a .command .now) w) ∙ sym (ap (imageAfter (a .image .now)) e))
 
 returns-3 : tie.Need-returns-3
 returns-3 c =
-    let a = c .before .before .before .before .before .before .before .before .before .before .before .args in
-    let f = c .before .before .before .before .before .before .before .refusal in
-    let k = c .before .before .before .before .before .is-command in
-    let e = model-stored (a .image .now) (a .command .now) (sym (f .ensures) ∙ c .before .before .before .before .before .before .if1 .left) (sym (k .ensures) ∙ not-false _ (c .before .before .before .before .if2 .left)) in
-    (sym (ap storingOf e), c .before .before .store-block .ensures ∙ sym (ap (imageAfter (a .image .now)) e))
+    let a = c .before .before .before .before .before .before .before .before .before .before .args in
+    let f = c .before .before .before .before .before .before .refusal in
+    let k = c .before .before .before .take-command in
+    let w = sym (k .ensures .0) ∙ c .if2 .left in
+    let e = model-ill (a .image .now) (a .command .now) (sym (f .ensures) ∙ c .before .before .before .before .before .if1 .left) w in
+    (sym (ap storingOf e), k .ensures .1 ∙ ap (done (a .image .now)) (command-ill (a .image .now) (a .command .now) w) ∙ sym (ap (imageAfter (a .image .now)) e))
 
 pub model-spec : {M : Type 1} → statement M
 model-spec =
@@ -50,6 +43,5 @@ model-spec =
     (λ c κs. search needs)
     (λ c. search needs)
     returns-2
-    store-block-requires
     (λ c. search needs)
     returns-3)

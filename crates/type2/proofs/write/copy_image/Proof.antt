@@ -1,7 +1,7 @@
 -- `write::copy_image` meets its contract. Assumes nothing.
 use mathlib.Core.Path.{_∙_}
 use borrow.Author.Needs.{needs}
-use Rattle.type2.proofs.Parts.{copied}
+use Rattle.tag.proofs.Filling.{copied}
 use Rattle.type2.proofs.write.copy_image.Statement.{statement}
 use Rattle.type2.proofs.write.copy_image.Tie as tie
 

@@ -3,11 +3,10 @@ use mathlib.Core.Path.{_≡_, ap, _∙_}
 use Prim.Native.Nat.{_<_}
 use native.Mathlib.Omega.{arith}
 use borrow.Author.Needs.{needs}
-use lib.ListN.{length, set, length-set}
+use lib.ListN.{set, length-set}
 use Rattle.tag.specs.Bytes.{overlay}
 use Rattle.tlv.specs.Update.{content, lengthAt}
 use Rattle.tlv.specs.Views.{ahead}
-use Rattle.tlv.proofs.Usable.{At}
 use Rattle.type2.specs.Listing.{marked}
 use Rattle.type2.proofs.Preparing.{first-usable, marked-between}
 use Rattle.type2.proofs.write.prepare.Statement.{statement}

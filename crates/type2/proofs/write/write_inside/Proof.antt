@@ -1,5 +1,5 @@
 -- `write::write_inside` meets its contract. Assumes nothing.
-use mathlib.Core.Path.{_≡_, sym, ap, _∙_}
+use mathlib.Core.Path.{sym, ap, _∙_}
 use borrow.Author.Needs.{needs}
 use lib.ListN.{length}
 use Rattle.tag.specs.TagType.{writeBy, outputInto}

@@ -1,11 +1,9 @@
 -- `judge::judge_area` meets its contract. Assumes nothing.
-use mathlib.Core.Path.{_≡_, sym, ap, _∙_, subst}
+use mathlib.Core.Path.{sym, ap, _∙_, subst}
 use native.Mathlib.Omega.{arith}
 use borrow.Author.Needs.{needs}
 use lib.ListN.{length}
 use Rattle.tag.specs.Judge.{judgeBy}
-use Rattle.tlv.specs.Space.{no-space}
-use Rattle.tlv.specs.Views.{ahead}
 use Rattle.tlv_tag.specs.Space.{spaceAs, SpacePlaced}
 use Rattle.type2.specs.Type2.{type2}
 use Rattle.type2_judge.proofs.Preparing.{by-space, writable-at, addresses-at}
@@ -16,7 +14,7 @@ find-space-requires : tie.Need-find-space-requires
 find-space-requires c κs =
     let p = c .before .before .before .before .before .pre in
     record {
-      zeros = p .0 .zeros;
+      clear = p .0 .zeros;
       ordered = omega (arith, p .1 .ends);
       in-table = omega (arith, p .1 .inside, p .1 .short, p .0 .size);
       in-image = p .1 .inside;

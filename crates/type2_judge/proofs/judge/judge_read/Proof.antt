@@ -1,5 +1,5 @@
 -- `judge::judge_read` meets its contract. Assumes nothing.
-use mathlib.Core.Path.{_≡_, sym, ap, _∙_}
+use mathlib.Core.Path.{sym, ap, _∙_}
 use borrow.Author.Needs.{needs}
 use Rattle.tag.specs.Answers.{readAs, oldHeld}
 use Rattle.tag.proofs.Laws.{written-ready, ready-reads}

@@ -1,5 +1,5 @@
 -- `judge::judge_with` meets its contract. Assumes nothing.
-use mathlib.Core.Path.{_≡_, sym, ap, _∙_, subst}
+use mathlib.Core.Path.{sym, ap, _∙_, subst}
 use borrow.Author.Needs.{needs}
 use Rattle.tag.specs.Judge.{judgeBy}
 use Rattle.type2.specs.Memory.{memory}

@@ -1,5 +1,5 @@
 -- `reading::is_safe` meets its contract. Assumes nothing.
-use mathlib.Core.Path.{_≡_, ap, _∙_}
+use mathlib.Core.Path.{ap, _∙_}
 use borrow.Author.Needs.{needs}
 use Rattle.tag.specs.Judge.{readsAs}
 use Rattle.tag.specs.Answers.{readAs, oldHeld}

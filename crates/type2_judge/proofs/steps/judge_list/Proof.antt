@@ -1,11 +1,11 @@
 -- `steps::judge_list` meets its contract: what is left of the list, on the tag that the commands so far have left, is judged as
 -- the whole list on the tag handed in. Assumes nothing.
-use mathlib.Core.Path.{_≡_, refl, sym, ap, _∙_}
+use mathlib.Core.Path.{_≡_, sym, ap, _∙_}
 use Prim.Native.Nat.{_+_, _-_, _≤_}
 use native.Mathlib.Omega.{arith}
 use borrow.Author.Needs.{needs}
-use lib.ListN.{length, take, drop}
-use Rattle.tag.specs.TagType.{held, commands}
+use lib.ListN.{length}
+use Rattle.tag.specs.TagType.{commands}
 use Rattle.tag.specs.Judge.{judge}
 use Rattle.tag.proofs.Judging.{judge-good, judge-bad}
 use Rattle.type2.specs.Type2.{type2}

@@ -7,7 +7,7 @@ use borrow.Author.Needs.{needs}
 use lib.ListN.{length, drop, length-take, length-drop}
 use Rattle.type3.specs.Update.{blocksFor}
 use Rattle.type3.specs.Views.{messageCommand, messageCommands, Dealt}
-use Rattle.type3.proofs.Parts.{lay-part}
+use Rattle.tag.proofs.Filling.{lay-part}
 use Rattle.type3.proofs.Dealing.{times-more, place-more, left-over, commands-more, length-commands}
 use Rattle.type3.proofs.write.put_message.Statement.{statement}
 use Rattle.type3.proofs.write.put_message.Tie as tie
@@ -53,7 +53,7 @@ put-command-requires : tie.Need-put-command-requires Inv-loop μ-loop
 put-command-requires c κs =
     let l = c .before .before .before .loop in
     let some = left (c .before .before) in (
-      record { eight = l .inv .eight; most = l .inv .dealt .few; inside = omega arith },
+      record { eight = l .inv .eight; most = l .inv .dealt .few; some = omega (arith, l .inv .dealt .some-width); inside = omega arith },
       simp (length-take, length-drop) (omega arith),
     )
 
@@ -68,8 +68,8 @@ loop-again c =
     let more = times-more (a .w) (l .t) in
     let taken : count ≡ min (a .w) (blocksFor (length m) - a .w * l .t) = c .before .before .before .before .smaller .ensures ∙ ap (λ x. min (a .w) (blocksFor (length m) - x)) (l .inv .skipped) in
     let long : length (messageCommands n m (a .w) (l .t)) ≡ l .at = length-commands n m (a .w) (a .turns) (l .t) (l .inv .eight) (l .inv .dealt) (l .inv .turn) ∙ omega arith in
-    let put = lay-part (l .out) (messageCommands n m (a .w) (l .t)) (a .out .now) (messageCommand n m (l .skip) count) _ (l .at) (length (l .out)) (13 + 18 * count)
-    (l .inv .laid) long (omega arith) (omega arith) (c .before .before .put-command .ensures) in
+    let put = lay-part (l .out) (messageCommands n m (a .w) (l .t)) (a .out .now) (l .at) (l .inv .laid) long
+    (messageCommand n m (l .skip) count) _ (length (l .out)) (13 + 18 * count) (omega arith) (omega arith) (c .before .before .put-command .ensures) in
     record {
       dealt = l .inv .dealt;
       eight = l .inv .eight;

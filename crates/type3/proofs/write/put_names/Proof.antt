@@ -1,16 +1,16 @@
 -- `write::put_names` meets its contract. The loop's invariant: the names passed are laid over the buffer. Assumes nothing.
 use mathlib.Core.Path.{_≡_, refl, ap, _∙_}
-use mathlib.Core.List.{List, [], _∷_, _++_, append-assoc}
+use mathlib.Core.List.{_++_}
 use Prim.Native.Nat.{_+_, _-_, _*_, _≤_}
 use native.Mathlib.Omega.{arith}
 use borrow.Author.Needs.{needs}
-use lib.ListN.{length, drop, length-set, length-append}
+use lib.ListN.{length, drop, length-set}
 use Rattle.tag.specs.Bytes.{run}
 use Rattle.tag.proofs.Addresses.{length-run}
 use Rattle.type3.specs.Codec.{namesBytes}
 use Rattle.type3.proofs.Codec.{length-names}
-use Rattle.type3.proofs.Parts.{lay-two}
-use Rattle.type3.proofs.Runs.{names-more}
+use Rattle.tag.proofs.Filling.{lay-two}
+use Rattle.type3.proofs.Laying.{names-more}
 use Rattle.type3.proofs.write.put_names.Statement.{statement}
 use Rattle.type3.proofs.write.put_names.Tie as tie
 

@@ -2,7 +2,7 @@
 use mathlib.Core.Path.{_∙_}
 use borrow.Author.Needs.{needs}
 use lib.ListN.{drop}
-use Rattle.type3.proofs.Runs.{opening-is}
+use Rattle.type3.proofs.Laying.{opening-is}
 use Rattle.type3.proofs.write.put_opening.Statement.{statement}
 use Rattle.type3.proofs.write.put_opening.Tie as tie
 

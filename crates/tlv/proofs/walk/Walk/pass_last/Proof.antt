@@ -1,7 +1,6 @@
 -- `Walk::pass_last` meets its contract. Assumes nothing.
-use mathlib.Core.Path.{_≡_, ap, _∙_}
+use mathlib.Core.Path.{ap, _∙_}
 use borrow.Author.Needs.{needs}
-use Rattle.tag.proofs.Cases.{cases}
 use Rattle.tlv.specs.Areas.{without}
 use Rattle.tlv.specs.Walk.{areaBy, more}
 use Rattle.tlv.specs.Views.{ahead}

@@ -1,6 +1,5 @@
 -- `Walk::skip_area` meets its contract. Assumes nothing.
 use mathlib.Core.Path.{refl}
-use native.Mathlib.Omega.{arith}
 use borrow.Author.Needs.{needs}
 use Rattle.tlv.specs.Marks.{areaAs}
 use Rattle.tlv.proofs.Marking.{area-marked}

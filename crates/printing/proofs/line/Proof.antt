@@ -1,26 +1,26 @@
--- `print_bytes` meets its contract. Assumes nothing.
+-- `line` meets its contract. Assumes nothing.
 use Prim.Native.Nat.{_≤_, _-_}
 use lib.ListN.{length}
 use borrow.Author.Needs.{needs}
-use Rattle.specimens.proofs.print_bytes.Statement.{statement}
-use Rattle.specimens.proofs.print_bytes.Tie as tie
+use Rattle.printing.proofs.line.Statement.{statement}
+use Rattle.printing.proofs.line.Tie as tie
 
 abbrev Inv-loop : tie.InvT-loop
-Inv-loop s i₀ i = i ≤ length s
+Inv-loop bytes i₀ i = i ≤ length bytes
 
 abbrev μ-loop : tie.MeasureT-loop
-μ-loop s i₀ i = length s - i
+μ-loop bytes i₀ i = length bytes - i
 
-pub print-bytes-spec : {M : Type 1} → statement M
-print-bytes-spec =
+pub line-spec : {M : Type 1} → statement M
+line-spec =
     tie.close
     (tie.spec
     Inv-loop
     μ-loop
     (λ c. search needs)
     (λ c. search needs)
-    (λ c κs. search needs)
     (λ c. search needs)
+    (λ c κs. search needs)
     (λ c. search needs)
     (λ c. search needs)
     (λ c. search needs))

@@ -1,0 +1,68 @@
+// A line for each answer.
+
+use printing::number;
+use printing::refusal;
+use printing::text;
+use tag::CountAnswer;
+use tag::JudgeAnswer;
+use tag::ReadAnswer;
+use tag::Report;
+use tag::What;
+
+// The line's beginning.
+pub fn name(s: &[u8]) {
+    text(s);
+    text(b": ");
+}
+
+fn message(report: Report, shown: &[u8]) {
+    text(b"message at ");
+    number(report.address.0);
+    text(b", ");
+    number(report.length);
+    if report.interrupted {
+        text(b" bytes, interrupted: ");
+    } else {
+        text(b" bytes: ");
+    }
+    printing::line(shown);
+}
+
+fn report(report: Report, shown: &[u8]) {
+    let what = report.what;
+    match what {
+        What::Message => message(report, shown),
+        What::Empty => text(b"empty\n"),
+        What::BeingWritten => text(b"being written\n"),
+    }
+}
+
+pub fn reading(answer: ReadAnswer, shown: &[u8]) {
+    match answer {
+        ReadAnswer::Refused(r) => refusal(r),
+        ReadAnswer::Reads(p) => report(p, shown),
+    }
+}
+
+pub fn count(answer: CountAnswer) {
+    match answer {
+        CountAnswer::Refused(r) => refusal(r),
+        CountAnswer::Count(n) => printing::commands(n),
+    }
+}
+
+pub fn verdict(answer: JudgeAnswer) {
+    match answer {
+        JudgeAnswer::Refused(r, position) => {
+            text(b"refused ");
+            number(r as usize);
+            text(b" at ");
+            number(position);
+            text(b"\n");
+        }
+        JudgeAnswer::Accepted(n) => {
+            text(b"accepted, ");
+            printing::commands(n);
+        }
+    }
+}

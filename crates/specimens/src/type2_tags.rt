@@ -1,0 +1,43 @@
+// Type 2 tags of 112 bytes, given by what they hold from the capability container on; all other bytes are 00h.
+
+use crate::print;
+use tag::slices;
+
+fn lay(front: &[u8], image: &mut [u8]) {
+    if image.len() < 12 {
+        return;
+    }
+    if image.len() - 12 < front.len() {
+        return;
+    }
+    slices::store(front, 12, image);
+}
+
+fn read_on(image: &[u8], gathered: &mut [u8]) {
+    let answer = type2::read::read(image, gathered);
+    let shown = type2::read::shown(image, gathered, answer);
+    print::reading(answer, shown);
+}
+
+pub fn read(name: &[u8], front: &[u8]) {
+    let mut image = [0u8; 112];
+    lay(front, &mut image);
+    print::name(name);
+    let mut gathered = [0u8; 64];
+    read_on(&image, &mut gathered);
+}
+
+pub fn write(name: &[u8], front: &[u8], message: &[u8]) {
+    let mut image = [0u8; 112];
+    lay(front, &mut image);
+    print::name(name);
+    let mut list = [0u8; 1024];
+    print::count(type2::write::write(&image, message, &mut list));
+}
+
+pub fn judge(name: &[u8], front: &[u8], message: &[u8], list: &[u8]) {
+    let mut image = [0u8; 112];
+    lay(front, &mut image);
+    print::name(name);
+    print::verdict(type2_judge::judge::judge(&image, message, list));
+}

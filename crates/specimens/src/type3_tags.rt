@@ -1,0 +1,28 @@
+// Type 3 tags of fourteen blocks, given by their attribute block; all other bytes are 00h.
+
+use crate::print;
+use tag::slices;
+
+const NUMBER: [u8; 8] = [1, 2, 3, 4, 5, 6, 7, 8];
+
+fn lay(attributes: &[u8], image: &mut [u8]) {
+    if image.len() < attributes.len() {
+        return;
+    }
+    slices::store(attributes, 0, image);
+}
+
+pub fn write(name: &[u8], attributes: &[u8], message: &[u8]) {
+    let mut image = [0u8; 224];
+    lay(attributes, &mut image);
+    print::name(name);
+    let mut list = [0u8; 1024];
+    print::count(type3::write::write(&image, message, &NUMBER, &mut list));
+}
+
+pub fn judge(name: &[u8], attributes: &[u8], message: &[u8], list: &[u8]) {
+    let mut image = [0u8; 224];
+    lay(attributes, &mut image);
+    print::name(name);
+    print::verdict(type3_judge::judge::judge(&image, message, &NUMBER, list));
+}

@@ -1,0 +1,58 @@
+-- A buffer that is filled from its front: what is laid so far, and then what was there before. One more byte, and a part that
+-- was lent and came back with more at its front.
+-- Assumes nothing.
+use mathlib.Core.Path.{_≡_, sym, ap, _∙_}
+use mathlib.Core.List.{List, [], _∷_, _++_, append-nil, append-assoc}
+use Prim.Native.Nat.{ℕ, suc, _+_, _-_, _<_, _≤_}
+use native.Mathlib.Numerals.{add-one}
+use native.Mathlib.Omega.{arith}
+use borrow.Rule.Slice.PartMut.{putMid}
+use lib.ListN.{length, take, drop, set, length-append, length-take, length-drop, take-append-drop, drop-of-length-le}
+use lib.Seq.{take-length, drop-cons, set-at, take-at, drop-at, drop-drop, drop-append-le, append-snoc}
+
+-- ---- a part that was lent
+
+-- of a list cut at m, the front without its first k, and the back, are the list without its first k
+rejoin : (k m : ℕ) (l : List ℕ) → k ≤ m → m ≤ length l → drop k (take m l) ++ drop m l ≡ drop k l
+rejoin k m l h g =
+    let e : k ≤ length (take m l) = simp length-take (omega arith) in
+    sym (drop-append-le k (take m l) (drop m l) e) ∙ ap (drop k) (take-append-drop m l)
+
+-- the part from a to e was lent, and came back as z, with y for its first k bytes
+pub lent : (xs y z : List ℕ) (a e k : ℕ) → a + k ≤ e → e ≤ length xs → z ≡ y ++ drop k (take (e - a) (drop a xs))
+    → putMid a (e - a) xs z ≡ take a xs ++ (y ++ drop (a + k) xs)
+lent xs y z a e k h g q =
+    let f : k ≤ e - a = omega arith in
+    let s : e - a ≤ length (drop a xs) = simp length-drop (omega arith) in
+    rw (q, append-assoc, rejoin k (e - a) (drop a xs) f s, drop-drop k a xs)
+
+-- ---- xs has p laid over t
+
+module _ (xs p t : List ℕ) (a : ℕ) (laid : xs ≡ p ++ drop a t) (far : length p ≡ a) where
+  -- k bytes more, y
+  pub lay-more : (y : List ℕ) (k : ℕ) → take a xs ++ (y ++ drop (a + k) xs) ≡ (p ++ y) ++ drop (a + k) t
+  lay-more y k =
+      rw (laid, take-at p (drop a t) a far, ← drop-drop k a (p ++ drop a t), drop-at p (drop a t) a far, drop-drop k a t, append-assoc)
+
+  -- by a part that was lent
+  pub lay-part : (y z : List ℕ) (e k : ℕ) → a + k ≤ e → e ≤ length xs
+      → z ≡ y ++ drop k (take (e - a) (drop a xs)) → putMid a (e - a) xs z ≡ (p ++ y) ++ drop (a + k) t
+  lay-part y z e k h g r = lent xs y z a e k h g r ∙ lay-more y k
+
+  pub lay-byte : (v : ℕ) → a < length t → set xs a v ≡ (p ++ (v ∷ [])) ++ drop (a + 1) t
+  lay-byte v l = rw (laid, drop-cons t a 0 l, set-at p _ _ v a far, add-one a) (sym (append-snoc p v (drop (suc a) t)))
+
+pub lay-two : (xs p t : List ℕ) (a v w : ℕ) → xs ≡ p ++ drop a t → length p ≡ a → a + 1 < length t
+    → set (set xs a v) (a + 1) w ≡ (p ++ (v ∷ w ∷ [])) ++ drop (a + 2) t
+lay-two xs p t a v w q e l =
+    let two : a + 1 + 1 ≡ a + 2 = omega arith in
+    lay-byte (set xs a v) (p ++ (v ∷ [])) t (a + 1) (lay-byte xs p t a q e v (omega arith)) (omega (arith, length-append p (v ∷ []))) w l
+    ∙ rw (append-assoc p (v ∷ []) (w ∷ []), two)
+
+-- ---- all of a buffer
+
+-- a list copied over another of the same length
+pub copied : (xs ys : List ℕ) → length ys ≡ length xs → take (length xs) xs ++ drop (length xs) ys ≡ xs
+copied xs ys e =
+    let h : length ys ≤ length xs = omega arith in
+    rw (take-length xs, drop-of-length-le ys h) (append-nil xs)

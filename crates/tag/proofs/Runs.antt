@@ -1,0 +1,55 @@
+-- Runs of numbers: one more at the end, and parts of them; and the bytes of a list by their places.
+-- Assumes nothing.
+use mathlib.Core.Path.{_≡_, refl, ap, _∙_}
+use mathlib.Core.List.{List, [], _∷_, _++_, map}
+use Prim.Native.Nat.{ℕ, zero, suc, _+_, _-_, min}
+use native.Mathlib.Numerals.{add-one}
+use native.Mathlib.Omega.{arith}
+use lib.ListN.{length, take, drop}
+use lib.Seq.{take-all, take-nil, drop-nil}
+use Rattle.tag.specs.Bytes.{byte, run}
+use Rattle.tag.proofs.Addresses.{map-run}
+
+run-snoc : (n s : ℕ) → run s (suc n) ≡ run s n ++ ((s + n) ∷ [])
+run-snoc zero s = let e : s + 0 ≡ s = omega arith in rw e
+run-snoc (suc n) s = let e : s + suc n ≡ suc s + n = omega arith in rw e (ap (λ r. s ∷ r) (run-snoc n (suc s)))
+
+pub run-more : (s n : ℕ) → run s (n + 1) ≡ run s n ++ ((s + n) ∷ [])
+run-more s n = rw (add-one n) (run-snoc n s)
+
+-- a list is its bytes
+pub bytes-of : (l : List ℕ) (n : ℕ) → length l ≡ n → map (byte l) (run 0 n) ≡ l
+bytes-of l n e = map-run n 0 l (omega arith) ∙ take-all n l (omega arith)
+
+-- ---- cut
+
+take-of-run : (k n s : ℕ) → take n (run s k) ≡ run s (min n k)
+take-of-run zero n s = let e : min n 0 ≡ 0 = omega arith in rw e (take-nil n)
+take-of-run (suc k) zero s = let e : min 0 (suc k) ≡ 0 = omega arith in rw e
+take-of-run (suc k) (suc n) s = let e : min (suc n) (suc k) ≡ suc (min n k) = omega arith in rw e (ap (λ r. s ∷ r) (take-of-run k n (suc s)))
+
+drop-of-run : (k n s : ℕ) → drop n (run s k) ≡ run (s + n) (k - n)
+drop-of-run zero n s = let e : 0 - n ≡ 0 = omega arith in rw e (drop-nil n)
+drop-of-run (suc k) zero s =
+    let e : suc k - 0 ≡ suc k = omega arith in
+    let f : s + 0 ≡ s = omega arith in
+    rw (e, f)
+drop-of-run (suc k) (suc n) s =
+    let e : suc k - suc n ≡ k - n = omega arith in
+    let f : s + suc n ≡ suc s + n = omega arith in
+    rw (e, f) (drop-of-run k n (suc s))
+
+pub map-take : {A B : Type 0} (f : A → B) (n : ℕ) (xs : List A) → take n (map f xs) ≡ map f (take n xs)
+map-take f zero xs = refl
+map-take f (suc n) [] = refl
+map-take f (suc n) (x ∷ xs) = ap (λ r. f x ∷ r) (map-take f n xs)
+
+pub map-drop : {A B : Type 0} (f : A → B) (n : ℕ) (xs : List A) → drop n (map f xs) ≡ map f (drop n xs)
+map-drop f zero xs = refl
+map-drop f (suc n) [] = refl
+map-drop f (suc n) (x ∷ xs) = map-drop f n xs
+
+-- of what is made of a run, w past the first d
+pub run-part : {B : Type 0} (f : ℕ → B) (s k d w : ℕ) → take w (drop d (map f (run s k))) ≡ map f (run (s + d) (min w (k - d)))
+run-part f s k d w =
+    rw (map-drop f d (run s k), map-take f w (drop d (run s k)), drop-of-run k d s) (ap (map f) (take-of-run (k - d) w (s + d)))
