@@ -44,7 +44,7 @@ fn run_c(name: &str, source: &Path) -> String {
 #[test]
 fn rattle_lines_are_the_crate() {
     let source = fs::read_to_string(top().join("crates/first_use/src/lib.rt")).unwrap();
-    assert_eq!(shown("rust,ignore"), source);
+    assert_eq!(shown("rattle"), source);
 }
 
 /// The lines stand in a function that is handed a tag and a message; `send` prints.
