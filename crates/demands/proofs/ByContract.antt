@@ -15,8 +15,8 @@ use Rattle.tag.specs.declared.ModelAnswer.the-variants as storing
 use Rattle.tag.specs.Plan.{list}
 use Rattle.tag.specs.TagType.{TagType, Output, withheld, output, outputInto, fitted, writing, written, writeBy, write, pieces, commands}
 use Rattle.tag.specs.Judge.{accepted, judged}
-use Rattle.tag.specs.Model.{stored, model, imageAfter}
-use Rattle.tag.specs.Answers.{uncounted, counts, countOf, countAs, verdictAs, storing, storingOf, modelAs}
+use Rattle.tag.specs.Model.{Modelled, unstored, stored, model, imageAfter}
+use Rattle.tag.specs.Answers.{uncounted, counts, countOf, countAs, verdictAs, unstoring, storing, storingOf, modelAs}
 use Rattle.tag.proofs.Logic.{nope}
 use Rattle.demands.specs.Demand3.{cutOf, ourBytes, ourImage, Demand3}
 use Rattle.demands.specs.ByContract.{Wrote, Judged, Took, Code3}
@@ -30,6 +30,10 @@ accepted-is (verdict.Accepted k) n e = let q : k ≡ n = cc in ap verdict.Accept
 stored-is : (r : model-answer.ModelAnswer) → modelAs r ≡ storing → r ≡ storing.Stored
 stored-is (storing.Refused f) e = absurd (nope (cc))
 stored-is storing.Stored e = refl
+
+refused-same : (o : Modelled) (j : List ℕ) (f : ℕ) → unstoring f ≡ storingOf o → imageAfter j o ≡ j
+refused-same (unstored r) j f e = refl
+refused-same (stored k) j f e = absurd (nope (cc))
 
 counted-is : (r : count.CountAnswer) (n : ℕ) → countAs r ≡ counts n → r ≡ counted.Count n
 counted-is (counted.Refused f) n e = absurd (nope (cc))
@@ -73,13 +77,15 @@ module _ (T : TagType) (i m : List ℕ) (d : Demand3 T i m) (w : writing T i m �
 
     afresh : k ≤ n → (buffer out : List ℕ) (r : count.CountAnswer) → length (ourBytes T (cutOf T i bytes k) m) ≤ length buffer
         → Wrote T (cutOf T i bytes k) m buffer r out
-        → ((c : ℕ) × (r ≡ counted.Count c)) × (ourImage T (cutOf T i bytes k) m ≡ ourImage T i m) × (take (length (ourBytes T (cutOf T i bytes k) m)) out ≡ ourBytes T (cutOf T i bytes k) m)
+        → (r ≡ counted.Count (length (list ((T .plan) (cutOf T i bytes k) m) (cutOf T i bytes k))))
+        × (ourImage T (cutOf T i bytes k) m ≡ ourImage T i m)
+        × (take (length (ourBytes T (cutOf T i bytes k) m)) out ≡ ourBytes T (cutOf T i bytes k) m)
     afresh l buffer out r room (a, b) =
         let x = cutOf T i bytes k in
         let (u, v) = d .restart bytes n (sym e) k l in
         let o : write T (length buffer) x m ≡ output (length (list ((T .plan) x m) x)) (ourBytes T x m)
         = ap (writeBy T (length buffer) x) u ∙ rw (le-leb (length (ourBytes T x m)) (length buffer) room) in (
-          (length (list ((T .plan) x m) x), counted-is r (length (list ((T .plan) x m) x)) (a ∙ ap countOf o)),
+          counted-is r (length (list ((T .plan) x m) x)) (a ∙ ap countOf o),
           v,
           ap (take (length (ourBytes T x m))) (b ∙ ap (outputInto buffer) o) ∙ front-of (ourBytes T x m) buffer,
         )
@@ -91,5 +97,6 @@ module _ (T : TagType) (i m : List ℕ) (d : Demand3 T i m) (w : writing T i m �
     refuses = λ bytes f p e. d .first-fault bytes f p (sym e);
     ours = our-answer;
     followed = follow;
+    unchanged = λ j command f k t. t .1 ∙ refused-same (model T j command) j f (t .0);
     restart = afresh;
   }

@@ -12,6 +12,7 @@ use Rattle.tag.specs.declared.JudgeAnswer as judge
 use Rattle.tag.specs.declared.JudgeAnswer.the-variants as verdict
 use Rattle.tag.specs.declared.ModelAnswer as model-answer
 use Rattle.tag.specs.declared.ModelAnswer.the-variants as storing
+use Rattle.tag.specs.Plan.{list}
 use Rattle.tag.specs.TagType.{TagType, outputInto, write, pieces, commands}
 use Rattle.tag.specs.Judge.{judged}
 use Rattle.tag.specs.Model.{model, imageAfter}
@@ -25,7 +26,7 @@ Wrote T i m buffer r out = (countAs r ≡ countOf (write T (length buffer) i m))
 
 -- `judge`, given a tag, a message and a list, answers r
 abbrev pub Judged : TagType → List ℕ → List ℕ → List ℕ → judge.JudgeAnswer → Type 0
-Judged T i m list r = verdictAs r ≡ judged T i m list
+Judged T i m bytes r = verdictAs r ≡ judged T i m bytes
 
 -- `model`, given a tag and a command, answers r and leaves the tag as j
 abbrev pub Took : TagType → List ℕ → List ℕ → model-answer.ModelAnswer → List ℕ → Type 0
@@ -33,17 +34,22 @@ Took T i command r j = (modelAs r ≡ storingOf (model T i command)) × (j ≡ i
 
 pub record Code3 (T : TagType) (i m : List ℕ) : Type 0 where
   -- the judge accepts just the lists for which the three things hold, with the number of their commands
-  pub accepts : (list : List ℕ) (n : ℕ) → Judged T i m list (verdict.Accepted n) → (n ≡ length (commands T i list)) × Three (task T i m) (commands T i list)
-  pub accepted : (list : List ℕ) (r : judge.JudgeAnswer) → Judged T i m list r → Three (task T i m) (commands T i list) → r ≡ verdict.Accepted (length (commands T i list))
+  pub accepts : (bytes : List ℕ) (n : ℕ) → Judged T i m bytes (verdict.Accepted n) → (n ≡ length (commands T i bytes)) × Three (task T i m) (commands T i bytes)
+  pub accepted : (bytes : List ℕ) (r : judge.JudgeAnswer) → Judged T i m bytes r → Three (task T i m) (commands T i bytes) → r ≡ verdict.Accepted (length (commands T i bytes))
   -- and else reports the first fault
-  pub refuses : (list : List ℕ) (f p : ℕ) → Judged T i m list (verdict.Refused f p) → First (task T i m) (commands T i list) f p
+  pub refuses : (bytes : List ℕ) (f p : ℕ) → Judged T i m bytes (verdict.Refused f p) → First (task T i m) (commands T i bytes) f p
   -- what is written is accepted, with the count that was answered
   pub ours : (buffer out : List ℕ) (n : ℕ) → Wrote T i m buffer (counted.Count n) out
       → (r : judge.JudgeAnswer) → Judged T i m (take (length (ourBytes T i m)) out) r → r ≡ verdict.Accepted n
   -- the model takes cut k of an accepted list to cut k + 1 by its command k
-  pub followed : (list : List ℕ) (n : ℕ) → Judged T i m list (verdict.Accepted n) → (k : ℕ) → k < n
-      → (r : model-answer.ModelAnswer) (j : List ℕ) → Took T (cutOf T i list k) (getD (pieces T list) k []) r j → (r ≡ storing.Stored) × (j ≡ cutOf T i list (suc k))
-  -- from every cut of an accepted list, a buffer that is long enough gets a list that ends in the image that ours gives
-  pub restart : (list : List ℕ) (n : ℕ) → Judged T i m list (verdict.Accepted n) → (k : ℕ) → k ≤ n
-      → (buffer out : List ℕ) (r : count.CountAnswer) → length (ourBytes T (cutOf T i list k) m) ≤ length buffer → Wrote T (cutOf T i list k) m buffer r out
-      → ((c : ℕ) × (r ≡ counted.Count c)) × (ourImage T (cutOf T i list k) m ≡ ourImage T i m) × (take (length (ourBytes T (cutOf T i list k) m)) out ≡ ourBytes T (cutOf T i list k) m)
+  pub followed : (bytes : List ℕ) (n : ℕ) → Judged T i m bytes (verdict.Accepted n) → (k : ℕ) → k < n
+      → (r : model-answer.ModelAnswer) (j : List ℕ) → Took T (cutOf T i bytes k) (getD (pieces T bytes) k []) r j → (r ≡ storing.Stored) × (j ≡ cutOf T i bytes (suc k))
+  -- a call that the model refuses changes nothing
+  pub unchanged : (j command : List ℕ) (f : ℕ) (k : List ℕ) → Took T j command (storing.Refused f) k → k ≡ j
+  -- from every cut of an accepted list, a buffer that is long enough gets our list for that tag, with its count, and that list
+  -- ends in the image that ours gives
+  pub restart : (bytes : List ℕ) (n : ℕ) → Judged T i m bytes (verdict.Accepted n) → (k : ℕ) → k ≤ n
+      → (buffer out : List ℕ) (r : count.CountAnswer) → length (ourBytes T (cutOf T i bytes k) m) ≤ length buffer → Wrote T (cutOf T i bytes k) m buffer r out
+      → (r ≡ counted.Count (length (list ((T .plan) (cutOf T i bytes k) m) (cutOf T i bytes k))))
+      × (ourImage T (cutOf T i bytes k) m ≡ ourImage T i m)
+      × (take (length (ourBytes T (cutOf T i bytes k) m)) out ≡ ourBytes T (cutOf T i bytes k) m)
