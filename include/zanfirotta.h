@@ -37,7 +37,7 @@ enum zan_refusal {
     ZAN_DATA_AREA = 5,         /* data area reaches past the image */
     ZAN_CONTROL_TLV = 6,       /* control TLV with a length other than 3 or a reserved nibble */
     ZAN_LENGTH = 7,            /* TLV runs past the data area or has a bad length form;
-                                  Type 3: Ln over 16 * Nmaxb */
+                                  Type 3: Ln over 16 * Nmaxb, whatever WriteFlag says */
     ZAN_NO_MESSAGE_TLV = 8,    /* Type 2: no message TLV */
     ZAN_EMPTY_MESSAGE = 9,     /* message to write has length 0 */
     ZAN_NOT_WRITABLE = 10,     /* tag not writable */

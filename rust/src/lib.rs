@@ -91,7 +91,8 @@ pub enum RefusalNumber {
     DataArea = 5,
     /// A control TLV has a length other than 3 or a reserved nibble.
     ControlTlv = 6,
-    /// A TLV runs past the data area or has a bad length form; Type 3: Ln over 16·Nmaxb.
+    /// A TLV runs past the data area or has a bad length form; Type 3: Ln over 16·Nmaxb,
+    /// whatever WriteFlag says.
     Length = 7,
     /// Type 2: no message TLV.
     NoMessageTlv = 8,
@@ -101,7 +102,7 @@ pub enum RefusalNumber {
     NotWritable = 10,
     /// The message is too long for the tag.
     MessageTooLong = 11,
-    /// The list buffer is shorter than the list.
+    /// The buffer is shorter than the list, or than the bytes of the command.
     ListBuffer = 12,
     /// The gathering buffer is shorter than an interrupted message.
     GatheringBuffer = 13,

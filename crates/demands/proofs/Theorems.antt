@@ -1,4 +1,5 @@
--- The theorems, for both types of tag. What each says is in `specs/Demand2.antt` and `specs/Demand3.antt`.
+-- The theorems, for both types of tag. What each says is in `specs/Demand2.antt`, `specs/Demand3.antt`
+-- and `specs/ByContract.antt`.
 -- Assumes nothing.
 use mathlib.Core.Path.{_≡_, refl}
 use mathlib.Core.List.{List}

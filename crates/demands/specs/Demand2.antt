@@ -1,6 +1,6 @@
 -- Demand 2: reading, writing and the codec, as theorems about the definitions. That reading answers as the documents say and
 -- that writing gives exactly these commands is what the definitions are; what follows from them is stated here.
--- This file states; the proofs of the same names prove.
+-- This file states; `proofs/Theorems.antt` proves.
 -- Assumes nothing.
 use mathlib.Core.Path.{_≡_}
 use mathlib.Core.Bool.{true, false}

@@ -18,7 +18,7 @@ fn print_byte(b: u8, after: u8) {
     io::write_all(STDOUT_FILENO, &text);
 }
 
-// The bytes with spaces between them, and the line's end.
+// The bytes with spaces between them, and the line's end; nothing for no bytes.
 pub fn line(bytes: &[u8]) {
     let mut i = 0usize;
     while i < bytes.len() {

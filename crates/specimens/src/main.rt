@@ -1,5 +1,5 @@
-// Runs the specimens that are not proved as a table, and the detection examples of source document 001, appendix C, through
-// the code, and prints one line each.
+// Runs through the code the specimens that are not marked P, the detection examples of source document 001, appendix C, empty
+// lists, and foreign lists with each fault from 20 to 23, and prints one line each.
 
 mod print;
 mod type2_tags;

@@ -88,7 +88,7 @@ fn back(image: &[u8], list: &[Command]) -> Vec<Command> {
     back
 }
 
-/// A list that mostly is as good as ours; `width` blocks go in a command, `blocks` in a message.
+/// A list that mostly is as good as ours; `width` blocks go in a command.
 fn good(rng: &mut Rng, image: &[u8], message: &[u8], width: usize) -> Vec<Command> {
     let mut list = ours(image, message);
     if list.is_empty() {

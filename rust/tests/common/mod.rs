@@ -15,10 +15,6 @@ use crate::reference::Refusal;
 pub struct Rng(u64);
 
 impl Rng {
-    pub fn new(seed: u64) -> Self {
-        Rng(seed)
-    }
-
     /// The generator of case `index` of the test with this seed.
     pub fn case(seed: u64, index: u64) -> Self {
         let mut rng = Rng(seed.wrapping_mul(0x2545_F491_4F6C_DD1D) ^ index);

@@ -4,7 +4,7 @@ mod codec;
 mod list;
 mod tag;
 
-pub use codec::{decode, encode, model, Command};
+pub use codec::{decode, encode, model};
 pub use list::{judge, write};
 pub use tag::{read, room};
 

@@ -6,7 +6,7 @@ mod tag;
 
 pub use codec::{decode, encode, model, Command};
 pub use list::{command_len, judge, write};
-pub use tag::{checksum, read, room, Attributes};
+pub use tag::{read, room};
 
 const BLOCK: usize = 16;
 const MAX_IMAGE: usize = 4096;
