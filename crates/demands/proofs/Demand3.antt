@@ -12,7 +12,7 @@ use Rattle.tag.specs.Reading.{Reading, unreadable, reads, broken}
 use Rattle.tag.specs.Stores.{Store, Command, ill, stores, puts, done}
 use Rattle.tag.specs.Plan.{newImage, list}
 use Rattle.tag.specs.TagType.{TagType, held, writing, written, pieces, commands}
-use Rattle.tag.specs.Judge.{Task, accepted, judge, judgeBy, judged}
+use Rattle.tag.specs.Judge.{Task, accepted, judge, judgeBy, judged, task}
 use Rattle.tag.specs.Model.{stored, model, imageAfter}
 use Rattle.tag.specs.Cuts.{Ready, Safe, as-none, as-new, as-old, Three}
 use Rattle.tag.proofs.Logic.{nope}
@@ -22,7 +22,7 @@ use Rattle.tag.proofs.Judge.{accepts-exactly, refused-first, cut-done}
 use Rattle.tag.proofs.Writes.{list-accepted, list-ends}
 use Rattle.tag.proofs.Pieces.{Piece, pieces-joined}
 use Rattle.tag.proofs.Laws.{Laws, Sent, Near, ready-written, ready-reads}
-use Rattle.demands.specs.Demand3.{task, cutOf, ourBytes, ourImage, Calls, end, give, refuse, imageOf, Demand3}
+use Rattle.demands.specs.Demand3.{cutOf, ourBytes, ourImage, Calls, end, give, refuse, imageOf, Demand3}
 
 -- a safe tag reads
 safe-readable : (t : Task) (j : List ℕ) → Safe t j → (t .held) j ≡ broken → ⊥

@@ -14,11 +14,11 @@ use Rattle.tag.specs.declared.ModelAnswer as model-answer
 use Rattle.tag.specs.declared.ModelAnswer.the-variants as storing
 use Rattle.tag.specs.Plan.{list}
 use Rattle.tag.specs.TagType.{TagType, outputInto, write, pieces, commands}
-use Rattle.tag.specs.Judge.{judged}
+use Rattle.tag.specs.Judge.{task, judged}
 use Rattle.tag.specs.Model.{model, imageAfter}
 use Rattle.tag.specs.Answers.{countOf, countAs, verdictAs, storingOf, modelAs}
 use Rattle.tag.specs.Cuts.{Three, First}
-use Rattle.demands.specs.Demand3.{task, cutOf, ourBytes, ourImage}
+use Rattle.demands.specs.Demand3.{cutOf, ourBytes, ourImage}
 
 -- `write`, given a tag, a message and a list buffer, answers r and leaves the buffer as out
 abbrev pub Wrote : TagType → List ℕ → List ℕ → List ℕ → count.CountAnswer → List ℕ → Type 0

@@ -10,13 +10,9 @@ use lib.ListN.{length, getD, take}
 use Rattle.tag.specs.Stores.{cut}
 use Rattle.tag.specs.Plan.{list}
 use Rattle.tag.specs.TagType.{TagType, writing, written, listBytes, pieces, commands}
-use Rattle.tag.specs.Judge.{Task, taskOf, accepted, refused, judged}
+use Rattle.tag.specs.Judge.{task, accepted, refused, judged}
 use Rattle.tag.specs.Model.{model, unstored, stored, imageAfter}
 use Rattle.tag.specs.Cuts.{Three, First}
-
--- protected and well formed go by the tag handed in and the new message
-abbrev pub task : TagType → List ℕ → List ℕ → Task
-task T i m = taskOf T i m ((T .plan) i m)
 
 -- cut k of a list's bytes
 abbrev pub cutOf : TagType → List ℕ → List ℕ → ℕ → List ℕ

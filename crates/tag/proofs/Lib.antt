@@ -15,6 +15,7 @@ pub mod Picks
 pub mod Chunks
 pub mod Counts
 pub mod Pieces
+pub mod Turns
 pub mod Laws
 pub mod Same
 pub mod Storing

@@ -70,6 +70,10 @@ judge t n j (c ∷ cs) = elim (fault t j c) [ zero ↦ judge t (suc n) (done j c
 abbrev pub taskOf : TagType → List ℕ → List ℕ → Plan → Task
 taskOf T i m p = record { held = held T; start = i; wanted = m; kept = protected p }
 
+-- protected and well formed go by the tag handed in and the new message
+abbrev pub task : TagType → List ℕ → List ℕ → Task
+task T i m = taskOf T i m ((T .plan) i m)
+
 -- refusals 1 to 11 first, with position 0; then the list's commands
 abbrev pub judgeBy : TagType → List ℕ → List ℕ → List ℕ → Writing → Verdict
 judgeBy T i m bytes (unwritten r) = refused r 0

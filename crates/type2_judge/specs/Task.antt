@@ -10,11 +10,7 @@ use Rattle.tag.specs.Bytes.{byte}
 use Rattle.tag.specs.Plan.{protected}
 use Rattle.tag.specs.TagType.{held, written, writing}
 use Rattle.tag.specs.Answers.{oldHeld}
-use Rattle.tag.specs.Judge.{Task, taskOf}
 use Rattle.type2.specs.Type2.{type2}
-
-abbrev pub taskFor : List ℕ → List ℕ → Task
-taskFor i m = taskOf type2 i m ((type2 .plan) i m)
 
 -- refusals 1 to 11 are not given
 pub record Writable (i m : List ℕ) : Type 0 where

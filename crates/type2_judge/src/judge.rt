@@ -16,14 +16,14 @@ ghost use lib.ListN.{length, replicate};
 ghost use Rattle.tag.specs.Checks.{fine, firstOf};
 ghost use Rattle.tag.specs.TagType.{commands};
 ghost use Rattle.tag.specs.Answers.{verdictAs};
-ghost use Rattle.tag.specs.Judge.{judge, judged};
+ghost use Rattle.tag.specs.Judge.{judge, judged, task};
 ghost use Rattle.tlv.specs.Views.{ahead};
 ghost use Rattle.tlv_tag.specs.Space.{Room};
 ghost use Rattle.type2.specs.Memory.{memory};
 ghost use Rattle.type2.specs.Type2.{type2};
 ghost use Rattle.type2.specs.Views.{InsideArea};
 ghost use Rattle.type2.specs.Table.{Clear};
-ghost use Rattle.type2_judge.specs.Task.{taskFor, Writable, Marks, Prepared};
+ghost use Rattle.type2_judge.specs.Task.{Writable, Marks, Prepared};
 
 // With a copy of the tag to store the commands in.
 fn judge_copy(
@@ -37,7 +37,7 @@ fn judge_copy(
     gathered: &mut [u8],
 ) -> JudgeAnswer
     requires { ⌜ Prepared (now image) (now message) (now set) (now old) had × (length (now work) ≡ length (now image)) × (length (now gathered) ≡ 1024) ⌝ }
-    ensures { λ r. ⌜ verdictAs r ≡ judge (taskFor (now (image .entry)) (now (message .entry))) 0 (now (image .entry)) (commands type2 (now (image .entry)) (now (list .entry))) ⌝ }
+    ensures { λ r. ⌜ verdictAs r ≡ judge (task type2 (now (image .entry)) (now (message .entry))) 0 (now (image .entry)) (commands type2 (now (image .entry)) (now (list .entry))) ⌝ }
 {
     slices::store(image, 0, work);
     steps::judge_list(image, message, list, set, old, had, work, gathered)
@@ -52,7 +52,7 @@ fn judge_from(
     had: bool,
 ) -> JudgeAnswer
     requires { ⌜ Prepared (now image) (now message) (now set) (now old) had ⌝ }
-    ensures { λ r. ⌜ verdictAs r ≡ judge (taskFor (now (image .entry)) (now (message .entry))) 0 (now (image .entry)) (commands type2 (now (image .entry)) (now (list .entry))) ⌝ }
+    ensures { λ r. ⌜ verdictAs r ≡ judge (task type2 (now (image .entry)) (now (message .entry))) 0 (now (image .entry)) (commands type2 (now (image .entry)) (now (list .entry))) ⌝ }
 {
     let mut work = [0u8; 1024];
     let mut gathered = [0u8; 1024];
@@ -77,7 +77,7 @@ fn judge_read(
     gathered: &mut [u8],
 ) -> JudgeAnswer
     requires { ⌜ Writable (now image) (now message) × Marks (now image) (now message) (now set) × (length (now gathered) ≡ 1024) ⌝ }
-    ensures { λ r. ⌜ verdictAs r ≡ judge (taskFor (now (image .entry)) (now (message .entry))) 0 (now (image .entry)) (commands type2 (now (image .entry)) (now (list .entry))) ⌝ }
+    ensures { λ r. ⌜ verdictAs r ≡ judge (task type2 (now (image .entry)) (now (message .entry))) 0 (now (image .entry)) (commands type2 (now (image .entry)) (now (list .entry))) ⌝ }
 {
     let answer = type2::read::read(image, gathered);
     let old = slices::shown(image, gathered, answer);
@@ -86,7 +86,7 @@ fn judge_read(
 
 fn judge_against(image: &[u8], message: &[u8], list: &[u8], set: &[u8]) -> JudgeAnswer
     requires { ⌜ Writable (now image) (now message) × Marks (now image) (now message) (now set) ⌝ }
-    ensures { λ r. ⌜ verdictAs r ≡ judge (taskFor (now (image .entry)) (now (message .entry))) 0 (now (image .entry)) (commands type2 (now (image .entry)) (now (list .entry))) ⌝ }
+    ensures { λ r. ⌜ verdictAs r ≡ judge (task type2 (now (image .entry)) (now (message .entry))) 0 (now (image .entry)) (commands type2 (now (image .entry)) (now (list .entry))) ⌝ }
 {
     let mut gathered = [0u8; 1024];
     judge_read(image, message, list, set, &mut gathered)
@@ -102,7 +102,7 @@ fn judge_marked(
     set: &mut [u8],
 ) -> JudgeAnswer
     requires { ⌜ Writable (now image) (now message) × Room (now image) (now table) (length (now message)) w × (ahead (now table) w ≡ (type2 .plan) (now image) (now message) .addresses) × (now set ≡ replicate 1024 0) ⌝ }
-    ensures { λ r. ⌜ verdictAs r ≡ judge (taskFor (now (image .entry)) (now (message .entry))) 0 (now (image .entry)) (commands type2 (now (image .entry)) (now (list .entry))) ⌝ }
+    ensures { λ r. ⌜ verdictAs r ≡ judge (task type2 (now (image .entry)) (now (message .entry))) 0 (now (image .entry)) (commands type2 (now (image .entry)) (now (list .entry))) ⌝ }
 {
     update::mark_content(w, message.len(), 1, table, set);
     judge_against(image, message, list, set)
@@ -110,7 +110,7 @@ fn judge_marked(
 
 fn judge_space(image: &[u8], message: &[u8], list: &[u8], w: Walk, table: &[u16]) -> JudgeAnswer
     requires { ⌜ Writable (now image) (now message) × Room (now image) (now table) (length (now message)) w × (ahead (now table) w ≡ (type2 .plan) (now image) (now message) .addresses) ⌝ }
-    ensures { λ r. ⌜ verdictAs r ≡ judge (taskFor (now (image .entry)) (now (message .entry))) 0 (now (image .entry)) (commands type2 (now (image .entry)) (now (list .entry))) ⌝ }
+    ensures { λ r. ⌜ verdictAs r ≡ judge (task type2 (now (image .entry)) (now (message .entry))) 0 (now (image .entry)) (commands type2 (now (image .entry)) (now (list .entry))) ⌝ }
 {
     let mut set = [0u8; 1024];
     judge_marked(image, message, list, w, table, &mut set)

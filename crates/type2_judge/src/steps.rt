@@ -9,9 +9,9 @@ ghost use lib.ListN.{length};
 ghost use Rattle.tag.specs.Stores.{done};
 ghost use Rattle.tag.specs.TagType.{commands};
 ghost use Rattle.tag.specs.Answers.{verdictAs};
-ghost use Rattle.tag.specs.Judge.{fault, judge};
+ghost use Rattle.tag.specs.Judge.{fault, judge, task};
 ghost use Rattle.type2.specs.Type2.{type2};
-ghost use Rattle.type2_judge.specs.Task.{taskFor, Prepared};
+ghost use Rattle.type2_judge.specs.Task.{Prepared};
 
 // The fault of one command, 20 to 22, or 0; what a well-formed one stores is stored in `work` in any case.
 pub(crate) fn step(
@@ -25,7 +25,7 @@ pub(crate) fn step(
     gathered: &mut [u8],
 ) -> u8
     requires { ⌜ Prepared (now image) (now message) (now set) (now old) had × (length (now work) ≡ length (now image)) × (length (now gathered) ≡ 1024) ⌝ }
-    ensures is { λ r. ⌜ r ≡ fault (taskFor (now (image .entry)) (now (message .entry))) (now (work .entry)) ((type2 .command) (now (image .entry)) (now (command .entry))) ⌝ }
+    ensures is { λ r. ⌜ r ≡ fault (task type2 (now (image .entry)) (now (message .entry))) (now (work .entry)) ((type2 .command) (now (image .entry)) (now (command .entry))) ⌝ }
     ensures after { λ _. ⌜ now (work .exit) ≡ done (now (work .entry)) ((type2 .command) (now (image .entry)) (now (command .entry))) ⌝ }
 {
     if !model::take_command(work, command) {
@@ -52,7 +52,7 @@ pub(crate) fn judge_list(
     gathered: &mut [u8],
 ) -> JudgeAnswer
     requires { ⌜ Prepared (now image) (now message) (now set) (now old) had × (now work ≡ now image) × (length (now gathered) ≡ 1024) ⌝ }
-    ensures { λ r. ⌜ verdictAs r ≡ judge (taskFor (now (image .entry)) (now (message .entry))) 0 (now (image .entry)) (commands type2 (now (image .entry)) (now (list .entry))) ⌝ }
+    ensures { λ r. ⌜ verdictAs r ≡ judge (task type2 (now (image .entry)) (now (message .entry))) 0 (now (image .entry)) (commands type2 (now (image .entry)) (now (list .entry))) ⌝ }
 {
     let mut at = 0usize;
     let mut n = 0usize;

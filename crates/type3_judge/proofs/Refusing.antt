@@ -11,7 +11,7 @@ use Rattle.tag.specs.Bytes.{byte}
 use Rattle.tag.specs.Checks.{Checked, check, fine, fault, firstOf}
 use Rattle.tag.specs.Reading.{Reading, Answer, heldOf, holds, answerOf, shown}
 use Rattle.tag.specs.TagType.{planned, writingBy, writing, cutUp}
-use Rattle.tag.specs.Judge.{Verdict, refused, judge, judgeBy, judged}
+use Rattle.tag.specs.Judge.{Verdict, refused, judge, judgeBy, judged, task}
 use Rattle.tag.specs.Answers.{heldBy, oldHeld, isMessage}
 use Rattle.type3.specs.Attributes.{nmaxbOf, attributes, attributeChecks, mayWrite}
 use Rattle.type3.specs.Message.{View, refuse, busy, view, viewBy, viewed, withMessage, readingOf, reading}
@@ -19,7 +19,7 @@ use Rattle.type3.specs.Update.{plan}
 use Rattle.type3.specs.Codec.{span}
 use Rattle.type3.specs.Type3.{type3}
 use Rattle.type3.proofs.Shown.{in-place}
-use Rattle.type3_judge.specs.Views.{task, commandFor}
+use Rattle.type3_judge.specs.Views.{commandFor}
 
 -- ---- what a tag holds, by its answer and the part shown
 
@@ -91,6 +91,6 @@ module _ (number i m bytes : List ℕ) where
     judged-long p w l = sym (judged-known e ∙ rw (ne-eqb (length m) 0 p, w, lt-leb (length m) (16 * nmaxbOf i) l))
 
     pub judged-list : (length m ≡ 0 → ⊥) → mayWrite i ≡ true → length m ≤ 16 * nmaxbOf i
-        → judge (task number i m) 0 i (map (commandFor number i) (cutUp span (length bytes) bytes)) ≡ judged (type3 number) i m bytes
+        → judge (task (type3 number) i m) 0 i (map (commandFor number i) (cutUp span (length bytes) bytes)) ≡ judged (type3 number) i m bytes
     unfolding tests
     judged-list p w l = sym (judged-known e ∙ rw (ne-eqb (length m) 0 p, w, le-leb (length m) (16 * nmaxbOf i) l))

@@ -6,18 +6,18 @@ use native.Mathlib.Omega.{arith}
 use borrow.Author.Needs.{needs}
 use lib.ListN.{length}
 use Rattle.tag.specs.TagType.{commands}
-use Rattle.tag.specs.Judge.{judge}
+use Rattle.tag.specs.Judge.{judge, task}
 use Rattle.tag.proofs.Judging.{judge-good, judge-bad}
 use Rattle.type2.specs.Type2.{type2}
-use Rattle.type2_judge.specs.Task.{taskFor}
-use Rattle.type2_judge.proofs.Turns.{rest, rest-none, turn-stop, turn-next, turn-short}
+use Rattle.tag.proofs.Turns.{from, from-end}
+use Rattle.type2_judge.proofs.Turns.{turn-stop, turn-next, turn-short}
 use Rattle.type2_judge.proofs.steps.judge_list.Statement.{statement}
 use Rattle.type2_judge.proofs.steps.judge_list.Tie as tie
 
 abbrev Inv-loop : tie.InvT-loop
 Inv-loop image message list set old had work₀ gathered₀ at₀ n₀ work gathered at n =
     (at ≤ length list) × (n ≤ at) × (length work ≡ length image) × (length gathered ≡ 1024)
-    × (judge (taskFor image message) 0 image (commands type2 image list) ≡ judge (taskFor image message) n work (rest image list at))
+    × (judge (task type2 image message) 0 image (commands type2 image list) ≡ judge (task type2 image message) n work (from type2 image list at))
 
 abbrev μ-loop : tie.MeasureT-loop
 μ-loop image message list set old had work₀ gathered₀ at₀ n₀ work gathered at n = length list - at
@@ -30,7 +30,7 @@ loop-holds c =
       search needs,
       ap length (s .pre .1),
       s .pre .2,
-      ap (λ j. judge (taskFor (a .image .now) (a .message .now)) 0 j (commands type2 (a .image .now) (a .list .now))) (sym (s .pre .1)),
+      ap (λ j. judge (task type2 (a .image .now) (a .message .now)) 0 j (commands type2 (a .image .now) (a .list .now))) (sym (s .pre .1)),
     )
 
 returns : tie.Need-returns Inv-loop μ-loop
@@ -82,16 +82,16 @@ returns-3 c =
     let s = c .before .before .before .before .before .before .before .before .before .before .before .before .before .before .before in
     let a = s .args in
     let l = c .before .before .before .before .before .before .before .loop in
-    let t = taskFor (a .image .now) (a .message .now) in
-    sym (l .inv .4 ∙ ap (judge t (l .n) (l .work)) (rest-none (a .image .now) (a .list .now) (l .at) (omega arith)) ∙ judge-good t (l .n) (l .work) (sym (c .before .before .before .holds .ensures) ∙ c .if3 .taken))
+    let t = task type2 (a .image .now) (a .message .now) in
+    sym (l .inv .4 ∙ ap (judge t (l .n) (l .work)) (from-end type2 (a .image .now) (a .list .now) (l .at) (omega arith)) ∙ judge-good t (l .n) (l .work) (sym (c .before .before .before .holds .ensures) ∙ c .if3 .taken))
 
 returns-4 : tie.Need-returns-4 Inv-loop μ-loop
 returns-4 c =
     let s = c .before .before .before .before .before .before .before .before .before .before .before .before .before .before .before in
     let a = s .args in
     let l = c .before .before .before .before .before .before .before .loop in
-    let t = taskFor (a .image .now) (a .message .now) in
-    sym (l .inv .4 ∙ ap (judge t (l .n) (l .work)) (rest-none (a .image .now) (a .list .now) (l .at) (omega arith)) ∙ judge-bad t (l .n) (l .work) (sym (c .before .before .before .holds .ensures) ∙ c .if3 .left))
+    let t = task type2 (a .image .now) (a .message .now) in
+    sym (l .inv .4 ∙ ap (judge t (l .n) (l .work)) (from-end type2 (a .image .now) (a .list .now) (l .at) (omega arith)) ∙ judge-bad t (l .n) (l .work) (sym (c .before .before .before .holds .ensures) ∙ c .if3 .left))
 
 pub judge-list-spec : {M : Type 1} → statement M
 judge-list-spec =

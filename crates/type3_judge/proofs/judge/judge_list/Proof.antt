@@ -3,10 +3,11 @@ use mathlib.Core.Path.{_≡_, refl, sym, ap, subst, _∙_}
 use Prim.Native.Nat.{_+_, _-_, _≤_}
 use native.Mathlib.Omega.{arith}
 use lib.ListN.{length, take, drop}
-use Rattle.tag.specs.Judge.{judge}
+use Rattle.tag.specs.Judge.{judge, task}
 use Rattle.tag.proofs.Judging.{judge-good, judge-bad}
-use Rattle.type3_judge.specs.Views.{task, Judging}
-use Rattle.type3_judge.proofs.Stepping.{from, goes-on, stops, at-end}
+use Rattle.type3_judge.specs.Views.{Judging}
+use Rattle.tag.proofs.Turns.{from, from-end, turn-stop, turn-next}
+use Rattle.type3.specs.Type3.{type3}
 use borrow.Author.Needs.{needs}
 use Rattle.type3_judge.proofs.judge.judge_list.Statement.{statement}
 use Rattle.type3_judge.proofs.judge.judge_list.Tie as tie
@@ -16,7 +17,7 @@ Inv-loop list image message old had number nbw nmaxb set work₀ at₀ count₀ 
     (at ≤ length list)
     × (count ≤ at)
     × (length work ≡ length work₀)
-    × (judge (task number image message) 0 work₀ (from number image message list 0) ≡ judge (task number image message) count work (from number image message list at))
+    × (judge (task (type3 number) image message) 0 work₀ (from (type3 number) image list 0) ≡ judge (task (type3 number) image message) count work (from (type3 number) image list at))
 
 abbrev μ-loop : tie.MeasureT-loop
 μ-loop list image message old had number nbw nmaxb set work₀ at₀ count₀ work at count = length list - at
@@ -38,7 +39,8 @@ returns c =
     let size : l .at + p .result - l .at ≡ p .result = omega arith in
     sym (
     l .inv .3
-    ∙ stops (a .number .now) (a .image .now) (a .message .now) (a .list .now) (l .count) (l .at) (p .result) (l .work) _ (omega arith) (p .ensures) (ap (λ n. take n (drop (l .at) (a .list .now))) size) (c .before .before .before .step .result) (c .before .before .before .step .ensures .0) (c .if1 .taken)
+    ∙ turn-stop (type3 (a .number .now)) (a .image .now) (a .list .now) (λ b. omega arith) (l .at) (p .result) (omega arith) (p .ensures .cut-is) (p .ensures .rest-is) _
+    (ap (λ n. take n (drop (l .at) (a .list .now))) size) (a .message .now) (l .count) (l .work) (c .before .before .before .step .result) (c .before .before .before .step .ensures .0) (c .if1 .taken)
     )
 
 loop-again : tie.Need-loop-again Inv-loop μ-loop
@@ -52,7 +54,8 @@ loop-again c =
       omega (arith, p .ensures .some-bytes),
       s .ensures .1 .1 ∙ l .inv .2,
       l .inv .3
-          ∙ goes-on (a .number .now) (a .image .now) (a .message .now) (a .list .now) (l .count) (l .at) (p .result) (l .work) _ (omega arith) (p .ensures) (ap (λ n. take n (drop (l .at) (a .list .now))) size) _ (s .result) (s .ensures .0) (c .if1 .left) (s .ensures .1 .0),
+          ∙ turn-next (type3 (a .number .now)) (a .image .now) (a .list .now) (λ b. omega arith) (l .at) (p .result) (omega arith) (p .ensures .cut-is) (p .ensures .rest-is) _
+          (ap (λ n. take n (drop (l .at) (a .list .now))) size) (a .message .now) (l .count) (l .work) (s .result) (s .ensures .0) _ (c .if1 .left) (s .ensures .1 .0),
     )
 
 returns-2 : tie.Need-returns-2 Inv-loop μ-loop
@@ -61,8 +64,8 @@ returns-2 c =
     let l = c .before .before .before .before .loop in
     sym (
     l .inv .3
-    ∙ ap (judge (task (a .number .now) (a .image .now) (a .message .now)) (l .count) (l .work)) (at-end (a .number .now) (a .image .now) (a .message .now) (a .list .now) (l .at) (omega arith))
-    ∙ judge-good (task (a .number .now) (a .image .now) (a .message .now)) (l .count) (l .work) (sym (c .before .reads-as .ensures) ∙ c .if2 .taken)
+    ∙ ap (judge (task (type3 (a .number .now)) (a .image .now) (a .message .now)) (l .count) (l .work)) (from-end (type3 (a .number .now)) (a .image .now) (a .list .now) (l .at) (omega arith))
+    ∙ judge-good (task (type3 (a .number .now)) (a .image .now) (a .message .now)) (l .count) (l .work) (sym (c .before .reads-as .ensures) ∙ c .if2 .taken)
     )
 
 returns-3 : tie.Need-returns-3 Inv-loop μ-loop
@@ -71,8 +74,8 @@ returns-3 c =
     let l = c .before .before .before .before .loop in
     sym (
     l .inv .3
-    ∙ ap (judge (task (a .number .now) (a .image .now) (a .message .now)) (l .count) (l .work)) (at-end (a .number .now) (a .image .now) (a .message .now) (a .list .now) (l .at) (omega arith))
-    ∙ judge-bad (task (a .number .now) (a .image .now) (a .message .now)) (l .count) (l .work) (sym (c .before .reads-as .ensures) ∙ c .if2 .left)
+    ∙ ap (judge (task (type3 (a .number .now)) (a .image .now) (a .message .now)) (l .count) (l .work)) (from-end (type3 (a .number .now)) (a .image .now) (a .list .now) (l .at) (omega arith))
+    ∙ judge-bad (task (type3 (a .number .now)) (a .image .now) (a .message .now)) (l .count) (l .work) (sym (c .before .reads-as .ensures) ∙ c .if2 .left)
     )
 
 pub judge-list-spec : {M : Type 1} → statement M

@@ -2,7 +2,9 @@
 use mathlib.Core.Path.{refl, sym, ap, _∙_}
 use borrow.Author.Tests.{not-true, not-false}
 use Rattle.tag.specs.Stores.{done}
-use Rattle.type3_judge.proofs.Stepping.{command-ill, command-stored, command-inside, step-ill, step-left, step-change, step-misread, step-none}
+use Rattle.tag.proofs.Turns.{step-ill, step-change, step-misread, step-none}
+use Rattle.type3.specs.Type3.{type3}
+use Rattle.type3_judge.proofs.Stepping.{command-ill, command-stored, command-inside}
 use borrow.Author.Needs.{needs}
 use Rattle.type3_judge.proofs.steps.step.Statement.{statement}
 use Rattle.type3_judge.proofs.steps.step.Tie as tie
@@ -12,7 +14,7 @@ returns c =
     let a = c .before .before .before .before .before .before .before .before .args in
     let k = c .before .before .before .before .before .before .before .before .pre in
     let e = command-ill k (a .command .now) (sym (c .before .is-command .ensures) ∙ not-true _ (c .if1 .taken)) in
-    (step-ill k (a .work .now) _ e, (ap (done (a .work .now)) (sym e), refl))
+    (step-ill (type3 (a .number .now)) (a .image .now) (a .message .now) (a .work .now) _ e, (ap (done (a .work .now)) (sym e), refl))
 
 store-blocks-requires : tie.Need-store-blocks-requires
 store-blocks-requires c κs =
@@ -27,9 +29,10 @@ returns-2 c =
     let k = c .before .before .before .before .before .before .before .before .before .before .before .before .before .before .before .pre in
     let q = sym (c .before .before .before .before .before .before .before .before .is-command .ensures) ∙ not-false _ (c .before .before .before .before .before .before .before .if1 .left) in
     let e = command-stored k (a .command .now) q in
-    let d = c .before .before .before .before .before .store-blocks .ensures in (
-      step-change k (a .work .now) _ _ _ e (d .0) (sym (c .before .is-kept .ensures) ∙ not-true _ (c .if2 .taken)),
-      (step-left k (a .work .now) _ _ _ e (d .0), d .1),
+    let d = c .before .before .before .before .before .store-blocks .ensures in
+    let left = d .0 ∙ ap (done (a .work .now)) (sym e) in (
+      step-change (type3 (a .number .now)) (a .image .now) (a .message .now) (a .set .now) (a .old .now) (a .had) (k .marked .marks) (k .old-is) (a .work .now) _ _ _ e left (sym (c .before .is-kept .ensures) ∙ not-true _ (c .if2 .taken)),
+      (left, d .1),
     )
 
 returns-3 : tie.Need-returns-3
@@ -38,9 +41,10 @@ returns-3 c =
     let k = c .before .before .before .before .before .before .before .before .before .before .before .before .before .before .before .before .before .before .pre in
     let q = sym (c .before .before .before .before .before .before .before .before .before .before .before .is-command .ensures) ∙ not-false _ (c .before .before .before .before .before .before .before .before .before .before .if1 .left) in
     let e = command-stored k (a .command .now) q in
-    let d = c .before .before .before .before .before .before .before .before .store-blocks .ensures in (
-      step-misread k (a .work .now) _ _ _ e (d .0) (sym (c .before .before .before .before .is-kept .ensures) ∙ not-false _ (c .before .before .before .if2 .left)) (sym (c .before .reads-safely .ensures) ∙ not-true _ (c .if3 .taken)),
-      (step-left k (a .work .now) _ _ _ e (d .0), d .1),
+    let d = c .before .before .before .before .before .before .before .before .store-blocks .ensures in
+    let left = d .0 ∙ ap (done (a .work .now)) (sym e) in (
+      step-misread (type3 (a .number .now)) (a .image .now) (a .message .now) (a .set .now) (a .old .now) (a .had) (k .marked .marks) (k .old-is) (a .work .now) _ _ _ e left (sym (c .before .before .before .before .is-kept .ensures) ∙ not-false _ (c .before .before .before .if2 .left)) (sym (c .before .reads-safely .ensures) ∙ not-true _ (c .if3 .taken)),
+      (left, d .1),
     )
 
 returns-4 : tie.Need-returns-4
@@ -49,9 +53,10 @@ returns-4 c =
     let k = c .before .before .before .before .before .before .before .before .before .before .before .before .before .before .before .before .before .before .pre in
     let q = sym (c .before .before .before .before .before .before .before .before .before .before .before .is-command .ensures) ∙ not-false _ (c .before .before .before .before .before .before .before .before .before .before .if1 .left) in
     let e = command-stored k (a .command .now) q in
-    let d = c .before .before .before .before .before .before .before .before .store-blocks .ensures in (
-      step-none k (a .work .now) _ _ _ e (d .0) (sym (c .before .before .before .before .is-kept .ensures) ∙ not-false _ (c .before .before .before .if2 .left)) (sym (c .before .reads-safely .ensures) ∙ not-false _ (c .if3 .left)),
-      (step-left k (a .work .now) _ _ _ e (d .0), d .1),
+    let d = c .before .before .before .before .before .before .before .before .store-blocks .ensures in
+    let left = d .0 ∙ ap (done (a .work .now)) (sym e) in (
+      step-none (type3 (a .number .now)) (a .image .now) (a .message .now) (a .set .now) (a .old .now) (a .had) (k .marked .marks) (k .old-is) (a .work .now) _ _ _ e left (sym (c .before .before .before .before .is-kept .ensures) ∙ not-false _ (c .before .before .before .if2 .left)) (sym (c .before .reads-safely .ensures) ∙ not-false _ (c .if3 .left)),
+      (left, d .1),
     )
 
 pub step-spec : {M : Type 1} → statement M
