@@ -1,4 +1,4 @@
--- What the code of Type 3's codec goes by: the opening byte by byte, the three answers of encoding, and decoding in place.
+-- What the code of encoding goes by: the opening byte by byte, how many blocks a command may name, a command written, the three answers.
 -- Assumes nothing.
 use mathlib.Core.Path.{_≡_, refl, sym, ap, _∙_}
 use mathlib.Core.Bool.{Bool, true, false, _&&_, and-false}
@@ -17,12 +17,9 @@ use Rattle.tag.proofs.Same.{same-append}
 use Rattle.tag.proofs.Storing.{sets-append, sets-front}
 use Rattle.type3.specs.Update.{blocksPerCommand}
 use Rattle.type3.specs.Codec.{namesBytes, nameable, wellNamed, opening, commandBytes, encode}
-use Rattle.type3.proofs.Codec.{length-command, length-names}
+use Rattle.type3.proofs.Codec.{length-opening, length-command, length-names}
 
 -- ---- the opening
-
-pub length-opening : (number : List ℕ) → length (opening number) ≡ 4 + length number
-length-opening number = omega (arith, length-append number (0x01 ∷ 0x09 ∷ 0x00 ∷ []))
 
 -- written: 08h, the number, and the bytes 9 to 12
 pub opening-stored : (l number : List ℕ) (count : ℕ) → length number ≡ 8
