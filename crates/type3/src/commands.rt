@@ -168,7 +168,8 @@ fn blocks_fit(bytes: &[u8], nmaxb: usize) -> bool
 {
     let count = bytes[12] as usize;
     let mut blocks = [0usize; 8];
-    names::take(bytes, count, nmaxb, &mut blocks)
+    names::read(bytes, count, &mut blocks);
+    names::nameable(&blocks[..count], nmaxb)
 }
 
 // Whether the bytes are a well-formed command.
