@@ -19,7 +19,7 @@ use Rattle.type3.specs.Attributes.{attributes}
 use Rattle.type3.specs.Update.{blocksFor, blocksPerCommand, closed, plan}
 use Rattle.type3.specs.Codec.{commandBytes, storedBytes, encoded}
 use Rattle.type3.specs.Type3.{type3}
-use Rattle.type3.specs.Views.{attributeBlock, attributeCommand, messageCommand, messageCommands, listAs, Dealt}
+use Rattle.type3.specs.Listing.{attributeBlock, attributeCommand, messageCommand, messageCommands, listAs, Dealt}
 use Rattle.type3.proofs.Update.{HasRoom, inside}
 use Rattle.type3.proofs.Counts.{between-guard, between-on, between-past, between-count}
 use Rattle.type3.proofs.Attributes.{length-attribute-command}

@@ -12,7 +12,7 @@ use Rattle.tag.specs.Plan.{newImage}
 use Rattle.tag.proofs.Addresses.{overlay-reads, length-run, map-run}
 use Rattle.type3.specs.Attributes.{steadySum, attributes}
 use Rattle.type3.specs.Update.{blocksFor, addresses, lnSum, body, values, closedSum, closed, plan}
-use Rattle.type3.specs.Views.{attributeBlock}
+use Rattle.type3.specs.Listing.{attributeBlock}
 use Rattle.type3.proofs.Update.{closed-else, closed-length, closed-reads, above-addresses, new-agrees, new-length, HasRoom, inside}
 use Rattle.type3.proofs.Body.{length-body, blocksAt}
 

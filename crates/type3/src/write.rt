@@ -16,7 +16,8 @@ ghost use Rattle.tag.specs.Answers.{countOf, countAs};
 ghost use Rattle.type3.specs.Update.{blocksFor};
 ghost use Rattle.type3.specs.Codec.{namesBytes};
 ghost use Rattle.type3.specs.Type3.{type3};
-ghost use Rattle.type3.specs.Views.{filled, attributeBlock, attributeCommand, messageCommand, messageCommands, listAs, Readable, Fills, Dealt, Listing};
+ghost use Rattle.type3.specs.Views.{Readable};
+ghost use Rattle.type3.specs.Listing.{filled, attributeBlock, attributeCommand, messageCommand, messageCommands, listAs, Fills, Dealt, Listing};
 
 // ---- the parts of a command, past its front
 
@@ -105,11 +106,11 @@ fn put_command(message: &[u8], number: &[u8], skip: usize, count: usize, out: &m
     fill_blocks(&message[16 * skip..], size, &mut out[at..]);
 }
 
-// How many of `left` blocks the next command takes.
-fn smaller(w: usize, left: usize) -> usize
-    ensures { λ r. ⌜ r ≡ min w left ⌝ }
+// The smaller of two numbers.
+fn smaller(a: usize, b: usize) -> usize
+    ensures { λ r. ⌜ r ≡ min a b ⌝ }
 {
-    if w < left { w } else { left }
+    if a < b { a } else { b }
 }
 
 // Writes all blocks of the message, `w` to a command, in `turns` commands.
@@ -171,8 +172,8 @@ fn write_to(
     list: &mut [u8],
 ) -> CountAnswer
     requires { ⌜ Readable (now image) a × (length (now number) ≡ 8) ⌝ }
-    ensures is { λ r. ⌜ countAs r ≡ countOf (write (type3 (now (number .entry))) (length (now (list .entry))) (now (image .entry)) (now (message .entry))) ⌝ }
-    ensures laid { λ _. ⌜ now (list .exit) ≡ outputInto (now (list .entry)) (write (type3 (now (number .entry))) (length (now (list .entry))) (now (image .entry)) (now (message .entry))) ⌝ }
+    ensures answer { λ r. ⌜ countAs r ≡ countOf (write (type3 (now (number .entry))) (length (now (list .entry))) (now (image .entry)) (now (message .entry))) ⌝ }
+    ensures buffer { λ _. ⌜ now (list .exit) ≡ outputInto (now (list .entry)) (write (type3 (now (number .entry))) (length (now (list .entry))) (now (image .entry)) (now (message .entry))) ⌝ }
 {
     let n = message.len();
     if n == 0 {
@@ -199,8 +200,8 @@ fn write_to(
 
 // Writes the list for the message to the front of `list`, and answers with the number of its commands.
 pub fn write(image: &[u8], message: &[u8], number: &[u8; 8], list: &mut [u8]) -> CountAnswer
-    ensures is { λ r. ⌜ countAs r ≡ countOf (write (type3 (now (number .entry))) (length (now (list .entry))) (now (image .entry)) (now (message .entry))) ⌝ }
-    ensures laid { λ _. ⌜ now (list .exit) ≡ outputInto (now (list .entry)) (write (type3 (now (number .entry))) (length (now (list .entry))) (now (image .entry)) (now (message .entry))) ⌝ }
+    ensures answer { λ r. ⌜ countAs r ≡ countOf (write (type3 (now (number .entry))) (length (now (list .entry))) (now (image .entry)) (now (message .entry))) ⌝ }
+    ensures buffer { λ _. ⌜ now (list .exit) ≡ outputInto (now (list .entry)) (write (type3 (now (number .entry))) (length (now (list .entry))) (now (image .entry)) (now (message .entry))) ⌝ }
 {
     let checked = read::attributes_of(image);
     match checked {

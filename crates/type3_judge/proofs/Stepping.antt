@@ -22,11 +22,12 @@ use Rattle.tag.proofs.Judging.{fault-ill, fault-change, fault-misread, fault-no
 use Rattle.type3.specs.Message.{reading}
 use Rattle.type3.specs.Update.{plan}
 use Rattle.type3.specs.Codec.{decode, commandOf, span}
+use Rattle.type3.specs.Type3.{type3}
 use Rattle.type3.specs.CodecViews.{isCommand}
 use Rattle.type3.proofs.Decoding.{decode-refused}
 use Rattle.type3_model.specs.Views.{Storable, storesFrom}
 use Rattle.type3_model.proofs.Storing.{command-storable, command-stores}
-use Rattle.type3_judge.specs.Views.{task, commandFor, Piece, Judging}
+use Rattle.type3_judge.specs.Views.{task, Piece, Judging}
 
 -- ---- the bytes of a command
 
@@ -98,15 +99,15 @@ module _ {number i m old : List ℕ} {had : Bool} {nbw nmaxb : ℕ} {set : List 
     step-none q r = sym (ap (fault (task number i m) j) e ∙ fault-none (task number i m) j ss (kept-of true q) (safe-of true r))
 
   -- the command, by the tests with the Nbw and the Nmaxb that the code has
-  command-by : (bytes : List ℕ) → commandFor number i bytes ≡ commandOf (decode number nbw nmaxb bytes)
+  command-by : (bytes : List ℕ) → (type3 number .command) i bytes ≡ commandOf (decode number nbw nmaxb bytes)
   command-by bytes =
       sym (ap (λ n. commandOf (decode number n nmaxb bytes)) (k .marked .admitted .nbw-is) ∙ ap (λ n. commandOf (decode number (byte i 2) n bytes)) (k .marked .admitted .nmaxb-is))
 
-  pub command-ill : (bytes : List ℕ) → isCommand (decode number nbw nmaxb bytes) ≡ false → commandFor number i bytes ≡ ill
+  pub command-ill : (bytes : List ℕ) → isCommand (decode number nbw nmaxb bytes) ≡ false → (type3 number .command) i bytes ≡ ill
   command-ill bytes q = command-by bytes ∙ ap commandOf (decode-refused number nbw nmaxb bytes q)
 
   pub command-stored : (bytes : List ℕ) → isCommand (decode number nbw nmaxb bytes) ≡ true
-      → commandFor number i bytes ≡ stores (storesFrom bytes (byte bytes 12) 0)
+      → (type3 number .command) i bytes ≡ stores (storesFrom bytes (byte bytes 12) 0)
   command-stored bytes q = command-by bytes ∙ command-stores number nbw nmaxb bytes q
 
   pub command-inside : (bytes : List ℕ) → isCommand (decode number nbw nmaxb bytes) ≡ true → Storable bytes size
@@ -117,36 +118,36 @@ module _ {number i m old : List ℕ} {had : Bool} {nbw nmaxb : ℕ} {set : List 
 module _ (number i m list : List ℕ) where
   -- the commands from `at` on
   abbrev pub from : ℕ → List Command
-  from at = map (commandFor number i) (cutUp span (length list) (drop at list))
+  from at = map ((type3 number .command) i) (cutUp span (length list) (drop at list))
 
   from-next : (at size : ℕ) → at < length list → Piece list at size
-      → from at ≡ commandFor number i (take size (drop at list)) ∷ from (at + size)
+      → from at ≡ (type3 number .command) i (take size (drop at list)) ∷ from (at + size)
   from-next at size h p =
       let r = drop at list in
-      ap (map (commandFor number i)) (cut-more span (λ b. omega arith) (length list) (length list) r (omega (arith, length-drop at list)) (omega (arith, length-drop at list)) (omega (arith, length-drop at list, length-drop (span r) r)))
-      ∙ ap (λ x. commandFor number i x ∷ map (commandFor number i) (cutUp span (length list) (drop (span r) r))) (p .cut-is)
-      ∙ ap (λ x. commandFor number i (take size r) ∷ map (commandFor number i) (cutUp span (length list) x)) (p .rest-is)
+      ap (map ((type3 number .command) i)) (cut-more span (λ b. omega arith) (length list) (length list) r (omega (arith, length-drop at list)) (omega (arith, length-drop at list)) (omega (arith, length-drop at list, length-drop (span r) r)))
+      ∙ ap (λ x. (type3 number .command) i x ∷ map ((type3 number .command) i) (cutUp span (length list) (drop (span r) r))) (p .cut-is)
+      ∙ ap (λ x. (type3 number .command) i (take size r) ∷ map ((type3 number .command) i) (cutUp span (length list) x)) (p .rest-is)
 
   module _ (n at size : ℕ) (j piece : List ℕ) (h : at < length list) (p : Piece list at size) (e : piece ≡ take size (drop at list)) where
-    first : judge (task number i m) n j (from at) ≡ judge (task number i m) n j (commandFor number i piece ∷ from (at + size))
-    first = ap (judge (task number i m) n j) (from-next at size h p ∙ ap (λ x. commandFor number i x ∷ from (at + size)) (sym e))
+    first : judge (task number i m) n j (from at) ≡ judge (task number i m) n j ((type3 number .command) i piece ∷ from (at + size))
+    first = ap (judge (task number i m) n j) (from-next at size h p ∙ ap (λ x. (type3 number .command) i x ∷ from (at + size)) (sym e))
 
-    pub goes-on : (j′ : List ℕ) (f : ℕ) → f ≡ fault (task number i m) j (commandFor number i piece) → f ≡ 0 → j′ ≡ done j (commandFor number i piece)
+    pub goes-on : (j′ : List ℕ) (f : ℕ) → f ≡ fault (task number i m) j ((type3 number .command) i piece) → f ≡ 0 → j′ ≡ done j ((type3 number .command) i piece)
         → judge (task number i m) n j (from at) ≡ judge (task number i m) (n + 1) j′ (from (at + size))
     goes-on j′ f q z d =
         first
-        ∙ judge-next (task number i m) n j (commandFor number i piece) (from (at + size)) (sym q ∙ z)
-        ∙ ap (λ k. judge (task number i m) k (done j (commandFor number i piece)) (from (at + size))) (sym (add-one n))
+        ∙ judge-next (task number i m) n j ((type3 number .command) i piece) (from (at + size)) (sym q ∙ z)
+        ∙ ap (λ k. judge (task number i m) k (done j ((type3 number .command) i piece)) (from (at + size))) (sym (add-one n))
         ∙ ap (λ x. judge (task number i m) (n + 1) x (from (at + size))) (sym d)
 
-    pub stops : (f : ℕ) → f ≡ fault (task number i m) j (commandFor number i piece) → (f ≡ 0 → ⊥) → judge (task number i m) n j (from at) ≡ refused f n
+    pub stops : (f : ℕ) → f ≡ fault (task number i m) j ((type3 number .command) i piece) → (f ≡ 0 → ⊥) → judge (task number i m) n j (from at) ≡ refused f n
     stops f q z =
         first
-        ∙ judge-stop (task number i m) n j (commandFor number i piece) (from (at + size)) (λ y. z (q ∙ y))
+        ∙ judge-stop (task number i m) n j ((type3 number .command) i piece) (from (at + size)) (λ y. z (q ∙ y))
         ∙ ap (λ x. refused x n) (sym q)
 
   pub at-end : (at : ℕ) → length list ≤ at → from at ≡ []
-  at-end at h = ap (λ r. map (commandFor number i) (cutUp span (length list) r)) (drop-of-length-le list h) ∙ ap (map (commandFor number i)) (cut-none span (length list))
+  at-end at h = ap (λ r. map ((type3 number .command) i) (cutUp span (length list) r)) (drop-of-length-le list h) ∙ ap (map ((type3 number .command) i)) (cut-none span (length list))
 
 -- ---- a copy
 
