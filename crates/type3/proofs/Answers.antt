@@ -1,4 +1,4 @@
--- The answer of reading a Type 3 tag: what its attributes say, whatever the length of a gathering buffer.
+-- The answer of reading a Type 3 tag: what its attributes say.
 -- Assumes nothing.
 use mathlib.Core.Path.{_≡_, refl, sym, ap}
 use mathlib.Core.Bool.{Bool, true, false, cond}
@@ -14,19 +14,8 @@ use Rattle.tag.specs.Checks.{fine, fault, firstOf}
 use Rattle.tag.specs.Reading.{being-written, empty, message, refusal, answer, answerOf}
 use Rattle.type3.specs.declared.read.Attributes.{Attributes}
 use Rattle.type3.specs.Attributes.{attributes, attributeChecks, mayWrite}
-use Rattle.type3.specs.Message.{View, refuse, busy, view, viewBy, viewed, readingOf, reading}
+use Rattle.type3.specs.Message.{busy, view, viewBy, readingOf, reading}
 use Rattle.type3.specs.Views.{Attests, answerFor}
-
--- a Type 3 message is never interrupted, so that the gathering buffer does not matter
-pub any-room : (i : List ℕ) (n : ℕ) → answerOf n (reading i) ≡ answerOf 0 (reading i)
-unfolding reading
-any-room i n = go (viewed i)
-  where
-    go : (v : View) → answerOf n (readingOf (mayWrite i) i v) ≡ answerOf 0 (readingOf (mayWrite i) i v)
-    go (refuse r) = refl
-    go busy = refl
-    go (view zero) = refl
-    go (view (suc k)) = refl
 
 -- a test that fails gives its refusal
 pub answer-refused : (i : List ℕ) (r : ℕ) → firstOf (attributeChecks (length i) (attributes i)) ≡ fault r → answerOf 0 (reading i) ≡ refusal r

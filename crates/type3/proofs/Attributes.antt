@@ -1,4 +1,4 @@
--- The attributes as the code has them: sums of bytes, and what the tests have shown.
+-- Sums of block 0's bytes, and the lengths of the attribute block and its command.
 -- Assumes nothing.
 use mathlib.Core.Path.{_≡_, refl}
 use mathlib.Core.List.{List, [], _∷_}
@@ -8,7 +8,8 @@ use native.Mathlib.Numerals.{add-one}
 use lib.ListN.{length}
 use Rattle.tag.specs.Bytes.{byte}
 use Rattle.type3.specs.Attributes.{steadySum, attributes}
-use Rattle.type3.specs.Views.{sumTo, attributeBlock, attributeCommand}
+use Rattle.type3.specs.Views.{sumTo}
+use Rattle.type3.specs.Listing.{attributeBlock, attributeCommand}
 use Rattle.type3.proofs.Codec.{length-command}
 
 pub sum-more : (i : List ℕ) (n : ℕ) → sumTo i (n + 1) ≡ sumTo i n + byte i n

@@ -7,7 +7,7 @@ use native.Mathlib.Omega.{arith}
 use lib.ListN.{length, take, drop, replicate, length-append, length-take, length-drop, length-replicate, replicate-append-replicate}
 use lib.Seq.{take-all, take-append-le, drop-append-le}
 use Rattle.type3.specs.Update.{blocksFor, body}
-use Rattle.type3.specs.Views.{filled}
+use Rattle.type3.specs.Listing.{filled}
 
 pub length-body : (m : List ℕ) → length (body m) ≡ 16 * blocksFor (length m)
 length-body m =

@@ -17,7 +17,6 @@ use Rattle.tag.specs.Stores.{Store, stores}
 use Rattle.tag.proofs.Logic.{and-l, and-r, same-eq, same-refl, nope}
 use Rattle.tag.proofs.Addresses.{Above, Rising, above-rising}
 use Rattle.tag.proofs.Each.{Each}
-use Rattle.tag.proofs.Pieces.{Piece}
 use Rattle.type3.specs.Update.{blocksPerCommand}
 use Rattle.type3.specs.Codec.{namesBytes, Names, no-names, names, withName, namesOf, nameable, wellNamed, opening, commandBytes, Decoded, undecoded, decoded, decodeBy, decode, storesOf, commandOf, storedBytes, encoded, span}
 
@@ -74,19 +73,22 @@ named-some nbw nmaxb bs h =
 
 -- ---- commands
 
-length-opening : (number : List ℕ) → length (opening number) ≡ 4 + length number
+pub length-opening : (number : List ℕ) → length (opening number) ≡ 4 + length number
 length-opening number = omega (arith, length-append number (0x01 ∷ 0x09 ∷ 0x00 ∷ []))
+
+-- what follows the count
+pub past-count : (o : List ℕ) (c : ℕ) (rest : List ℕ) → length o ≡ 12 → drop 13 (o ++ c ∷ rest) ≡ rest
+past-count o c rest l = sym (drop-drop 1 12 (o ++ c ∷ rest)) ∙ ap (drop 1) (drop-at o (c ∷ rest) 12 l)
 
 -- a command taken apart, whatever opens it
 opened : (o : List ℕ) (nbw nmaxb c : ℕ) (rest : List ℕ) → length o ≡ 12
     → cond (same (take 12 (o ++ c ∷ rest)) o) (decodeBy nbw nmaxb (namesOf (byte (o ++ c ∷ rest) 12) (drop 13 (o ++ c ∷ rest)))) (undecoded not-well-formed)
     ≡ decodeBy nbw nmaxb (namesOf c rest)
 opened o nbw nmaxb c rest l =
-    let past : drop 13 (o ++ c ∷ rest) ≡ rest = sym (drop-drop 1 12 (o ++ c ∷ rest)) ∙ ap (drop 1) (drop-at o (c ∷ rest) 12 l) in
-    rw (take-at o (c ∷ rest) 12 l, same-refl o, getD-at o c rest 0 12 l, past)
+    rw (take-at o (c ∷ rest) 12 l, same-refl o, getD-at o c rest 0 12 l, past-count o c rest l)
 
 -- the opening, the count and the rest, which the definition groups otherwise
-grouped : (number bs bytes : List ℕ) → commandBytes number bs bytes ≡ opening number ++ length bs ∷ (namesBytes bs ++ bytes)
+pub grouped : (number bs bytes : List ℕ) → commandBytes number bs bytes ≡ opening number ++ length bs ∷ (namesBytes bs ++ bytes)
 grouped number bs bytes = append-assoc (opening number) (length bs ∷ namesBytes bs) bytes
 
 pub decode-encode : (number : List ℕ) (nbw nmaxb : ℕ) (bs bytes : List ℕ) → length number ≡ 8 → wellNamed nbw nmaxb bs ≡ true
@@ -227,9 +229,6 @@ span-sent number nbw nmaxb ss n h r =
 
 pub some-sent : (number : List ℕ) (ss : List Store) → 0 < length (encoded number ss)
 some-sent number ss = omega arith
-
-pub piece-sent : (number : List ℕ) (nbw nmaxb : ℕ) (ss : List Store) → length number ≡ 8 → Sendable nbw nmaxb ss → Piece span (encoded number ss)
-piece-sent number nbw nmaxb ss n h = (span-sent number nbw nmaxb ss n h, some-sent number ss)
 
 pub decode-sendable : (number : List ℕ) (nbw nmaxb : ℕ) (all : List ℕ) (ss : List Store) → commandOf (decode number nbw nmaxb all) ≡ stores ss
     → Sendable nbw nmaxb ss × (encoded number ss ≡ all) × (length number ≡ 8)

@@ -9,7 +9,7 @@ use native.Mathlib.Nat.{not-suc-le-zero}
 use native.Mathlib.Omega.{arith}
 use native.Mathlib.Decide.{ℕ-discrete}
 use borrow.Author.Tests.{eq-eqb, ne-eqb, le-leb, lt-ltb}
-use lib.ListN.{length, length-append, length-replicate, replicate}
+use lib.ListN.{length}
 use Rattle.tag.specs.Bytes.{byte, run}
 use Rattle.tag.specs.Plan.{inBlock, touches, between, list, counted}
 use Rattle.tag.specs.Cuts.{Ready}
@@ -17,8 +17,9 @@ use Rattle.tag.proofs.Logic.{and-both, or-l, or-r}
 use Rattle.tag.proofs.Counts.{counted-run, length-list}
 use Rattle.type3.specs.Update.{blocksFor, blocksPerCommand, addresses, body, values, plan}
 use Rattle.type3.specs.Type3.{type3}
-use Rattle.type3.proofs.Update.{inside}
+use Rattle.type3.proofs.Update.{HasRoom, inside}
 use Rattle.type3.proofs.Laws.{ready-room, touched-most}
+use Rattle.type3.proofs.Body.{length-body}
 
 -- a run of addresses touches every block that it has the first address of
 run-touches : (z n s b : ℕ) (vs : List ℕ) → 0 < z → n ≤ length vs → s ≤ z * b → z * b < s + n → touches z (run s n) vs b ≡ true
@@ -31,11 +32,6 @@ run-touches z (suc n) s b (v ∷ vs) p l lo up = go (ℕ-discrete s (z * b)) (λ
     go (no e) ih = or-r (inBlock z b s) (touches z (run (suc s) n) vs b) (ih (omega arith))
 
 module _ (i m : List ℕ) where
-  length-body : length (body m) ≡ 16 * blocksFor (length m)
-  length-body =
-      let rest = 16 * blocksFor (length m) - length m in
-      omega (arith, length-append m (replicate rest 0x00), length-replicate {A = ℕ} rest 0x00)
-
   -- not block 0, blocks 1 to k, none above
   pub between-guard : (b : ℕ) → b < 1 → between (plan i m) b ≡ false
   between-guard b l = rw (eq-eqb b 0 (omega arith))
@@ -44,7 +40,7 @@ module _ (i m : List ℕ) where
   between-on b lo up =
       rw (ne-eqb b 0 (λ e. omega arith))
       (or-r (inBlock 16 b 9) _ (or-r (inBlock 16 b 11) _ (or-r (inBlock 16 b 12) _ (or-r (inBlock 16 b 13) _ (or-r (inBlock 16 b 14) _ (or-r (inBlock 16 b 15) _
-      (run-touches 16 (16 * blocksFor (length m)) 16 b (body m) (omega arith) (omega (arith, length-body)) (omega arith) (omega arith))))))))
+      (run-touches 16 (16 * blocksFor (length m)) 16 b (body m) (omega arith) (omega (arith, length-body m)) (omega arith) (omega arith))))))))
 
   pub between-past : (b : ℕ) → 1 + blocksFor (length m) ≤ b → between (plan i m) b ≡ false
   between-past b l = go (touches 16 (addresses m) (values i m) b) refl
@@ -54,11 +50,11 @@ module _ (i m : List ℕ) where
       go false q = rw (ne-eqb b 0 (λ e. omega arith), q)
 
 -- the blocks written between block 0's two commands are k
-pub between-count : (number i m : List ℕ) → Ready (type3 number) i m → counted (between (plan i m)) 0 (length i / 16) ≡ blocksFor (length m)
-between-count number i m r =
-    counted-run (between (plan i m)) 1 (blocksFor (length m)) (length i / 16) (omega (arith, inside i m (ready-room number i m r)))
+pub between-count : (i m : List ℕ) → HasRoom i m → counted (between (plan i m)) 0 (length i / 16) ≡ blocksFor (length m)
+between-count i m r =
+    counted-run (between (plan i m)) 1 (blocksFor (length m)) (length i / 16) (omega (arith, inside i m r))
     (between-guard i m) (between-on i m) (λ b l u. between-past i m b l)
 
 pub list-count : (number i m : List ℕ) → Ready (type3 number) i m
     → length (list (plan i m) i) ≡ 2 + (blocksFor (length m) + (blocksPerCommand (byte i 2) - 1)) / blocksPerCommand (byte i 2)
-list-count number i m r = length-list (plan i m) i ∙ rw (between-count number i m r)
+list-count number i m r = length-list (plan i m) i ∙ rw (between-count i m (ready-room number i m r))

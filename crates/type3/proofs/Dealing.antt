@@ -11,7 +11,7 @@ use lib.ListN.{length, length-append}
 use Rattle.tag.specs.Bytes.{run}
 use Rattle.tag.proofs.Addresses.{length-run}
 use Rattle.type3.specs.Update.{blocksFor}
-use Rattle.type3.specs.Views.{messageCommand, messageCommands, Dealt}
+use Rattle.type3.specs.Listing.{messageCommand, messageCommands, Dealt}
 use Rattle.type3.proofs.Codec.{length-command}
 use Rattle.type3.proofs.Body.{blocksAt, length-blocks}
 

@@ -8,7 +8,7 @@ use native.Mathlib.Omega.{arith}
 use borrow.Author.Tests.{eqb-true, eq-eqb}
 use lib.Dec.{leb, eqb}
 use lib.ListN.{length, take, drop, replicate, length-drop}
-use lib.Seq.{take-at, drop-at, drop-drop, getD-at, split-at}
+use lib.Seq.{take-at, drop-drop, getD-at, split-at}
 use Rattle.tag.specs.Bytes.{byte, same, overwrite}
 use Rattle.tag.specs.Refusals.{not-well-formed}
 use Rattle.tag.proofs.Logic.{and-l, and-r, and-both, same-eq, same-refl, true-false, nope}
@@ -17,9 +17,9 @@ use Rattle.type3.specs.Update.{blocksPerCommand}
 use Rattle.type3.specs.Codec.{namesBytes, Names, no-names, names, namesOf, nameable, wellNamed, opening, commandBytes, Decoded, undecoded, decoded, decodeBy, decode}
 use Rattle.type3.specs.InPlace.{marked, numbers, framedBy, framed, carried}
 use Rattle.type3.specs.CodecViews.{commandAs, isCommand, Framed}
-use Rattle.type3.proofs.Codec.{decode-encode, encode-decode, length-command}
+use Rattle.type3.proofs.Codec.{length-opening, past-count, grouped, decode-encode, encode-decode, length-command}
 use Rattle.type3.proofs.Naming.{length-numbers}
-use Rattle.type3.proofs.Encoding.{length-opening, counted}
+use Rattle.type3.proofs.Encoding.{counted}
 
 -- ---- the names
 
@@ -106,28 +106,18 @@ module _ (number : List ℕ) (nbw : ℕ) (bytes : List ℕ) (h : framed number n
 
 -- ---- a command's bytes are framed
 
-module _ (o : List ℕ) (c : ℕ) (rest : List ℕ) (l : length o ≡ 12) where
-  count-there : byte (o ++ c ∷ rest) 12 ≡ c
-  count-there = getD-at o c rest 0 12 l
-
-  rest-there : drop 13 (o ++ c ∷ rest) ≡ rest
-  rest-there = sym (drop-drop 1 12 (o ++ c ∷ rest)) ∙ ap (drop 1) (drop-at o (c ∷ rest) 12 l)
-
 module _ (number : List ℕ) (nbw nmaxb : ℕ) (bs bytes : List ℕ) (n : length number ≡ 8) (s : length bytes ≡ 16 * length bs) (w : wellNamed nbw nmaxb bs ≡ true) where
   o-length : length (opening number) ≡ 12
   o-length = omega (arith, length-opening number)
 
-  whole : commandBytes number bs bytes ≡ opening number ++ length bs ∷ (namesBytes bs ++ bytes)
-  whole = append-assoc (opening number) (length bs ∷ namesBytes bs) bytes
-
   command-count : byte (commandBytes number bs bytes) 12 ≡ length bs
-  command-count = ap (λ l. byte l 12) whole ∙ count-there (opening number) (length bs) (namesBytes bs ++ bytes) o-length
+  command-count = ap (λ l. byte l 12) (grouped number bs bytes) ∙ getD-at (opening number) (length bs) (namesBytes bs ++ bytes) 0 12 o-length
 
   command-rest : drop 13 (commandBytes number bs bytes) ≡ namesBytes bs ++ bytes
-  command-rest = ap (drop 13) whole ∙ rest-there (opening number) (length bs) (namesBytes bs ++ bytes) o-length
+  command-rest = ap (drop 13) (grouped number bs bytes) ∙ past-count (opening number) (length bs) (namesBytes bs ++ bytes) o-length
 
   command-opening : take 12 (commandBytes number bs bytes) ≡ opening number
-  command-opening = ap (take 12) whole ∙ take-at (opening number) (length bs ∷ (namesBytes bs ++ bytes)) 12 o-length
+  command-opening = ap (take 12) (grouped number bs bytes) ∙ take-at (opening number) (length bs ∷ (namesBytes bs ++ bytes)) 12 o-length
 
   command-framed : framed number nbw (commandBytes number bs bytes) ≡ true
   unfolding framedBy

@@ -1,4 +1,4 @@
--- What the code of Type 3's codec goes by: the opening byte by byte, the three answers of encoding, and decoding in place.
+-- What the code of encoding goes by: the opening byte by byte, how many blocks a command may name, a command written, the three answers.
 -- Assumes nothing.
 use mathlib.Core.Path.{_≡_, refl, sym, ap, _∙_}
 use mathlib.Core.Bool.{Bool, true, false, _&&_, and-false}
@@ -7,7 +7,7 @@ use Prim.Native.Nat.{ℕ, _+_, _*_, _<_, _≤_}
 use native.Mathlib.Omega.{arith}
 use borrow.Author.Tests.{leb-true, leb-false, le-leb, lt-leb}
 use lib.Dec.{leb, eqb}
-use lib.ListN.{length, take, drop, set, length-append, length-take, length-drop}
+use lib.ListN.{length, take, drop, length-append, length-take, length-drop}
 use lib.Seq.{sets, drop-cons, drop-drop, take-add, length-take-le}
 use Rattle.tag.specs.Bytes.{byte, same, overwrite}
 use Rattle.tag.specs.Refusals.{not-well-formed, short-buffer}
@@ -17,24 +17,10 @@ use Rattle.tag.proofs.Same.{same-append}
 use Rattle.tag.proofs.Storing.{sets-append, sets-front}
 use Rattle.type3.specs.Update.{blocksPerCommand}
 use Rattle.type3.specs.Codec.{namesBytes, nameable, wellNamed, opening, commandBytes, encode}
-use Rattle.type3.proofs.Codec.{length-command, length-names}
+use Rattle.type3.proofs.Codec.{length-opening, length-command, length-names}
 
 -- ---- the opening
 
-pub length-opening : (number : List ℕ) → length (opening number) ≡ 4 + length number
-length-opening number = omega (arith, length-append number (0x01 ∷ 0x09 ∷ 0x00 ∷ []))
-
--- written: 08h, the number, and the bytes 9 to 12
-pub opening-stored : (l number : List ℕ) (count : ℕ) → length number ≡ 8
-    → sets (sets (set l 0 0x08) 1 number) 9 (0x01 ∷ 0x09 ∷ 0x00 ∷ count ∷ []) ≡ sets l 0 (opening number ++ count ∷ [])
-opening-stored l number count n =
-    sym (
-    ap (sets (set l 0 0x08) 1) (append-assoc number (0x01 ∷ 0x09 ∷ 0x00 ∷ []) (count ∷ []))
-    ∙ sets-append number (0x01 ∷ 0x09 ∷ 0x00 ∷ count ∷ []) (set l 0 0x08) 1
-    ∙ rw n
-    )
-
--- read
 first-twelve : (bytes : List ℕ) → 12 ≤ length bytes
     → take 12 bytes ≡ byte bytes 0 ∷ (take 8 (drop 1 bytes) ++ byte bytes 9 ∷ byte bytes 10 ∷ byte bytes 11 ∷ [])
 first-twelve bytes h =
@@ -83,14 +69,17 @@ well-named-by nbw nmaxb n bs h = go (leb n (length bs)) refl
 -- ---- a command written: the opening with the count, the names, the blocks' bytes
 
 pub command-stored : (l number bs bytes : List ℕ) → length number ≡ 8 → length bytes ≡ 16 * length bs → 13 + 18 * length bs ≤ length l
-    → sets (sets (sets l 0 (opening number ++ length bs ∷ [])) 13 (namesBytes bs)) (13 + 2 * length bs) bytes
+    → sets (sets ((opening number ++ (length bs ∷ [])) ++ drop 13 l) 13 (namesBytes bs)) (13 + 2 * length bs) bytes
     ≡ overwrite (commandBytes number bs bytes) l
 command-stored l number bs bytes n s h =
     let o = opening number ++ length bs ∷ [] in
-    let names-from : 0 + length o ≡ 13 = omega (arith, length-append (opening number) (length bs ∷ []), length-opening number) in
+    let thirteen : length o ≡ 13 = omega (arith, length-append (opening number) (length bs ∷ []), length-opening number) in
+    let names-from : 0 + length o ≡ 13 = omega arith in
+    let stored : o ++ drop 13 l ≡ sets l 0 o = ap (λ n. o ++ drop n l) (sym thirteen) ∙ sym (sets-front o l (omega arith)) in
     let front : o ++ namesBytes bs ≡ opening number ++ length bs ∷ namesBytes bs = append-assoc (opening number) (length bs ∷ []) (namesBytes bs) in
     let bytes-from : 0 + length (o ++ namesBytes bs) ≡ 13 + 2 * length bs = omega (arith, length-append o (namesBytes bs), length-names bs) in
-    ap (λ at. sets (sets (sets l 0 o) at (namesBytes bs)) (13 + 2 * length bs) bytes) (sym names-from)
+    ap (λ t. sets (sets t 13 (namesBytes bs)) (13 + 2 * length bs) bytes) stored
+    ∙ ap (λ at. sets (sets (sets l 0 o) at (namesBytes bs)) (13 + 2 * length bs) bytes) (sym names-from)
     ∙ ap (λ t. sets t (13 + 2 * length bs) bytes) (sym (sets-append o (namesBytes bs) l 0))
     ∙ ap (λ at. sets (sets l 0 (o ++ namesBytes bs)) at bytes) (sym bytes-from)
     ∙ sym (sets-append (o ++ namesBytes bs) bytes l 0)

@@ -1,6 +1,6 @@
 -- A command as the code lays it: its opening and count, the names of a run of blocks, their bytes.
 -- Assumes nothing.
-use mathlib.Core.Path.{_≡_, refl, sym, ap, _∙_}
+use mathlib.Core.Path.{_≡_, sym, ap, _∙_}
 use mathlib.Core.List.{List, [], _∷_, _++_, map, append-assoc}
 use Prim.Native.Nat.{ℕ, _+_, _-_, _*_, _≤_}
 use native.Mathlib.Omega.{arith}
@@ -10,16 +10,13 @@ use Rattle.tag.specs.Bytes.{byte, run}
 use Rattle.tag.proofs.Runs.{run-more, bytes-of}
 use Rattle.tag.proofs.Filling.{lay-part}
 use Rattle.type3.specs.Codec.{namesBytes, opening, commandBytes}
-use Rattle.type3.proofs.Codec.{length-names}
+use Rattle.type3.proofs.Codec.{length-opening, length-names}
+use Rattle.type3.proofs.Naming.{names-append}
 
 -- the opening of a command, by the bytes of the number
 pub opening-is : (number rest : List ℕ) (count : ℕ) → length number ≡ 8
     → (opening (map (byte number) (run 0 8)) ++ (count ∷ [])) ++ rest ≡ (opening number ++ (count ∷ [])) ++ rest
 opening-is number rest count e = ap (λ n. (opening n ++ (count ∷ [])) ++ rest) (bytes-of number 8 e)
-
-names-append : (bs cs : List ℕ) → namesBytes (bs ++ cs) ≡ namesBytes bs ++ namesBytes cs
-names-append [] cs = refl
-names-append (b ∷ bs) cs = ap (λ r. 0x80 ∷ b ∷ r) (names-append bs cs)
 
 pub names-more : (s n : ℕ) → namesBytes (run s (n + 1)) ≡ namesBytes (run s n) ++ (0x80 ∷ (s + n) ∷ [])
 names-more s n = ap namesBytes (run-more s n) ∙ names-append (run s n) ((s + n) ∷ [])
@@ -33,7 +30,7 @@ pub lay-command : (number bs bytes t o z y : List ℕ) (n : ℕ) → length numb
     ≡ commandBytes number bs bytes ++ drop (13 + 18 * n) t
 lay-command number bs bytes t o z y n eight many full fits q lo r lz s =
     let front = opening number ++ (n ∷ []) in
-    let thirteen : length front ≡ 13 = omega (arith, length-append (opening number) (n ∷ []), length-append number (0x01 ∷ 0x09 ∷ 0x00 ∷ [])) in
+    let thirteen : length front ≡ 13 = omega (arith, length-append (opening number) (n ∷ []), length-opening number) in
     let named : length (front ++ namesBytes bs) ≡ 13 + 2 * n = omega (arith, length-append front (namesBytes bs), length-names bs) in
     let all : 13 + 2 * n + 16 * n ≡ 13 + 18 * n = omega arith in
     let names = lay-part o front t 13 q thirteen (namesBytes bs) z (length o) (2 * n) (omega arith) (omega arith) r in

@@ -4,6 +4,7 @@ pub mod Message
 pub mod Update
 pub mod Shown
 pub mod Laws
+pub mod Body
 pub mod Counts
 pub mod Naming
 pub mod Encoding
@@ -11,7 +12,6 @@ pub mod Decoding
 pub mod Attributes
 pub mod Answers
 pub mod Laying
-pub mod Body
 pub mod Dealing
 pub mod Sixteen
 pub mod ListBytes

@@ -53,7 +53,7 @@ nameable-each nmaxb (b ∷ bs) h (suc i) l =
 
 -- ---- names written
 
-names-append : (xs ys : List ℕ) → namesBytes (xs ++ ys) ≡ namesBytes xs ++ namesBytes ys
+pub names-append : (xs ys : List ℕ) → namesBytes (xs ++ ys) ≡ namesBytes xs ++ namesBytes ys
 names-append [] ys = refl
 names-append (x ∷ xs) ys = ap (λ r. 0x80 ∷ x ∷ r) (names-append xs ys)
 

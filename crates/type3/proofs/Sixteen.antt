@@ -2,19 +2,18 @@
 -- to k, which hold the message.
 -- Assumes nothing.
 use mathlib.Core.Path.{_≡_, refl, sym, ap, subst, _∙_}
-use mathlib.Core.List.{List, [], _∷_, _++_, map, append-nil}
+use mathlib.Core.List.{List, [], _++_, map, append-nil}
 use Prim.Native.Nat.{ℕ, _+_, _*_, _/_, _%_, _<_, _≤_}
 use native.Mathlib.Omega.{arith}
 use lib.ListN.{length, take, drop, length-drop, take-append-drop}
 use lib.Seq.{take-all, drop-drop, take-append-le, drop-append-le}
 use Rattle.tag.specs.Bytes.{byte, run, overlay}
 use Rattle.tag.specs.Plan.{newImage}
-use Rattle.tag.proofs.Images.{overlay-out}
 use Rattle.tag.proofs.Addresses.{overlay-reads, length-run, map-run}
 use Rattle.type3.specs.Attributes.{steadySum, attributes}
 use Rattle.type3.specs.Update.{blocksFor, addresses, lnSum, body, values, closedSum, closed, plan}
-use Rattle.type3.specs.Views.{attributeBlock}
-use Rattle.type3.proofs.Update.{closed-length, above-addresses, new-agrees, new-length, HasRoom, inside}
+use Rattle.type3.specs.Listing.{attributeBlock}
+use Rattle.type3.proofs.Update.{closed-else, closed-length, closed-reads, above-addresses, new-agrees, new-length, HasRoom, inside}
 use Rattle.type3.proofs.Body.{length-body, blocksAt}
 
 -- block 0 of an image is its sixteen bytes
@@ -23,37 +22,32 @@ sixteen j l = sym (map-run 16 0 j (omega arith))
 
 -- ---- the closed image
 
-abbrev closing : List ℕ → List ℕ
-closing i = 0x0F ∷ closedSum i / 256 ∷ closedSum i % 256 ∷ []
-
 -- with Ln as it was
 pub closed-block : (i : List ℕ) → 16 ≤ length i → byte i 12 < 256 → byte i 13 < 256
     → take 16 (closed i) ≡ attributeBlock i 0x0F (attributes i .ln)
 unfolding attributeBlock
 closed-block i l b12 b13 =
     let ln = attributes i .ln in
-    let else : (k : ℕ) → _ → byte (closed i) k ≡ byte i k = overlay-out (9 ∷ 14 ∷ 15 ∷ []) (closing i) i in
-    let set = overlay-reads 16 (closing i) [] (9 ∷ 14 ∷ 15 ∷ []) i 8 (omega arith) l (omega arith) in
     let high : byte i 11 ≡ ln / 65536 = omega arith in
     let mid : byte i 12 ≡ ln / 256 % 256 = omega arith in
     let low : byte i 13 ≡ ln % 256 = omega arith in
     let sum : closedSum i ≡ steadySum i + 0x0F + lnSum ln = omega arith in
     sixteen (closed i) (omega (arith, closed-length i))
     ∙ cc (
-      else 0 refl,
-      else 1 refl,
-      else 2 refl,
-      else 3 refl,
-      else 4 refl,
-      else 5 refl,
-      else 6 refl,
-      else 7 refl,
-      else 8 refl,
-      else 10 refl,
-      else 11 refl,
-      else 12 refl,
-      else 13 refl,
-      set,
+      closed-else i 0 refl,
+      closed-else i 1 refl,
+      closed-else i 2 refl,
+      closed-else i 3 refl,
+      closed-else i 4 refl,
+      closed-else i 5 refl,
+      closed-else i 6 refl,
+      closed-else i 7 refl,
+      closed-else i 8 refl,
+      closed-else i 10 refl,
+      closed-else i 11 refl,
+      closed-else i 12 refl,
+      closed-else i 13 refl,
+      closed-reads i l,
       high,
       mid,
       low,

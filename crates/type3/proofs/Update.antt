@@ -33,16 +33,16 @@ steady-is k e =
 
 -- ---- the closed image
 
-abbrev closedValues : List ℕ → List ℕ
+abbrev pub closedValues : List ℕ → List ℕ
 closedValues i = 0x0F ∷ closedSum i / 256 ∷ closedSum i % 256 ∷ []
 
-closed-else : (i : List ℕ) (k : ℕ) → not (isSet (9 ∷ 14 ∷ 15 ∷ []) (closedValues i) k) ≡ true → byte (closed i) k ≡ byte i k
+pub closed-else : (i : List ℕ) (k : ℕ) → not (isSet (9 ∷ 14 ∷ 15 ∷ []) (closedValues i) k) ≡ true → byte (closed i) k ≡ byte i k
 closed-else i k e = overlay-out (9 ∷ 14 ∷ 15 ∷ []) (closedValues i) i k e
 
 pub closed-length : (i : List ℕ) → length (closed i) ≡ length i
 closed-length i = length-overlay (9 ∷ 14 ∷ 15 ∷ []) (closedValues i) i
 
-closed-reads : (i : List ℕ) → 16 ≤ length i → map (byte (closed i)) (9 ∷ 14 ∷ 15 ∷ []) ≡ closedValues i
+pub closed-reads : (i : List ℕ) → 16 ≤ length i → map (byte (closed i)) (9 ∷ 14 ∷ 15 ∷ []) ≡ closedValues i
 closed-reads i l = overlay-reads 16 (closedValues i) [] (9 ∷ 14 ∷ 15 ∷ []) i 8 (omega arith) l (omega arith)
 
 -- a tag with block 0 of the closed image is being written

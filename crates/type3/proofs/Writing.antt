@@ -19,12 +19,26 @@ use Rattle.type3.specs.Attributes.{nmaxbOf, attributes, attributeChecks,
 use Rattle.type3.specs.Message.{busy, view, viewBy, readingOf, reading}
 use Rattle.type3.specs.Update.{fits, blocksFor, blocksPerCommand, plan}
 use Rattle.type3.specs.Type3.{type3}
-use Rattle.type3.specs.Views.{Dealt, listAs}
+use Rattle.type3.specs.Listing.{Dealt, listAs}
 use Rattle.type3.proofs.Update.{HasRoom}
 use Rattle.type3.proofs.ListBytes.{list-bytes, list-length, length-list-as}
 
 abbrev pub Passing : List ℕ → Type 0
 Passing i = firstOf (attributeChecks (length i) (attributes i)) ≡ fine
+
+-- writing to a tag that reads has the tests 9 to 11 left
+pub writing-is : (number i m : List ℕ) → Passing i
+    → writing (type3 number) i m
+    ≡ planned (plan i m) (firstOf (check (not (eqb (length m) 0)) nothing-to-write ∷ check (mayWrite i) not-writable ∷ check (fits i (length m)) too-long ∷ []))
+unfolding writing reading viewBy
+writing-is number i m e = rw e (go (eqb (byte i 9) 0x0F) (attributes i .ln))
+  where
+    go : (b : Bool) (n : ℕ)
+        → writingBy (type3 number) i m (readingOf (mayWrite i) i (cond b busy (view n)))
+        ≡ planned (plan i m) (firstOf (check (not (eqb (length m) 0)) nothing-to-write ∷ check (mayWrite i) not-writable ∷ check (fits i (length m)) too-long ∷ []))
+    go true n = refl
+    go false zero = refl
+    go false (suc n) = refl
 
 module _ (number i m : List ℕ) (room : ℕ) where
   -- a tag that does not read
@@ -32,31 +46,17 @@ module _ (number i m : List ℕ) (room : ℕ) where
   unfolding writing reading viewBy
   write-unread r e = rw e
 
-  -- one that reads has the tests 9 to 11 left
-  writing-is : Passing i
-      → writing (type3 number) i m
-      ≡ planned (plan i m) (firstOf (check (not (eqb (length m) 0)) nothing-to-write ∷ check (mayWrite i) not-writable ∷ check (fits i (length m)) too-long ∷ []))
-  unfolding writing reading viewBy
-  writing-is e = rw e (go (eqb (byte i 9) 0x0F) (attributes i .ln))
-    where
-      go : (b : Bool) (n : ℕ)
-          → writingBy (type3 number) i m (readingOf (mayWrite i) i (cond b busy (view n)))
-          ≡ planned (plan i m) (firstOf (check (not (eqb (length m) 0)) nothing-to-write ∷ check (mayWrite i) not-writable ∷ check (fits i (length m)) too-long ∷ []))
-      go true n = refl
-      go false zero = refl
-      go false (suc n) = refl
-
   withholds : (r : ℕ) → writing (type3 number) i m ≡ unwritten r → write (type3 number) room i m ≡ withheld r
   withholds r e = ap (writeBy (type3 number) room i) e
 
   pub write-nothing : Passing i → length m ≡ 0 → write (type3 number) room i m ≡ withheld nothing-to-write
-  write-nothing e n = withholds nothing-to-write (writing-is e ∙ rw (eq-eqb (length m) 0 n))
+  write-nothing e n = withholds nothing-to-write (writing-is number i m e ∙ rw (eq-eqb (length m) 0 n))
 
   pub write-barred : Passing i → (length m ≡ 0 → ⊥) → mayWrite i ≡ false → write (type3 number) room i m ≡ withheld not-writable
-  write-barred e n w = withholds not-writable (writing-is e ∙ rw (ne-eqb (length m) 0 n, w))
+  write-barred e n w = withholds not-writable (writing-is number i m e ∙ rw (ne-eqb (length m) 0 n, w))
 
   pub write-long : Passing i → (length m ≡ 0 → ⊥) → mayWrite i ≡ true → 16 * nmaxbOf i < length m → write (type3 number) room i m ≡ withheld too-long
-  write-long e n w l = withholds too-long (writing-is e ∙ rw (ne-eqb (length m) 0 n, w, lt-leb (length m) (16 * nmaxbOf i) l))
+  write-long e n w l = withholds too-long (writing-is number i m e ∙ rw (ne-eqb (length m) 0 n, w, lt-leb (length m) (16 * nmaxbOf i) l))
 
 -- a tag that may be written takes some blocks of a command
 pub some-blocks : (i : List ℕ) → mayWrite i ≡ true → 0 < byte i 2
@@ -89,7 +89,7 @@ module _ (number i m : List ℕ) (room w t : ℕ) (g : Goes number i m w t) wher
       let bytes : listBytes (type3 number) (plan i m) i ≡ listAs number i m (attributes i .ln) w t
       = list-bytes number i m has-room w t (g .width-is) (g .turns-is) (g .dealt) (g .byte-12) (g .byte-13) in
       let goes : writing (type3 number) i m ≡ written (plan i m)
-      = writing-is number i m room (g .passes) ∙ rw (ne-eqb (length m) 0 (g .some-bytes), g .writable, le-leb (length m) (16 * nmaxbOf i) (g .enough)) in
+      = writing-is number i m (g .passes) ∙ rw (ne-eqb (length m) 0 (g .some-bytes), g .writable, le-leb (length m) (16 * nmaxbOf i) (g .enough)) in
       ap (writeBy (type3 number) room i) goes
       ∙ ap (λ n. fitted room n (listBytes (type3 number) (plan i m) i)) count
       ∙ ap (fitted room (2 + t)) bytes

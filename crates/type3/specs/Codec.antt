@@ -59,11 +59,12 @@ opening number = 0x08 ∷ number ++ 0x01 ∷ 0x09 ∷ 0x00 ∷ []
 abbrev pub commandBytes : List ℕ → List ℕ → List ℕ → List ℕ
 commandBytes number bs bytes = opening number ++ length bs ∷ namesBytes bs ++ bytes
 
--- the first b of the blocks and 16·b of the bytes, written to a buffer with this much room: 20, then 12, else the number of bytes
+-- these blocks and their bytes: 20, then 12, else the number of bytes
 abbrev pub encodeBy : List ℕ → ℕ → ℕ → List ℕ → List ℕ → ℕ → Output
 encodeBy number nbw nmaxb bs bytes room =
     cond (wellNamed nbw nmaxb bs) (fitted room (13 + 18 * length bs) (commandBytes number bs bytes)) (withheld not-well-formed)
 
+-- the first b of the blocks and 16·b of the bytes, written to a buffer with this much room: 20, then 12, else the number of bytes
 abbrev pub encode : List ℕ → ℕ → ℕ → ℕ → List ℕ → List ℕ → ℕ → Output
 encode number nbw nmaxb b bs bytes room =
     cond (leb b (length bs)) (encodeBy number nbw nmaxb (take b bs) (take (16 * b) bytes) room) (withheld not-well-formed)

@@ -1,4 +1,4 @@
--- The code's answer of `decode` as the definition has it.
+-- The code's answer of `decode` as the definition has it; what framed bytes are, and what writing a command asks.
 -- Assumes nothing.
 use mathlib.Core.Bool.{Bool, true, false, cond}
 use mathlib.Core.Path.{_≡_}

@@ -7,3 +7,4 @@ pub mod Type3
 pub mod InPlace
 pub mod CodecViews
 pub mod Views
+pub mod Listing

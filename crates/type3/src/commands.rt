@@ -8,10 +8,9 @@ use tag::slices;
 ghost use mathlib.Core.Path.{_≡_};
 ghost use mathlib.Core.Bool.{_&&_};
 ghost use mathlib.Core.List.{_++_, _∷_, []};
-ghost use Prim.Native.Nat.{_≤_};
+ghost use Prim.Native.Nat.{_<_, _≤_};
 ghost use lib.Dec.{leb};
 ghost use lib.ListN.{length, take, drop};
-ghost use lib.Seq.{sets};
 ghost use Rattle.tag.specs.Answers.{countOf, countAs};
 ghost use Rattle.tag.specs.Bytes.{byte, same, overwrite};
 ghost use Rattle.tag.specs.TagType.{outputInto};
@@ -43,16 +42,26 @@ fn countable(count: usize, nbw: usize) -> bool
 }
 
 // Writes the bytes up to the block count, and the count.
-fn put_opening(number: &[u8], count: usize, bytes: &mut [u8])
-    requires { ⌜ (length (now number) ≡ 8) × (count ≤ 255) × (13 ≤ length (now bytes)) ⌝ }
-    ensures { λ _. ⌜ now (bytes .exit) ≡ sets (now (bytes .entry)) 0 (opening (now (number .entry)) ++ count ∷ []) ⌝ }
+pub(crate) fn put_opening(number: &[u8], count: usize, out: &mut [u8])
+    requires { ⌜ (length (now number) ≡ 8) × (count < 256) × (13 ≤ length (now out)) ⌝ }
+    ensures { λ _. ⌜ now (out .exit) ≡ (opening (now (number .entry)) ++ (count ∷ [])) ++ drop 13 (now (out .entry)) ⌝ }
 {
-    bytes[0] = 0x08;
-    slices::store(number, 1, bytes);
-    bytes[9] = 0x01;
-    bytes[10] = 0x09;
-    bytes[11] = 0x00;
-    bytes[12] = count as u8;
+    let front = [
+        0x08,
+        number[0],
+        number[1],
+        number[2],
+        number[3],
+        number[4],
+        number[5],
+        number[6],
+        number[7],
+        0x01,
+        0x09,
+        0x00,
+        count as u8,
+    ];
+    bytes::copy(&front, out);
 }
 
 // Writes a command whose blocks may be named.
@@ -168,7 +177,8 @@ fn blocks_fit(bytes: &[u8], nmaxb: usize) -> bool
 {
     let count = bytes[12] as usize;
     let mut blocks = [0usize; 8];
-    names::take(bytes, count, nmaxb, &mut blocks)
+    names::read(bytes, count, &mut blocks);
+    names::nameable(&blocks[..count], nmaxb)
 }
 
 // Whether the bytes are a well-formed command.

@@ -83,13 +83,3 @@ pub(crate) fn read(bytes: &[u8], count: usize, blocks: &mut [usize])
         i += 1;
     }
 }
-
-// Reads them, and says whether a command may name them together.
-pub(crate) fn take(bytes: &[u8], count: usize, nmaxb: usize, blocks: &mut [usize]) -> bool
-    requires { ⌜ (13 + 2 * count ≤ length (now bytes)) × (count ≤ length (now blocks)) ⌝ }
-    ensures named { λ r. ⌜ r ≡ nameable nmaxb (numbers count (drop 13 (now (bytes .entry)))) ⌝ }
-    ensures taken { λ _. ⌜ now (blocks .exit) ≡ sets (now (blocks .entry)) 0 (numbers count (drop 13 (now (bytes .entry)))) ⌝ }
-{
-    read(bytes, count, blocks);
-    nameable(&blocks[..count], nmaxb)
-}

@@ -18,7 +18,7 @@ ghost use Rattle.tag.specs.Reading.{answer, answerOf, shown};
 ghost use Rattle.tag.specs.Answers.{whatOf, readAs};
 ghost use Rattle.type3.specs.Attributes.{attributes, flagsDefined, attributeChecks, mayWrite};
 ghost use Rattle.type3.specs.Message.{reading};
-ghost use Rattle.type3.specs.Views.{Whole, sumTo, checkedAs, Known, reportAs, answerFor};
+ghost use Rattle.type3.specs.Views.{WholeBlocks, sumTo, checkedAs, Known, reportAs, answerFor};
 
 // What block 0 says of a tag that passes the tests.
 pub struct Attributes {
@@ -105,7 +105,7 @@ fn may_write(image: &[u8]) -> bool
 
 // Refusals 5 and 7, or the attributes.
 fn sized(image: &[u8]) -> Checked
-    requires { ⌜ Whole (now image) ⌝ }
+    requires { ⌜ WholeBlocks (now image) ⌝ }
     ensures is { λ r. ⌜ checkedAs r ≡ firstOf (drop 4 (attributeChecks (length (now (image .entry))) (attributes (now (image .entry))))) ⌝ }
     ensures known { λ r. ⌜ Known (now (image .entry)) r ⌝ }
 {
@@ -131,7 +131,7 @@ fn sized(image: &[u8]) -> Checked
 
 // Refusals 2 to 4, and then those of `sized`.
 fn defined(image: &[u8]) -> Checked
-    requires { ⌜ Whole (now image) ⌝ }
+    requires { ⌜ WholeBlocks (now image) ⌝ }
     ensures is { λ r. ⌜ checkedAs r ≡ firstOf (drop 1 (attributeChecks (length (now (image .entry))) (attributes (now (image .entry))))) ⌝ }
     ensures known { λ r. ⌜ Known (now (image .entry)) r ⌝ }
 {
@@ -211,7 +211,7 @@ pub fn read(image: &[u8]) -> ReadAnswer
     }
 }
 
-// The message as a part of the image; the empty part without one, and for an answer that claims to be interrupted.
+// The message as a part of the image; empty without one, after a refusal, and where the answer's numbers do not fit or it claims to be interrupted.
 pub fn shown(image: &[u8], answer: ReadAnswer) -> &[u8]
     ensures { λ r. ⌜ now r ≡ shown (now (image .entry)) [] (readAs answer) ⌝ }
 {

@@ -1,46 +1,25 @@
 // Writing to a Type 3 tag: the list of commands for a message, laid straight into the caller's buffer.
 
+use crate::commands;
 use crate::read;
 use crate::read::Attributes;
 use crate::read::Checked;
 use tag::Block;
 use tag::CountAnswer;
 ghost use mathlib.Core.Path.{_≡_};
-ghost use mathlib.Core.List.{[], _∷_, _++_};
+ghost use mathlib.Core.List.{_++_};
 ghost use Prim.Native.Nat.{_+_, _-_, _*_, _/_, _<_, _≤_, min};
 ghost use lib.ListN.{length, drop};
 ghost use Rattle.tag.specs.Bytes.{run};
 ghost use Rattle.tag.specs.TagType.{write, outputInto};
 ghost use Rattle.tag.specs.Answers.{countOf, countAs};
 ghost use Rattle.type3.specs.Update.{blocksFor};
-ghost use Rattle.type3.specs.Codec.{namesBytes, opening};
+ghost use Rattle.type3.specs.Codec.{namesBytes};
 ghost use Rattle.type3.specs.Type3.{type3};
-ghost use Rattle.type3.specs.Views.{filled, attributeBlock, attributeCommand, messageCommand, messageCommands, listAs, Readable, Fills, Dealt, Listing};
+ghost use Rattle.type3.specs.Views.{Readable};
+ghost use Rattle.type3.specs.Listing.{filled, attributeBlock, attributeCommand, messageCommand, messageCommands, listAs, Fills, Dealt, Listing};
 
-// ---- the parts of a command
-
-// The bytes of a command up to its block count.
-fn put_opening(number: &[u8], count: usize, out: &mut [u8])
-    requires { ⌜ (length (now number) ≡ 8) × (count < 256) × (13 ≤ length (now out)) ⌝ }
-    ensures { λ _. ⌜ now (out .exit) ≡ (opening (now (number .entry)) ++ (count ∷ [])) ++ drop 13 (now (out .entry)) ⌝ }
-{
-    let front = [
-        0x08,
-        number[0],
-        number[1],
-        number[2],
-        number[3],
-        number[4],
-        number[5],
-        number[6],
-        number[7],
-        0x01,
-        0x09,
-        0x00,
-        count as u8,
-    ];
-    bytes::copy(&front, out);
-}
+// ---- the parts of a command, past its front
 
 // The names of `count` blocks from `first` on: 80h and the number.
 fn put_names(first: Block, count: usize, out: &mut [u8])
@@ -109,7 +88,7 @@ fn put_attributes(image: &[u8], number: &[u8], flag: u8, ln: usize, out: &mut [u
     requires { ⌜ (16 ≤ length (now image)) × (length (now number) ≡ 8) × (ln < 65536) × (31 ≤ length (now out)) ⌝ }
     ensures { λ _. ⌜ now (out .exit) ≡ attributeCommand (now (number .entry)) (now (image .entry)) flag ln ++ drop 31 (now (out .entry)) ⌝ }
 {
-    put_opening(number, 1, out);
+    commands::put_opening(number, 1, out);
     put_names(Block(0), 1, &mut out[13..]);
     put_attribute_block(image, flag, ln, &mut out[15..]);
 }
@@ -122,16 +101,16 @@ fn put_command(message: &[u8], number: &[u8], skip: usize, count: usize, out: &m
     let first = Block(1 + skip);
     let at = 13 + 2 * count;
     let size = 16 * count;
-    put_opening(number, count, out);
+    commands::put_opening(number, count, out);
     put_names(first, count, &mut out[13..]);
     fill_blocks(&message[16 * skip..], size, &mut out[at..]);
 }
 
-// How many of `left` blocks the next command takes.
-fn smaller(w: usize, left: usize) -> usize
-    ensures { λ r. ⌜ r ≡ min w left ⌝ }
+// The smaller of two numbers.
+fn smaller(a: usize, b: usize) -> usize
+    ensures { λ r. ⌜ r ≡ min a b ⌝ }
 {
-    if w < left { w } else { left }
+    if a < b { a } else { b }
 }
 
 // Writes all blocks of the message, `w` to a command, in `turns` commands.
@@ -193,8 +172,8 @@ fn write_to(
     list: &mut [u8],
 ) -> CountAnswer
     requires { ⌜ Readable (now image) a × (length (now number) ≡ 8) ⌝ }
-    ensures is { λ r. ⌜ countAs r ≡ countOf (write (type3 (now (number .entry))) (length (now (list .entry))) (now (image .entry)) (now (message .entry))) ⌝ }
-    ensures laid { λ _. ⌜ now (list .exit) ≡ outputInto (now (list .entry)) (write (type3 (now (number .entry))) (length (now (list .entry))) (now (image .entry)) (now (message .entry))) ⌝ }
+    ensures answer { λ r. ⌜ countAs r ≡ countOf (write (type3 (now (number .entry))) (length (now (list .entry))) (now (image .entry)) (now (message .entry))) ⌝ }
+    ensures buffer { λ _. ⌜ now (list .exit) ≡ outputInto (now (list .entry)) (write (type3 (now (number .entry))) (length (now (list .entry))) (now (image .entry)) (now (message .entry))) ⌝ }
 {
     let n = message.len();
     if n == 0 {
@@ -221,8 +200,8 @@ fn write_to(
 
 // Writes the list for the message to the front of `list`, and answers with the number of its commands.
 pub fn write(image: &[u8], message: &[u8], number: &[u8; 8], list: &mut [u8]) -> CountAnswer
-    ensures is { λ r. ⌜ countAs r ≡ countOf (write (type3 (now (number .entry))) (length (now (list .entry))) (now (image .entry)) (now (message .entry))) ⌝ }
-    ensures laid { λ _. ⌜ now (list .exit) ≡ outputInto (now (list .entry)) (write (type3 (now (number .entry))) (length (now (list .entry))) (now (image .entry)) (now (message .entry))) ⌝ }
+    ensures answer { λ r. ⌜ countAs r ≡ countOf (write (type3 (now (number .entry))) (length (now (list .entry))) (now (image .entry)) (now (message .entry))) ⌝ }
+    ensures buffer { λ _. ⌜ now (list .exit) ≡ outputInto (now (list .entry)) (write (type3 (now (number .entry))) (length (now (list .entry))) (now (image .entry)) (now (message .entry))) ⌝ }
 {
     let checked = read::attributes_of(image);
     match checked {

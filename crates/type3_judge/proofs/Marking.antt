@@ -3,15 +3,16 @@
 use mathlib.Core.Path.{_≡_, refl, sym, _∙_}
 use mathlib.Core.Bool.{Bool, true, false, not, _||_}
 use mathlib.Core.List.{List, [], _∷_}
-use Prim.Native.Nat.{ℕ, zero, suc, _+_, _-_, _*_, _<_, _≤_}
+use Prim.Native.Nat.{ℕ, zero, suc, _+_, _*_, _<_, _≤_}
 use native.Mathlib.Omega.{arith}
 use native.Mathlib.Decide.{ℕ-discrete}
 use borrow.Author.Tests.{eq-eqb, ne-eqb, le-ltb, ltb-true, ltb-false, leb-true, leb-false}
 use lib.Dec.{leb, ltb, eqb}
-use lib.ListN.{length, drop, set, replicate, length-append, length-replicate}
+use lib.ListN.{length, drop, set}
 use lib.Seq.{getD-set-same, getD-set-other}
 use Rattle.tag.specs.Bytes.{byte, run, isSet}
-use Rattle.type3.specs.Update.{blocksFor, addresses, body, values}
+use Rattle.type3.specs.Update.{blocksFor, addresses, values}
+use Rattle.type3.proofs.Body.{length-body}
 use Rattle.type3_judge.specs.Views.{markAt}
 
 -- a run of addresses sets each of them, and nothing else
@@ -64,11 +65,6 @@ mark-more l end a h f b u = go (ℕ-discrete b a)
     go : Dec (b ≡ a) → byte (set l a (markAt end a)) b ≡ markAt end b
     go (yes e) = rw e (getD-set-same l a (markAt end a) 0 h)
     go (no e) = getD-set-other l a b (markAt end a) 0 e ∙ f b (omega arith)
-
-length-body : (m : List ℕ) → length (body m) ≡ 16 * blocksFor (length m)
-length-body m =
-    let rest = 16 * blocksFor (length m) - length m in
-    omega (arith, length-append m (replicate rest 0x00), length-replicate {A = ℕ} rest 0x00)
 
 pub marks-are : (i m : List ℕ) (a : ℕ) → eqb (markAt (16 + 16 * blocksFor (length m)) a) 0 ≡ not (isSet (addresses m) (values i m) a)
 marks-are i m a =

@@ -11,11 +11,12 @@ use Rattle.tag.specs.Bytes.{byte}
 use Rattle.tag.specs.Stores.{ill, stores}
 use Rattle.tag.proofs.Storing.{sets-front}
 use Rattle.type3.specs.Codec.{decode, commandOf, span}
+use Rattle.type3.specs.Type3.{type3}
 use Rattle.type3.specs.CodecViews.{isCommand}
 use Rattle.type3.proofs.Decoding.{decode-refused}
 use Rattle.type3_model.specs.Views.{Storable, storesFrom}
 use Rattle.type3_model.proofs.Storing.{command-storable, command-stores}
-use Rattle.type3_judge.specs.Views.{commandFor, Piece, Judging}
+use Rattle.type3_judge.specs.Views.{Piece, Judging}
 
 -- ---- the bytes of a command
 
@@ -56,15 +57,15 @@ span-is list at b e = ap (λ x. 13 + 18 * x) e ∙ sym (span-at list at)
 -- ---- what it is, by the tests with the Nbw and the Nmaxb that the code has
 
 module _ {number i m old : List ℕ} {had : Bool} {nbw nmaxb : ℕ} {set : List ℕ} {size : ℕ} (k : Judging number i m old had nbw nmaxb set size) where
-  command-by : (bytes : List ℕ) → commandFor number i bytes ≡ commandOf (decode number nbw nmaxb bytes)
+  command-by : (bytes : List ℕ) → (type3 number .command) i bytes ≡ commandOf (decode number nbw nmaxb bytes)
   command-by bytes =
       sym (ap (λ n. commandOf (decode number n nmaxb bytes)) (k .marked .admitted .nbw-is) ∙ ap (λ n. commandOf (decode number (byte i 2) n bytes)) (k .marked .admitted .nmaxb-is))
 
-  pub command-ill : (bytes : List ℕ) → isCommand (decode number nbw nmaxb bytes) ≡ false → commandFor number i bytes ≡ ill
+  pub command-ill : (bytes : List ℕ) → isCommand (decode number nbw nmaxb bytes) ≡ false → (type3 number .command) i bytes ≡ ill
   command-ill bytes q = command-by bytes ∙ ap commandOf (decode-refused number nbw nmaxb bytes q)
 
   pub command-stored : (bytes : List ℕ) → isCommand (decode number nbw nmaxb bytes) ≡ true
-      → commandFor number i bytes ≡ stores (storesFrom bytes (byte bytes 12) 0)
+      → (type3 number .command) i bytes ≡ stores (storesFrom bytes (byte bytes 12) 0)
   command-stored bytes q = command-by bytes ∙ command-stores number nbw nmaxb bytes q
 
   pub command-inside : (bytes : List ℕ) → isCommand (decode number nbw nmaxb bytes) ≡ true → Storable bytes size

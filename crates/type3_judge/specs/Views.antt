@@ -9,17 +9,12 @@ use lib.ListN.{length, take, drop}
 use Rattle.tag.specs.Bytes.{byte}
 use Rattle.tag.specs.Checks.{fine, firstOf}
 use Rattle.tag.specs.Reading.{heldOf}
-use Rattle.tag.specs.Stores.{Command}
 use Rattle.tag.specs.Plan.{protected}
 use Rattle.tag.specs.Answers.{oldHeld}
 use Rattle.type3.specs.Attributes.{nmaxbOf, attributes, attributeChecks}
 use Rattle.type3.specs.Message.{reading}
 use Rattle.type3.specs.Update.{plan}
-use Rattle.type3.specs.Codec.{decode, commandOf, span}
-
--- what the tag handed in takes a command's bytes for
-abbrev pub commandFor : List ℕ → List ℕ → List ℕ → Command
-commandFor number i bytes = commandOf (decode number (byte i 2) (nmaxbOf i) bytes)
+use Rattle.type3.specs.Codec.{span}
 
 -- 1 at an address that writing sets, where the message's blocks end at `end`
 abbrev pub markAt : ℕ → ℕ → ℕ

@@ -18,7 +18,7 @@ ghost use Rattle.tag.specs.Answers.{verdictAs};
 ghost use Rattle.type3.specs.Codec.{span};
 ghost use Rattle.type3.specs.Type3.{type3};
 ghost use Rattle.type3.specs.Views.{Readable};
-ghost use Rattle.type3_judge.specs.Views.{commandFor, Judging, Admitted, Marked};
+ghost use Rattle.type3_judge.specs.Views.{Judging, Admitted, Marked};
 
 // The list's commands, on the tag `work`.
 fn judge_list(
@@ -34,7 +34,7 @@ fn judge_list(
     work: &mut [u8],
 ) -> JudgeAnswer
     requires { ⌜ Judging (now number) (now image) (now message) (now old) had nbw nmaxb (now set) (length (now work)) ⌝ }
-    ensures { λ r. ⌜ verdictAs r ≡ judge (task (type3 (now (number .entry))) (now (image .entry)) (now (message .entry))) 0 (now (work .entry)) (map (commandFor (now (number .entry)) (now (image .entry))) (cutUp span (length (now (list .entry))) (now (list .entry)))) ⌝ }
+    ensures { λ r. ⌜ verdictAs r ≡ judge (task (type3 (now (number .entry))) (now (image .entry)) (now (message .entry))) 0 (now (work .entry)) (map ((type3 (now (number .entry)) .command) (now (image .entry))) (cutUp span (length (now (list .entry))) (now (list .entry)))) ⌝ }
 {
     let mut at = 0usize;
     let mut count = 0usize;
@@ -76,7 +76,7 @@ fn judge_copy(
     work: &mut [u8],
 ) -> JudgeAnswer
     requires { ⌜ Marked (now image) (now message) nbw nmaxb (now set) (length (now work)) ⌝ }
-    ensures { λ r. ⌜ verdictAs r ≡ judge (task (type3 (now (number .entry))) (now (image .entry)) (now (message .entry))) 0 (now (image .entry)) (map (commandFor (now (number .entry)) (now (image .entry))) (cutUp span (length (now (list .entry))) (now (list .entry)))) ⌝ }
+    ensures { λ r. ⌜ verdictAs r ≡ judge (task (type3 (now (number .entry))) (now (image .entry)) (now (message .entry))) 0 (now (image .entry)) (map ((type3 (now (number .entry)) .command) (now (image .entry))) (cutUp span (length (now (list .entry))) (now (list .entry)))) ⌝ }
 {
     slices::store(image, 0, work);
     let answer = read::read(image);
@@ -107,7 +107,7 @@ fn judge_marked(
     set: &mut [u8],
 ) -> JudgeAnswer
     requires { ⌜ Admitted (now image) nbw nmaxb × (length (now set) ≡ 4096) ⌝ }
-    ensures { λ r. ⌜ verdictAs r ≡ judge (task (type3 (now (number .entry))) (now (image .entry)) (now (message .entry))) 0 (now (image .entry)) (map (commandFor (now (number .entry)) (now (image .entry))) (cutUp span (length (now (list .entry))) (now (list .entry)))) ⌝ }
+    ensures { λ r. ⌜ verdictAs r ≡ judge (task (type3 (now (number .entry))) (now (image .entry)) (now (message .entry))) 0 (now (image .entry)) (map ((type3 (now (number .entry)) .command) (now (image .entry))) (cutUp span (length (now (list .entry))) (now (list .entry)))) ⌝ }
 {
     let blocks = (message.len() + 15) / 16;
     marks::mark(16 + 16 * blocks, set);

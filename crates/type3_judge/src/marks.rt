@@ -22,7 +22,7 @@ fn mark_of(a: usize, end: usize) -> u8
     1
 }
 
-// Marks every address of `set`.
+// Gives every entry of `set` the mark of its address.
 pub(crate) fn mark(end: usize, set: &mut [u8])
     ensures size { λ _. ⌜ length (now (set .exit)) ≡ length (now (set .entry)) ⌝ }
     ensures marked { λ _. ⌜ ((a : ℕ) → a < length (now (set .entry)) → byte (now (set .exit)) a ≡ markAt end a) ⌝ }

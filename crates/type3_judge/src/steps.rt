@@ -14,7 +14,7 @@ ghost use Rattle.tag.specs.Judge.{holdsAs, readsAs, fault, task};
 ghost use Rattle.tag.specs.Answers.{oldHeld};
 ghost use Rattle.type3.specs.Message.{reading};
 ghost use Rattle.type3.specs.Type3.{type3};
-ghost use Rattle.type3_judge.specs.Views.{commandFor, Piece, Judging};
+ghost use Rattle.type3_judge.specs.Views.{Piece, Judging};
 
 // How many bytes the command at `at` takes, by its own count; a rest that is shorter is the last command.
 pub(crate) fn piece_size(list: &[u8], at: usize) -> usize
@@ -64,8 +64,8 @@ pub(crate) fn step(
     work: &mut [u8],
 ) -> u8
     requires { ⌜ Judging (now number) (now image) (now message) (now old) had nbw nmaxb (now set) (length (now work)) ⌝ }
-    ensures is { λ r. ⌜ r ≡ fault (task (type3 (now (number .entry))) (now (image .entry)) (now (message .entry))) (now (work .entry)) (commandFor (now (number .entry)) (now (image .entry)) (now (command .entry))) ⌝ }
-    ensures leaves { λ _. ⌜ now (work .exit) ≡ done (now (work .entry)) (commandFor (now (number .entry)) (now (image .entry)) (now (command .entry))) ⌝ }
+    ensures is { λ r. ⌜ r ≡ fault (task (type3 (now (number .entry))) (now (image .entry)) (now (message .entry))) (now (work .entry)) ((type3 (now (number .entry)) .command) (now (image .entry)) (now (command .entry))) ⌝ }
+    ensures leaves { λ _. ⌜ now (work .exit) ≡ done (now (work .entry)) ((type3 (now (number .entry)) .command) (now (image .entry)) (now (command .entry))) ⌝ }
     ensures size { λ _. ⌜ length (now (work .exit)) ≡ length (now (work .entry)) ⌝ }
 {
     if !commands::is_command(command, number, nbw, nmaxb) {

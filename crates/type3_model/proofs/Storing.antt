@@ -2,13 +2,13 @@
 -- Assumes nothing.
 use mathlib.Core.Path.{_≡_, refl, ap, _∙_}
 use mathlib.Core.Bool.{true}
-use mathlib.Core.List.{List, [], _∷_}
+use mathlib.Core.List.{List, _∷_}
 use Prim.Native.Nat.{ℕ, zero, suc, _+_, _-_, _*_, _<_, _≤_}
 use native.Mathlib.Omega.{arith}
-use lib.ListN.{length, take, drop}
-use lib.Seq.{sets, length-sets, drop-drop, getD-drop}
+use lib.ListN.{take, drop}
+use lib.Seq.{sets, drop-drop, getD-drop}
 use Rattle.tag.specs.Bytes.{byte}
-use Rattle.tag.specs.Stores.{Store, put, puts, stores}
+use Rattle.tag.specs.Stores.{puts, stores}
 use Rattle.type3.specs.Codec.{nameable, decode, storesOf, commandOf}
 use Rattle.type3.specs.InPlace.{numbers}
 use Rattle.type3.specs.CodecViews.{isCommand, Framed}
@@ -60,11 +60,6 @@ puts-next j bytes b k h = ap (puts j) (stores-next bytes b k h)
 pub puts-end : (j bytes : List ℕ) (b k : ℕ) → b ≤ k → puts j (storesFrom bytes b k) ≡ j
 unfolding numbers
 puts-end j bytes b k h = let e : b - k ≡ 0 = omega arith in rw e
-
--- stores change no length
-pub length-puts : (j : List ℕ) (ss : List Store) → length (puts j ss) ≡ length j
-length-puts j [] = refl
-length-puts j (s ∷ ss) = length-puts (put j s) ss ∙ length-sets j (s .at) (s .bytes)
 
 module _ (number : List ℕ) (nbw nmaxb : ℕ) (bytes : List ℕ) (h : isCommand (decode number nbw nmaxb bytes) ≡ true) where
   -- a well-formed command's blocks lie in the data area

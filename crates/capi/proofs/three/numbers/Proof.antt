@@ -1,11 +1,11 @@
 -- `three::numbers` meets its contract. Assumes nothing.
-use Rattle.capi.proofs.Numbers.{eight}
+use Rattle.tag.proofs.Runs.{bytes-of}
 use borrow.Author.Needs.{needs}
 use Rattle.capi.proofs.three.numbers.Statement.{statement}
 use Rattle.capi.proofs.three.numbers.Tie as tie
 
 returns : tie.Need-returns
-returns c = eight (c .before .before .before .before .before .before .before .before .args .blocks .now) (c .before .before .before .before .before .before .before .before .pre)
+returns c = bytes-of (c .before .before .before .before .before .before .before .before .args .blocks .now) 8 (c .before .before .before .before .before .before .before .before .pre)
 
 pub numbers-spec : {M : Type 1} → statement M
 numbers-spec =

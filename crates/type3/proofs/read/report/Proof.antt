@@ -1,3 +1,4 @@
+-- `read::report` meets its contract. Assumes nothing.
 use borrow.Author.Needs.{needs}
 use Rattle.tag.proofs.Cases.{cases}
 use Rattle.type3.proofs.read.report.Statement.{statement}

@@ -2,7 +2,7 @@
 use mathlib.Core.Path.{refl}
 use mathlib.Core.List.{[], _∷_}
 use borrow.Author.Needs.{needs}
-use Rattle.type3.specs.Views.{attributeBlock}
+use Rattle.type3.specs.Listing.{attributeBlock}
 use Rattle.type3.proofs.Attributes.{length-attribute-block}
 use Rattle.type3.proofs.Laying.{lay-command}
 use Rattle.type3.proofs.write.put_attributes.Statement.{statement}

@@ -6,7 +6,7 @@ use native.Mathlib.Omega.{arith}
 use borrow.Author.Needs.{needs}
 use lib.ListN.{length, length-append}
 use Rattle.type3.specs.Update.{blocksFor}
-use Rattle.type3.specs.Views.{attributeCommand, messageCommands}
+use Rattle.type3.specs.Listing.{attributeCommand, messageCommands}
 use Rattle.type3.proofs.Attributes.{length-attribute-command}
 use Rattle.tag.proofs.Filling.{lay-part}
 use Rattle.type3.proofs.Dealing.{length-commands}

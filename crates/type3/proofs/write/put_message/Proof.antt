@@ -6,7 +6,7 @@ use native.Mathlib.Omega.{arith}
 use borrow.Author.Needs.{needs}
 use lib.ListN.{length, drop, length-take, length-drop}
 use Rattle.type3.specs.Update.{blocksFor}
-use Rattle.type3.specs.Views.{messageCommand, messageCommands, Dealt}
+use Rattle.type3.specs.Listing.{messageCommand, messageCommands, Dealt}
 use Rattle.tag.proofs.Filling.{lay-part}
 use Rattle.type3.proofs.Dealing.{times-more, place-more, left-over, commands-more, length-commands}
 use Rattle.type3.proofs.write.put_message.Statement.{statement}

@@ -6,8 +6,8 @@ use Rattle.tag.specs.Judge.{judge, task}
 use Rattle.type3.specs.Type3.{type3}
 use Rattle.tag.specs.TagType.{cutUp}
 use Rattle.type3.specs.Codec.{span}
-use Rattle.type3_judge.specs.Views.{commandFor, Marked}
-use Rattle.type3_judge.proofs.Refusing.{old-read}
+use Rattle.type3_judge.specs.Views.{Marked}
+use Rattle.type3_judge.proofs.Holding.{old-read}
 use Rattle.type3_judge.proofs.Stepping.{copied}
 use borrow.Author.Needs.{needs}
 use Rattle.type3_judge.proofs.judge.judge_copy.Statement.{statement}
@@ -29,7 +29,7 @@ returns c =
     let k = c .before .before .before .before .before .before .before .before .before .before .before .before .before .before .before .before .pre in
     let same = c .before .before .before .before .before .before .before .before .before .store .ensures ∙ copied (a .image .now) (a .work .now) (k .same-size) in
     c .before .before .judge-list .ensures
-    ∙ ap (λ w. judge (task (type3 (a .number .now)) (a .image .now) (a .message .now)) 0 w (map (commandFor (a .number .now) (a .image .now)) (cutUp span (length (a .list .now)) (a .list .now)))) same
+    ∙ ap (λ w. judge (task (type3 (a .number .now)) (a .image .now) (a .message .now)) 0 w (map ((type3 (a .number .now) .command) (a .image .now)) (cutUp span (length (a .list .now)) (a .list .now)))) same
 
 pub judge-copy-spec : {M : Type 1} → statement M
 judge-copy-spec =

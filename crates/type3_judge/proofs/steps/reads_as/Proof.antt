@@ -1,7 +1,7 @@
 -- `steps::reads_as` meets its contract. Assumes nothing.
 use mathlib.Core.Path.{ap, _∙_}
 use Rattle.tag.specs.Judge.{holdsAs}
-use Rattle.type3_judge.proofs.Refusing.{held-read}
+use Rattle.type3_judge.proofs.Holding.{held-read}
 use borrow.Author.Needs.{needs}
 use Rattle.type3_judge.proofs.steps.reads_as.Statement.{statement}
 use Rattle.type3_judge.proofs.steps.reads_as.Tie as tie

@@ -2,7 +2,7 @@
 use mathlib.Core.Path.{ap, _∙_}
 use Rattle.tag.specs.Judge.{readsAs}
 use Rattle.tag.specs.Answers.{oldHeld}
-use Rattle.type3_judge.proofs.Refusing.{held-read}
+use Rattle.type3_judge.proofs.Holding.{held-read}
 use borrow.Author.Needs.{needs}
 use Rattle.type3_judge.proofs.steps.reads_safely.Statement.{statement}
 use Rattle.type3_judge.proofs.steps.reads_safely.Tie as tie
