@@ -20,8 +20,10 @@ use Rattle.tag.proofs.Counts.{length-list, counted-same}
 use Rattle.tlv.specs.declared.walk.Walk.{Walk}
 use Rattle.tlv.specs.Update.{content, lengthAt, planBy}
 use Rattle.tlv.specs.Views.{ahead}
+use Rattle.tlv.specs.Values.{BlocksMarked}
 use Rattle.tlv.proofs.Usable.{from, At, from-first, from-end}
-use Rattle.tlv_tag.specs.Update.{ContentMarked}
+use Rattle.tlv_tag.specs.Update.{contentLength}
+use Rattle.tlv_tag.proofs.Content.{length-content}
 use Rattle.type2.specs.Codec.{encoded}
 use Rattle.type2.specs.Type2.{type2}
 use Rattle.type2.specs.Listing.{blockBytes, oneEach, marked, markedCount, markedBytes, guardedBytes, guardedOutput}
@@ -44,12 +46,12 @@ first-usable t w f p e l =
 -- ---- the marks
 
 module _ (us i m before after : List ℕ) (first : ℕ) (zeros : before ≡ replicate (length before) 0) (same : length after ≡ length before)
-    (is : ContentMarked 4 (length m) us before after) (at : first ≡ lengthAt us) where
+    (is : BlocksMarked 4 (contentLength (length m)) us before after) (at : first ≡ lengthAt us) where
   -- the blocks that hold a byte to set
   marked-touches : (b : ℕ) → b < length before → marked after b ≡ touches 4 us (content m) b
   marked-touches b l =
       let z : byte before b ≡ 0 = ap (λ k. byte k b) zeros ∙ getD-replicate (length before) b 0 0 l in
-      ap not (is m b refl l) ∙ rw z (go (touches 4 us (content m) b))
+      ap not (is (content m) b (length-content m) l) ∙ rw z (go (touches 4 us (content m) b))
     where
       go : (t : Bool) → not (not t) ≡ t
       go true = refl

@@ -19,7 +19,7 @@ found c =
     let s = c .before .before .before .before .before .before .before .before .before .before .before .before .before .before .before .before .before .before .before in
     let n = c .before .next-usable in
     first-usable (s .args .table .now) (s .args .w) (n .result .0)
-    (record { within = n .ensures .0 .1; in-table = s .pre .room .placed .in-table; free = n .ensures .1 .1 }) (n .ensures .1 .0) (omega (arith, s .pre .room .enough))
+    (record { within = n .ensures .0 .1; in-table = s .pre .room .placed .within .in-table; free = n .ensures .1 .1 }) (n .ensures .1 .0) (omega (arith, s .pre .room .enough))
 
 slice-write-marks : tie.Need-slice-write-marks
 slice-write-marks c =
