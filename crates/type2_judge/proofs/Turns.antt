@@ -19,7 +19,7 @@ use Rattle.type2.specs.Type2.{type2}
 use Rattle.type2.proofs.Modelling.{command-ill}
 use Rattle.type2_judge.specs.Task.{taskFor}
 
--- a command's bytes, and what the tag takes them for
+-- the six bytes of a command, or the rest
 abbrev pub piece : List ℕ → ℕ → List ℕ
 piece list at = take 6 (drop at list)
 
