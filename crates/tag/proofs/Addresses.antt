@@ -37,6 +37,11 @@ module _ (hi : ℕ) where
   above-drop x (suc n) [] h = h
   above-drop x (suc n) (y ∷ us) h = above-drop x n us (above-less x y us (omega (arith, h .0)) (h .1))
 
+  pub rising-drop : (n : ℕ) (us : List ℕ) → Rising us → Rising (drop n us)
+  rising-drop zero us h = h
+  rising-drop (suc n) [] h = tt
+  rising-drop (suc n) (x ∷ us) h = above-rising x (drop n us) (above-drop x n us h)
+
   pub above-hi : (x : ℕ) (us : List ℕ) → Above x us → x < hi
   above-hi x [] h = h
   above-hi x (y ∷ us) h = omega (arith, h .0, above-hi y us (h .1))

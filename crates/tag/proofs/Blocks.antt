@@ -18,7 +18,7 @@ use Rattle.tag.specs.Plan.{blockOf, inBlock, picks, chunk, chunks}
 use Rattle.tag.specs.Judge.{Task}
 use Rattle.tag.proofs.Logic.{and-l, and-r, and-both}
 use Rattle.tag.proofs.Each.{Each, each-take, each-drop}
-use Rattle.tag.proofs.Guarded.{In, Piece, Eaches, Some, Somes, Guard, Beside, Opens, Tail}
+use Rattle.tag.proofs.Guarded.{In, Piece, Eaches, Some, Somes, Guard, Beside, Shuts, Tail}
 
 -- ---- stores dealt out to commands
 
@@ -131,8 +131,8 @@ module _ (t : Task) (g : Guard t) (z w N A : ℕ) (p : ℕ → Bool)
   room-A : z * A + z ≤ z * N
   room-A = fits A inside
 
-  pub block-opens : Opens t g (blockOf z (g .closed) A)
-  block-opens =
+  pub block-shuts : Shuts t g (blockOf z (g .closed) A)
+  block-shuts =
       record {
         first-piece = block-piece z (g .closed) A (omega (arith, whole, closed-length, room-A));
         first-in = λ a l. rw is-block (block-in z (g .closed) A a (omega (arith, whole, closed-length, room-A)));

@@ -139,7 +139,7 @@ module _ (t : Task) (g : Guard t) where
       go (inl (inr i)) = inl i
       go (inr e) = inr (new-puts ss j a l (p .0) (inr e))
 
-  -- so is every tag that a command may leave
+  -- every tag that a command beside the guard may leave has its guard shut still
   btw-left : (ss : List Store) (j x : List ℕ) → Btw j → Each Beside ss → Left j (stores ss) x → Btw x
   btw-left ss j x b p e = rw e (btw-puts ss j b p)
 
@@ -173,8 +173,8 @@ module _ (t : Task) (g : Guard t) where
     M-btw : Btw (runs j mids)
     M-btw = btw-runs mids j b (s .mids-beside)
 
-    closing : put (runs j mids) last ≡ g .new
-    closing =
+    last-new : put (runs j mids) last ≡ g .new
+    last-new =
         ext-getD 0 (put (runs j mids) last) (g .new) (length-sets (runs j mids) (last .at) (last .bytes) ∙ M-btw .0 ∙ sym (g .new-length))
         (λ a h.
         let l : a < length (t .start) = omega (arith, length-sets (runs j mids) (last .at) (last .bytes), M-btw .0) in
@@ -186,27 +186,27 @@ module _ (t : Task) (g : Guard t) where
         aside a l n false q =
             new-runs mids j a (omega (arith, b .0)) (s .mids-beside) (⊎-elim inl (λ e. inr (off a l q ∙ e)) (s .covered a l q))
 
-    -- the closing command: done, or not begun
+    -- the last command leaves the new image
     last-left : (P : List ℕ → Type 0) → P (runs j mids) → P (g .new) → (x : List ℕ) → Left (runs j mids) (stores (last ∷ [])) x → P x
-    last-left P p q x e = rw e (rw closing q)
+    last-left P p q x e = rw e (rw last-new q)
 
     pub ending-accepts : (n : ℕ) → judge t n j (ending last mids) ≡ accepted (n + length mids + 1)
     ending-accepts n =
         judge-runs mids n j (stores (last ∷ []) ∷ []) b (s .mids-beside)
         ∙ judge-goes t (n + length mids) (runs j mids) (last ∷ []) []
         (last-left (Kept t) (btw-kept _ M-btw) (g .new-kept)) (last-left (Safe t) (btw-safe _ M-btw) (as-new (g .reads)))
-        ∙ judge-ends t (suc (n + length mids)) (put (runs j mids) last) (rw closing (g .reads))
+        ∙ judge-ends t (suc (n + length mids)) (put (runs j mids) last) (rw last-new (g .reads))
         ∙ ap accepted (omega arith)
 
     pub ending-cut : cut (length (ending last mids)) j (ending last mids) ≡ g .new
-    ending-cut = cut-runs mids j (stores (last ∷ []) ∷ []) ∙ closing
+    ending-cut = cut-runs mids j (stores (last ∷ []) ∷ []) ∙ last-new
 
-  -- the whole list, with its opening command
-  pub record Opens (first : Store) : Type 0 where
+  -- the whole list, with its first command
+  pub record Shuts (first : Store) : Type 0 where
     pub first-piece : Piece (g .closed) first
     pub first-in : (a : ℕ) → a < length (t .start) → In first a ↔ ((g .block) a ≡ true)
 
-  module _ (first last : Store) (mids : List (List Store)) (o : Opens first) (s : Tail last mids) where
+  module _ (first last : Store) (mids : List (List Store)) (o : Shuts first) (s : Tail last mids) where
     cell : (a : ℕ) → a < length (t .start) → Cell (g .block) (t .start) (g .closed) (g .new) (put (t .start) first) a
         × ((g .block) a ≡ false → byte (put (t .start) first) a ≡ byte (t .start) a)
     cell a l = go (put-cases (g .closed) (t .start) first a (o .first-piece) l) ((g .block) a) refl
@@ -218,8 +218,8 @@ module _ (t : Task) (g : Guard t) where
         go (inr c) true q = absurd (c .0 (o .first-in a l .1 q))
         go (inr c) false q = (old q (c .1), λ e. c .1)
 
-    opened : Btw (put (t .start) first)
-    opened = (length-sets (t .start) (first .at) (first .bytes), λ a l. cell a l .0)
+    shut-first : Btw (put (t .start) first)
+    shut-first = (length-sets (t .start) (first .at) (first .bytes), λ a l. cell a l .0)
 
     first-left : (P : List ℕ → Type 0) → P (t .start) → P (put (t .start) first) → (x : List ℕ) → Left (t .start) (stores (first ∷ [])) x → P x
     first-left P p q x e = rw e q
@@ -227,14 +227,14 @@ module _ (t : Task) (g : Guard t) where
     pub accepts : ((t .held) (t .start) ≡ broken → ⊥) → judge t 0 (t .start) (stores (first ∷ []) ∷ ending last mids) ≡ accepted (2 + length mids)
     accepts ok =
         judge-goes t 0 (t .start) (first ∷ []) (ending last mids)
-        (first-left (Kept t) (λ a l q. refl) (btw-kept _ opened)) (first-left (Safe t) (start-safe t ok) (btw-safe _ opened))
-        ∙ ending-accepts last mids s (put (t .start) first) opened (λ a l. cell a l .1) 1
+        (first-left (Kept t) (λ a l q. refl) (btw-kept _ shut-first)) (first-left (Safe t) (start-safe t ok) (btw-safe _ shut-first))
+        ∙ ending-accepts last mids s (put (t .start) first) shut-first (λ a l. cell a l .1) 1
         ∙ ap accepted (omega arith)
 
     pub last-cut : cut (length (stores (first ∷ []) ∷ ending last mids)) (t .start) (stores (first ∷ []) ∷ ending last mids) ≡ g .new
-    last-cut = ending-cut last mids s (put (t .start) first) opened (λ a l. cell a l .1)
+    last-cut = ending-cut last mids s (put (t .start) first) shut-first (λ a l. cell a l .1)
 
-  -- without its opening command, where the guard is shut already
+  -- without its first command, where the guard is shut already
   module _ (last : Store) (mids : List (List Store)) (s : Tail last mids)
       (closed-now : (a : ℕ) → a < length (t .start) → (g .block) a ≡ true → byte (t .start) a ≡ byte (g .closed) a) where
     shut-now : Btw (t .start)

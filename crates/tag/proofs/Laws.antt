@@ -1,4 +1,4 @@
--- What each type of tag shows of itself, and no more: from these laws demand 3 follows for every type alike.
+-- What each type of tag shows of itself, and no more: from these laws demands 2 and 3 follow for every type alike.
 -- Assumes nothing.
 use mathlib.Core.Path.{_≡_, refl, sym, ap, _∙_}
 use mathlib.Core.Bool.{false}

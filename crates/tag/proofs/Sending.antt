@@ -17,7 +17,7 @@ use Rattle.tag.specs.Plan.{Plan, newImage, blockOf, inBlock, touches, be
 use Rattle.tag.proofs.Logic.{and-l, and-r, or-cases}
 use Rattle.tag.proofs.Each.{Each, each-append, each-both}
 use Rattle.tag.proofs.Images.{length-overlay}
-use Rattle.tag.proofs.Addresses.{Above, Rising, above-less, above-hi, above-rising, above-take, above-drop}
+use Rattle.tag.proofs.Addresses.{Above, Rising, above-less, above-hi, above-rising, above-take, rising-drop}
 use Rattle.tag.proofs.Runs.{map-take, map-drop}
 use Rattle.tag.proofs.Blocks.{chunk-each}
 
@@ -78,11 +78,6 @@ rising-take : (hi k : ℕ) (us : List ℕ) → Rising hi us → Rising hi (take 
 rising-take hi zero us h = tt
 rising-take hi (suc k) [] h = tt
 rising-take hi (suc k) (x ∷ us) h = above-take hi k x us h
-
-rising-drop : (hi k : ℕ) (us : List ℕ) → Rising hi us → Rising hi (drop k us)
-rising-drop hi zero us h = h
-rising-drop hi (suc k) [] h = tt
-rising-drop hi (suc k) (x ∷ us) h = above-rising hi x (drop k us) (above-drop hi x k us h)
 
 -- ---- commands
 

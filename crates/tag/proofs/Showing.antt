@@ -2,18 +2,17 @@
 -- can be compared by its answer and that part.
 -- Assumes nothing.
 use mathlib.Core.Path.{_≡_, refl, sym, ap, _∙_}
-use mathlib.Core.Bool.{Bool, true, false, _&&_, cond}
+use mathlib.Core.Bool.{Bool, true, false, cond, and-false}
 use mathlib.Core.List.{List}
 use Prim.Native.Nat.{ℕ, _+_, _≤_}
 use native.Mathlib.Omega.{arith}
 use borrow.Author.Tests.{ltb-false, le-leb, le-ltb}
-use lib.Dec.{ltb}
 use lib.ListN.{length, drop, length-append}
 use lib.Seq.{take-append-seam}
 use Rattle.tag.specs.Bytes.{overwrite}
-use Rattle.tag.specs.Reading.{What, message, empty, being-written, Report, Reading, unreadable, reads, tooShort, answer, answerOf, gatheredInto, part, shown, heldOf}
+use Rattle.tag.specs.Reading.{What, message, empty, being-written, Report, Reading, unreadable, reads, tooShort, Answer, refusal, answer, answerOf, gatheredInto, part, shown, broken, heldOf}
 use Rattle.tag.specs.TagType.{TagType, held}
-use Rattle.tag.specs.Answers.{heldBy}
+use Rattle.tag.specs.Answers.{heldBy, oldHeld, isMessage}
 use Rattle.tag.proofs.Logic.{nope}
 use Rattle.tag.proofs.Laws.{Laws}
 
@@ -22,6 +21,13 @@ part-front : (bytes buffer : List ℕ) → length bytes ≤ length buffer → pa
 part-front bytes buffer l =
     let k : 0 + length bytes ≤ length (overwrite bytes buffer) = rw length-append (omega arith) in
     rw (le-leb (0 + length bytes) (length (overwrite bytes buffer)) k) (take-append-seam bytes (drop (length bytes) buffer))
+
+-- the old message, of a tag that reads
+pub old-held : (a : Answer) (part : List ℕ) → (heldBy a part ≡ broken → ⊥) → oldHeld (isMessage a) part ≡ heldBy a part
+old-held (refusal r) part n = absurd (n refl)
+old-held (answer message a n interrupted w) part h = refl
+old-held (answer empty a n interrupted w) part h = refl
+old-held (answer being-written a n interrupted w) part h = refl
 
 module _ (T : TagType) (L : Laws T) where
   pub shown-part : (i buffer : List ℕ) (p : Report) → (T .reading) i ≡ reads p → tooShort (length buffer) p ≡ false
@@ -43,11 +49,7 @@ module _ (T : TagType) (L : Laws T) where
   held-shown i buffer fits = go ((T .reading) i) refl
     where
       roomy : (p : Report) → length (p .bytes) ≤ length buffer → tooShort (length buffer) p ≡ false
-      roomy p l = let z : ltb (length buffer) (length (p .bytes)) ≡ false = le-ltb (length buffer) (length (p .bytes)) l in or-none (p .interrupted) (ltb (length buffer) (length (p .bytes))) z
-        where
-          or-none : (a b : Bool) → b ≡ false → a && b ≡ false
-          or-none true b q = q
-          or-none false b q = refl
+      roomy p l = rw (le-ltb (length buffer) (length (p .bytes)) l) (and-false (p .interrupted))
 
       go : (v : Reading) → (T .reading) i ≡ v
           → heldBy (answerOf (length buffer) v) (shown i (gatheredInto buffer v) (answerOf (length buffer) v)) ≡ heldOf v

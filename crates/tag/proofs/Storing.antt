@@ -1,12 +1,12 @@
 -- Bytes stored one after the other: one byte more, and bytes laid end to end at a buffer's front.
 -- Assumes nothing.
-use mathlib.Core.Path.{_≡_, sym, _∙_}
-use mathlib.Core.List.{List, [], _∷_, _++_}
+use mathlib.Core.Path.{_≡_, sym, ap, _∙_}
+use mathlib.Core.List.{List, [], _∷_, _++_, append-nil}
 use Prim.Native.Nat.{ℕ, suc, _+_, _<_, _≤_}
 use native.Mathlib.Numerals.{add-one}
 use native.Mathlib.Nat.{add-zero}
 use native.Mathlib.Omega.{arith}
-use lib.ListN.{length, take, set}
+use lib.ListN.{length, take, set, drop-of-length-le}
 use lib.Seq.{sets, sets-eq, take-suc, length-take-le}
 use Rattle.tag.specs.Bytes.{byte, overwrite}
 
@@ -29,3 +29,10 @@ sets-front y t h = sets-eq y t 0 (omega arith) ∙ rw zero-add
   where
     zero-add : 0 + length y ≡ length y
     zero-add = omega arith
+
+-- a whole buffer stored over: a copy
+pub copied : (image work : List ℕ) → length work ≡ length image → sets work 0 image ≡ image
+copied image work l =
+    sets-front image work (omega arith)
+    ∙ ap (λ r. image ++ r) (drop-of-length-le work {i = length image} (omega arith))
+    ∙ append-nil image

@@ -19,8 +19,8 @@ use Rattle.tag.specs.Judge.{taskOf, accepted, judge}
 use Rattle.tag.specs.Cuts.{Kept}
 use Rattle.tag.proofs.Logic.{and-l, or-l, or-r, or-cases, true-false}
 use Rattle.tag.proofs.Images.{length-overlay, overlay-out}
-use Rattle.tag.proofs.Guarded.{Between, Guard, Opens, Tail, ending, accepts, last-cut, short-accepts, short-cut}
-use Rattle.tag.proofs.Blocks.{block-opens, block-tail}
+use Rattle.tag.proofs.Guarded.{Between, Guard, Shuts, Tail, ending, accepts, last-cut, short-accepts, short-cut}
+use Rattle.tag.proofs.Blocks.{block-shuts, block-tail}
 
 -- what a type of tag shows of the plan for a tag and a message
 pub record Sound (T : TagType) (i m : List ℕ) (p : Plan) : Type 0 where
@@ -71,9 +71,9 @@ module _ (T : TagType) (i m : List ℕ) (p : Plan) (s : Sound T i m p) where
       (chunks (p .width) (picks pick (p .size) (newImage p i) 0 (length i / p .size)))
 
   module _ (pick : ℕ → Bool) (c : Choice pick) where
-    opens : Opens (taskOf T i m p) guard (blockOf (p .size) (p .closed) (p .guard))
-    opens =
-        block-opens (taskOf T i m p) guard (p .size) (p .width) (length i / p .size) (p .guard) pick (s .some-size) (s .some-width) (s .whole) (s .inside)
+    shuts : Shuts (taskOf T i m p) guard (blockOf (p .size) (p .closed) (p .guard))
+    shuts =
+        block-shuts (taskOf T i m p) guard (p .size) (p .width) (length i / p .size) (p .guard) pick (s .some-size) (s .some-width) (s .whole) (s .inside)
         (λ a. refl) (s .closed-length) (c .others) (c .complete)
 
     tail : Tail (taskOf T i m p) guard (blockOf (p .size) (newImage p i) (p .guard)) (chunks (p .width) (picks pick (p .size) (newImage p i) 0 (length i / p .size)))
@@ -81,13 +81,13 @@ module _ (T : TagType) (i m : List ℕ) (p : Plan) (s : Sound T i m p) where
         block-tail (taskOf T i m p) guard (p .size) (p .width) (length i / p .size) (p .guard) pick (s .some-size) (s .some-width) (s .whole) (s .inside)
         (λ a. refl) (s .closed-length) (c .others) (c .complete)
 
-    -- the list with its opening command
+    -- the list with its first command
     pub chosen-accepted : (held T i ≡ broken → ⊥)
         → judge (taskOf T i m p) 0 i (stores (blockOf (p .size) (p .closed) (p .guard) ∷ []) ∷ rest pick) ≡ accepted (suc (length (rest pick)))
-    chosen-accepted ok = accepts (taskOf T i m p) guard _ _ _ opens tail ok ∙ ap accepted (simp (length-append, length-map) (omega arith))
+    chosen-accepted ok = accepts (taskOf T i m p) guard _ _ _ shuts tail ok ∙ ap accepted (simp (length-append, length-map) (omega arith))
 
     pub chosen-ends : cut (suc (length (rest pick))) i (stores (blockOf (p .size) (p .closed) (p .guard) ∷ []) ∷ rest pick) ≡ newImage p i
-    chosen-ends = last-cut (taskOf T i m p) guard _ _ _ opens tail
+    chosen-ends = last-cut (taskOf T i m p) guard _ _ _ shuts tail
 
     -- and without it, on a tag that is closed already
     pub short-accepted : p .closed ≡ i → judge (taskOf T i m p) 0 i (rest pick) ≡ accepted (length (rest pick))

@@ -1,4 +1,4 @@
--- The judge of command lists made by anyone, for every type of tag. After each command it tests 20, 21 and 22, in this
+-- The judge of command lists made by anyone, for every type of tag. Of each command it tests 20, 21 and 22, in this
 -- order; the first command at fault is reported, and 23 where the list ends otherwise than as the message.
 -- Assumes nothing.
 use mathlib.Core.Bool.{Bool, true, false, not, _&&_, _||_}

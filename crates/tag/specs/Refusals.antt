@@ -57,7 +57,7 @@ not-well-formed = 20
 abbrev pub changes-protected : ℕ
 changes-protected = 21
 
--- after the command the tag reads neither as old, nor as none, nor as new
+-- after the command the tag is refused, or reads neither as the old message, nor as none, nor as the new one
 abbrev pub misreads : ℕ
 misreads = 22
 

@@ -7,7 +7,7 @@ pub mod slices;
 ghost use mathlib.Core.Path.{_≡_};
 ghost use Prim.Native.Nat.{_*_, _/_, _^_, _<_};
 
-// Byte addresses and block numbers are two kinds of number; the two methods below are the only way from one to the other.
+// Byte addresses and block numbers are two kinds of number; no conversion is written but the two methods below.
 
 // The address of a byte in a tag's memory.
 pub struct Address(pub usize);

@@ -45,7 +45,7 @@ fn shown_of<'a>(image: &'a [u8], gathered: &'a [u8], report: Report) -> &'a [u8]
 }
 
 // The part shown after `read` answered: of the image or, if the message is interrupted, of the gathered copy; empty without
-// a message and after a refusal.
+// a message, after a refusal, and where the answer's numbers do not fit.
 pub fn shown<'a>(image: &'a [u8], gathered: &'a [u8], answer: ReadAnswer) -> &'a [u8]
     ensures { λ r. ⌜ now r ≡ shown (now (image .entry)) (now (gathered .entry)) (readAs answer) ⌝ }
 {

@@ -1,13 +1,11 @@
 -- The code's steps to the message TLV against the definitions' steps.
 -- Assumes nothing.
 use mathlib.Core.Path.{_≡_, refl, ap, _∙_}
-use mathlib.Core.Bool.{Bool, true, false}
 use mathlib.Core.List.{List}
-use Prim.Native.Nat.{ℕ, zero, suc, _+_, _-_, _<_, _≤_}
+use Prim.Native.Nat.{ℕ, _+_, _-_, _<_, _≤_}
 use native.Mathlib.Omega.{arith}
-use lib.Dec.{eqb}
 use lib.ListN.{length, replicate}
-use Rattle.tag.specs.Bytes.{byte, run}
+use Rattle.tag.specs.Bytes.{run}
 use Rattle.tlv.specs.declared.walk.Walk.{Walk}
 use Rattle.tlv.specs.declared.length.Passed as code-passed
 use Rattle.tlv.specs.declared.length.Passed.the-variants as passed
@@ -15,11 +13,10 @@ use Rattle.tlv.specs.declared.find.Stepped as code-stepped
 use Rattle.tlv.specs.declared.find.Stepped.the-variants as stepped
 use Rattle.tlv.specs.Areas.{anyArea}
 use Rattle.tlv.specs.Walk.{Passed, Kind, kindOf, Step, on, stepAt, find}
-use Rattle.tlv.specs.Table.{unskipped}
 use Rattle.tlv.specs.Views.{ahead, Onward}
 use Rattle.tlv.specs.Passing.{passedAs, PassedPlaced}
 use Rattle.tlv.specs.Finding.{stepOf, steppedAs, TypePlaced, SteppedPlaced}
-use Rattle.tlv.proofs.Skipping.{unskipped-all}
+use Rattle.tlv.proofs.Skipping.{unskipped-few, unskipped-all}
 use Rattle.tlv.proofs.Steps.{onward}
 
 -- ---- a TLV passed, as a step
@@ -51,18 +48,9 @@ typed-placed t a (stepped.Message b u) p l h q = (onward p (q .0), omega (arith,
 
 -- ---- fuel
 
-pub unskipped-length : (t : List ℕ) (a n : ℕ) → length (unskipped t a n) ≤ n
-unfolding unskipped
-unskipped-length t a zero = omega arith
-unskipped-length t a (suc n) = go (eqb (byte t a) 0) refl (unskipped-length t (suc a) n)
-  where
-    go : (b : Bool) → eqb (byte t a) 0 ≡ b → length (unskipped t (suc a) n) ≤ n → length (unskipped t a (suc n)) ≤ suc n
-    go true e ih = rw (e, unskipped) (omega arith)
-    go false e ih = rw (e, unskipped) (omega arith)
-
 -- what is still to come is no more than there was
 pub fuel-enough : {i t : List ℕ} {v w : Walk} → Onward i t v w → length (ahead t w) ≤ v .end .0 - v .at .0
-fuel-enough {i} {t} {v} {w} p = omega (arith, unskipped-length t (w .at .0) (w .end .0 - w .at .0), p .farther, p .same-end)
+fuel-enough {i} {t} {v} {w} p = omega (arith, unskipped-few t (w .at .0) (w .end .0 - w .at .0), p .farther, p .same-end)
 
 -- ---- the walk from the start of the data area, with nothing skipped yet
 

@@ -1,7 +1,7 @@
 -- Marking an area in the skip table, one address at a time, and what that leaves usable.
 -- Assumes nothing.
 use mathlib.Core.Path.{_≡_, refl, sym, _∙_}
-use mathlib.Core.Bool.{Bool, true, false, not, _&&_}
+use mathlib.Core.Bool.{Bool, true, false, not, _&&_, and-true, and-false}
 use mathlib.Core.List.{List}
 use Prim.Native.Nat.{ℕ, _+_, _-_, min, max, _<_, _≤_}
 use native.Mathlib.Omega.{arith}
@@ -60,14 +60,6 @@ mark-done m l = record {
 
 -- ---- an area marked
 
-and-not : (b : Bool) → b && not true ≡ false
-and-not true = refl
-and-not false = refl
-
-and-yes : (b : Bool) → b ≡ b && not false
-and-yes true = refl
-and-yes false = refl
-
 -- an area marked from `at` on and up to the end
 pub area-marked : (t u : List ℕ) (r : Area) (at end first stop : ℕ) → Marked t u first stop → first ≡ max (r .start) at → stop ≡ min (r .start + r .size) end → at ≤ end
     → unskipped u at (end - at) ≡ without r (unskipped t at (end - at))
@@ -78,10 +70,10 @@ area-marked t u r at end first stop m from to l = marked-more t u r at (end - at
     at-each x p q true e true f =
         let s : byte u x ≡ stop = m .inside x (omega (arith, leb-true (r .start) x e)) (omega (arith, ltb-true x (r .start + r .size) f)) in
         let z : eqb (byte u x) 0 ≡ false = ne-eqb (byte u x) 0 (λ y. omega (arith, ltb-true x (r .start + r .size) f)) in
-        rw (e, f) (z ∙ sym (and-not (eqb (byte t x) 0)))
+        rw (e, f) (z ∙ sym (and-false (eqb (byte t x) 0)))
     at-each x p q true e false f =
         let s : byte u x ≡ byte t x = m .after x (omega (arith, leb-true (r .start) x e, ltb-false x (r .start + r .size) f)) in
-        rw (e, f, s) (and-yes (eqb (byte t x) 0))
+        rw (e, f, s) (sym (and-true (eqb (byte t x) 0)))
     at-each x p q false e d f =
         let s : byte u x ≡ byte t x = m .before x (omega (arith, leb-false (r .start) x e)) in
-        rw (e, s) (and-yes (eqb (byte t x) 0))
+        rw (e, s) (sym (and-true (eqb (byte t x) 0)))

@@ -2,13 +2,13 @@
 -- Assumes nothing.
 use mathlib.Core.Path.{_≡_, refl, sym, ap, _∙_}
 use mathlib.Core.List.{List, [], _∷_, _++_}
-use Prim.Native.Nat.{ℕ, zero, suc, _+_, _<_}
+use Prim.Native.Nat.{ℕ, suc, _+_, _<_}
 use native.Mathlib.Numerals.{add-one}
 use native.Mathlib.Omega.{arith}
 use lib.ListN.{length, getD, set, drop}
 use lib.Seq.{set-comm, drop-nil, drop-cons}
 use Rattle.tag.specs.Bytes.{overlay}
-use Rattle.tag.proofs.Addresses.{Above, Rising, above-less, above-drop, above-rising}
+use Rattle.tag.proofs.Addresses.{Above, Rising, above-less, above-drop, above-rising, rising-drop}
 
 pub overlay-none : (us i : List ℕ) → overlay us [] i ≡ i
 overlay-none [] i = refl
@@ -36,11 +36,6 @@ module _ (hi : ℕ) where
       ap (λ j. set j a v) (overlay-append us x y i (above-rising hi a us h))
       ∙ overlay-set (drop (length x) us) y (overlay us x i) a v (above-drop hi a (length x) us h)
 
-  rising-drop : (n : ℕ) (us : List ℕ) → Rising hi us → Rising hi (drop n us)
-  rising-drop zero us h = h
-  rising-drop (suc n) [] h = tt
-  rising-drop (suc n) (a ∷ us) h = above-rising hi a (drop n us) (above-drop hi a n us h)
-
   -- three parts set in turn, each at the addresses that the one before it left
   pub overlay-parts : (us vs ws x y z i j k l : List ℕ) → Rising hi us
       → j ≡ overlay us x i → vs ≡ drop (length x) us
@@ -49,4 +44,4 @@ module _ (hi : ℕ) where
   overlay-parts us vs ws x y z i j k l h first p second q third =
       third ∙ rw (q, second, p, first)
       (sym (overlay-append us x (y ++ z) i h
-      ∙ overlay-append (drop (length x) us) y z (overlay us x i) (rising-drop (length x) us h)))
+      ∙ overlay-append (drop (length x) us) y z (overlay us x i) (rising-drop hi (length x) us h)))

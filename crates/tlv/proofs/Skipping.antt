@@ -1,7 +1,8 @@
--- The skip table against the list of usable addresses: one address passed, one taken, and an area marked.
+-- The skip table against the list of usable addresses: one address passed or taken, how many there are, whether none is
+-- skipped, the one after k others, and an area marked.
 -- Assumes nothing.
 use mathlib.Core.Path.{_≡_, refl, ap, _∙_}
-use mathlib.Core.Bool.{Bool, true, false, not, _&&_}
+use mathlib.Core.Bool.{Bool, true, false, not, _&&_, and-assoc}
 use mathlib.Core.List.{List, [], _∷_}
 use Prim.Native.Nat.{ℕ, zero, suc, _+_, _-_, _<_, _≤_}
 use native.Mathlib.Omega.{arith}
@@ -66,10 +67,6 @@ or-zero (suc x) y =
     rw (ne-eqb (suc x) 0 (λ e. absurd (omega (arith, e))))
     (ne-eqb (bitOr (suc x) y) 0 (λ e. absurd (omega (arith, e, or-add-and (suc x) y, and-le-r (suc x) y))))
 
-and-assoc : (a b c : Bool) → (a && b) && c ≡ a && (b && c)
-and-assoc true b c = refl
-and-assoc false b c = refl
-
 pub none-next : (t : List ℕ) (a e x : ℕ) → a < e
     → eqb (bitOr x (byte t a)) 0 && noneSkipped t (a + 1) (e - (a + 1)) ≡ eqb x 0 && noneSkipped t a (e - a)
 unfolding noneSkipped
@@ -117,7 +114,7 @@ unskipped-past t a k (suc n) d l = go k (eqb (byte t a) 0) refl l (λ j m. unski
 
 -- ---- tables
 
--- an empty table skips nothing
+-- a table of zeros skips nothing
 pub unskipped-all : (m a n : ℕ) → a + n ≤ m → unskipped (replicate m 0) a n ≡ run a n
 unfolding unskipped
 unskipped-all m a zero h = refl

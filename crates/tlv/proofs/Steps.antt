@@ -56,10 +56,8 @@ field-onward (field.Is n u) p q = (onward p (q .0), q .1)
 pub moved : {i tb : List ℕ} {u v w : Walk} → Onward i tb u v → Moved v w → Onward i tb u w
 moved p q = record {
   placed = record {
-    ordered = q .ordered;
-    in-table = omega (arith, p .placed .in-table, q .same-end);
+    within = record { ordered = q .ordered; in-table = omega (arith, p .placed .within .in-table, q .same-end); short = p .placed .within .short };
     in-image = omega (arith, p .placed .in-image, q .same-end);
-    short = p .placed .short;
   };
   farther = omega (arith, p .farther, q .farther);
   same-end = q .same-end ∙ p .same-end;
@@ -77,10 +75,12 @@ passed-onward t (passed.More w) p q = onward p q
 pub skipped : {i s t : List ℕ} {u v w : Walk} → Onward i s u v → Skipped s t v w → Onward i t u w
 skipped p q = record {
   placed = record {
-    ordered = omega (arith, p .placed .ordered, q .same-at, q .same-end);
-    in-table = omega (arith, p .placed .in-table, q .same-length, q .same-end);
+    within = record {
+      ordered = omega (arith, p .placed .within .ordered, q .same-at, q .same-end);
+      in-table = omega (arith, p .placed .within .in-table, q .same-length, q .same-end);
+      short = omega (arith, p .placed .within .short, q .same-length);
+    };
     in-image = omega (arith, p .placed .in-image, q .same-end);
-    short = omega (arith, p .placed .short, q .same-length);
   };
   farther = omega (arith, p .farther, q .same-at);
   same-end = q .same-end ∙ p .same-end;

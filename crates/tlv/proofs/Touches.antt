@@ -1,13 +1,13 @@
 -- Which blocks hold a byte to set: the values do not matter, and the blocks may be marked one address after the other.
 -- Assumes nothing.
 use mathlib.Core.Path.{_≡_, refl, sym, ap}
-use mathlib.Core.Bool.{Bool, true, false, not, _&&_, _||_}
+use mathlib.Core.Bool.{Bool, true, false, not, _&&_, _||_, and-true, and-false}
 use mathlib.Core.List.{List, [], _∷_}
 use Prim.Native.Nat.{ℕ, _/_, _<_}
 use native.Mathlib.Omega.{arith}
 use native.Mathlib.Decide.{ℕ-discrete}
 use lib.Dec.{eqb}
-use lib.ListN.{length, set, take}
+use lib.ListN.{length, set}
 use lib.Seq.{getD-set-same, getD-set-other}
 use Rattle.tag.specs.Bytes.{byte}
 use Rattle.tag.specs.Plan.{inBlock, touches}
@@ -19,20 +19,6 @@ touches-any z (x ∷ us) [] [] b h = refl
 touches-any z (x ∷ us) [] (w ∷ ws) b h = absurd (omega arith)
 touches-any z (x ∷ us) (v ∷ vs) [] b h = absurd (omega arith)
 touches-any z (x ∷ us) (v ∷ vs) (w ∷ ws) b h = ap (λ t. inBlock z b x || t) (touches-any z us vs ws b (omega arith))
-
-pub touches-take : (z : ℕ) (us vs : List ℕ) (b : ℕ) → touches z us vs b ≡ touches z (take (length vs) us) vs b
-touches-take z [] [] b = refl
-touches-take z [] (v ∷ vs) b = refl
-touches-take z (x ∷ us) [] b = refl
-touches-take z (x ∷ us) (v ∷ vs) b = ap (λ t. inBlock z b x || t) (touches-take z us vs b)
-
-and-true : (b : Bool) → b && true ≡ b
-and-true true = refl
-and-true false = refl
-
-and-false : (b : Bool) → b && false ≡ false
-and-false true = refl
-and-false false = refl
 
 -- block b was not marked before, and holds none of us
 abbrev pub unmarked : ℕ → List ℕ → List ℕ → List ℕ → ℕ → Bool

@@ -48,7 +48,7 @@ PassedPlaced image table v (passed.More w) = Onward image table v w
 
 -- ---- control TLVs
 
--- the walk and an area that its table has room for
+-- the walk lies inside the table, and the area's numbers are small
 pub record Skips (table : List ℕ) (w : Walk) (r : code-area.Area) : Type 0 where
   pub within : Within table w
   pub small : SmallArea r

@@ -1,5 +1,5 @@
--- The skip table of the code: at each address 0, or where a declared area that covers the address ends. The usable addresses
--- still to come are those whose entry is 0.
+-- The skip table of the code: at each address 0, or the end of a declared area that covers the address, cut off at the data
+-- area's end. The usable addresses still to come are those whose entry is 0.
 -- Assumes nothing.
 use mathlib.Core.Bool.{Bool, true, false, _&&_}
 use mathlib.Core.List.{List, [], _∷_}

@@ -14,18 +14,16 @@ use Rattle.tlv.specs.Table.{unskipped}
 abbrev pub ahead : List ℕ → Walk → List ℕ
 ahead table w = unskipped table (w .at .0) (w .end .0 - w .at .0)
 
--- the walk lies inside the image and the table
-pub record Placed (image table : List ℕ) (w : Walk) : Type 0 where
-  pub ordered : w .at .0 ≤ w .end .0
-  pub in-table : w .end .0 ≤ length table
-  pub in-image : w .end .0 ≤ length image
-  pub short : length table ≤ 1024
-
 -- the walk lies inside the table
 pub record Within (table : List ℕ) (w : Walk) : Type 0 where
   pub ordered : w .at .0 ≤ w .end .0
   pub in-table : w .end .0 ≤ length table
   pub short : length table ≤ 1024
+
+-- the walk lies inside the table and the image
+pub record Placed (image table : List ℕ) (w : Walk) : Type 0 where
+  pub within : Within table w
+  pub in-image : w .end .0 ≤ length image
 
 -- the walk lies inside both and has moved on from v
 pub record Onward (image table : List ℕ) (v w : Walk) : Type 0 where

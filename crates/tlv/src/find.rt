@@ -36,25 +36,25 @@ fn step_of(passed: Passed) -> Stepped
 }
 
 impl Walk {
-    // A TLV whose type byte, just taken, stands at `place`.
-    fn pass_by_type(self, kind: u8, place: Address, image: &[u8], table: &mut [u16]) -> Stepped
+    // A TLV whose type byte `byte`, just taken, stands at `place`.
+    fn pass_by_type(self, byte: u8, place: Address, image: &[u8], table: &mut [u16]) -> Stepped
         requires { ⌜ Placed (now image) (now table) self ⌝ }
-        ensures is { λ r. ⌜ steppedAs (now (table .exit)) r ≡ stepAt anyArea (kindOf kind) (now (image .entry)) (place .0) (ahead (now (table .entry)) self) ⌝ }
+        ensures is { λ r. ⌜ steppedAs (now (table .exit)) r ≡ stepAt anyArea (kindOf byte) (now (image .entry)) (place .0) (ahead (now (table .entry)) self) ⌝ }
         ensures placed { λ r. ⌜ TypePlaced (now (image .entry)) (now (table .exit)) self (place .0) r ⌝ }
     {
-        if kind == 0x00 {
+        if byte == 0x00 {
             return Stepped::On(self);
         }
-        if kind == 0x01 {
+        if byte == 0x01 {
             return step_of(self.pass_control(Control::Lock, image, table));
         }
-        if kind == 0x02 {
+        if byte == 0x02 {
             return step_of(self.pass_control(Control::Memory, image, table));
         }
-        if kind == 0x03 {
+        if byte == 0x03 {
             return Stepped::Message(place, self);
         }
-        if kind == 0xFE {
+        if byte == 0xFE {
             return Stepped::Stop(8);
         }
         step_of(self.pass_other(image, table))
@@ -68,7 +68,7 @@ impl Walk {
     {
         match self.take_byte(image, table) {
             Taken::Nothing => Stepped::Stop(8),
-            Taken::Byte(kind, place, w) => w.pass_by_type(kind, place, image, table),
+            Taken::Byte(byte, place, w) => w.pass_by_type(byte, place, image, table),
         }
     }
 

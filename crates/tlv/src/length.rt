@@ -9,7 +9,7 @@ ghost use Rattle.tlv.specs.Walk.{len, longOf, lengthOf, passValue};
 ghost use Rattle.tlv.specs.Views.{ahead, Placed, Within};
 ghost use Rattle.tlv.specs.Passing.{fieldAs, FieldPlaced, passedAs, PassedWithin, PassedPlaced};
 
-// A length field taken: its number, and the walk past it.
+// A length field: bad, or its number and the walk past it.
 pub enum Field {
     Bad,
     Is(usize, Walk),

@@ -1,4 +1,4 @@
-// The skip table: at each address 0, or where a declared area that covers the address ends.
+// The skip table: at each address 0, or the end of a declared area that covers the address, cut off at the data area's end.
 
 use tag::Address;
 ghost use mathlib.Core.Path.{_≡_};

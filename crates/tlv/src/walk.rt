@@ -12,7 +12,7 @@ pub struct Walk {
     pub end: Address,
 }
 
-// A byte taken: its value, its address, and the walk past it.
+// A byte taken: its value, its address, and the walk past it; or none is left.
 pub enum Taken {
     Nothing,
     Byte(u8, Address, Walk),

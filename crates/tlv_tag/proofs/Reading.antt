@@ -4,7 +4,6 @@ use mathlib.Core.Path.{_≡_, refl, sym, ap, _∙_}
 use mathlib.Core.Bool.{Bool, true, false, cond}
 use mathlib.Core.List.{List, [], map}
 use Prim.Native.Nat.{ℕ, _-_, _<_, _≤_}
-use native.Mathlib.Omega.{arith}
 use borrow.Author.Tests.{le-leb, lt-leb, lt-ltb, le-ltb}
 use lib.Dec.{leb, leb·zero}
 use lib.ListN.{length, take, length-map}
@@ -27,9 +26,9 @@ use Rattle.tlv.specs.Views.{ahead}
 use Rattle.tlv.specs.Finding.{foundAs}
 use Rattle.tlv.specs.Values.{at, measured}
 use Rattle.tlv.proofs.Measured.{report-measured}
-use Rattle.tlv.proofs.Finding.{find-all}
 use Rattle.tlv_tag.specs.Blank.{Blank}
 use Rattle.tlv_tag.specs.Reading.{areaView, tlvView, valueReading, refusalOf, reportAs}
+use Rattle.tlv_tag.proofs.Fitting.{found-all}
 
 -- the answer and the gathering buffer afterwards are those of a reading
 abbrev pub Answers : ReadAnswer → List ℕ → List ℕ → Reading → Type 0
@@ -115,8 +114,7 @@ module _ (i t u : List ℕ) (first end : ℕ) (w : Walk) (f : code-found.Found) 
   area-is : areaView i first end ≡ viewOf i (foundAs u f)
   area-is =
       ap (viewOf i)
-      (sym (walked ∙ ap (λ s. find anyArea (w .end .0 - w .at .0) i (ahead s w)) (blank .clear)
-      ∙ find-all (length t) i w first (end - first) (start .0) (omega arith) (omega arith)))
+      (sym (walked ∙ found-all i t w first end blank (start .0) (start .1)))
 
   pub area-lost : (r : ℕ) → f ≡ code-at.Lost r → areaView i first end ≡ refuse r
   area-lost r e = area-is ∙ ap (λ g. viewOf i (foundAs u g)) e

@@ -1,4 +1,4 @@
-// Tags that have a TLV area, whatever else their type: reading the message, and where a message goes.
+// Tags that have a TLV area, whatever else their type: reading the message, where a message goes, and what writing sets.
 
 pub mod read;
 pub mod space;

@@ -106,7 +106,6 @@ pub fn read_area(
     requires { ⌜ Blank (now image) (now table) (first .0) (end .0) ⌝ }
     ensures answer { λ r. ⌜ readAs r ≡ answerOf (length (now (gathered .entry))) (readingOf writable (now (image .entry)) (areaView (now (image .entry)) (first .0) (end .0))) ⌝ }
     ensures buffer { λ _. ⌜ now (gathered .exit) ≡ gatheredInto (now (gathered .entry)) (readingOf writable (now (image .entry)) (areaView (now (image .entry)) (first .0) (end .0))) ⌝ }
-    ensures scratch { λ _. ⌜ length (now (table .exit)) ≡ length (now (table .entry)) ⌝ }
 {
     let w = Walk::new(first, end);
     match w.find_message(image, table) {
@@ -115,7 +114,7 @@ pub fn read_area(
     }
 }
 
-// The refusal of the message TLV, from the walk past its type byte: it is refused just where it could not be passed over.
+// The refusal of the message TLV, or 0, from the walk past its type byte: it is refused just where it could not be passed over.
 fn message_refusal(image: &[u8], table: &[u16], w: Walk) -> u8
     requires { ⌜ Placed (now image) (now table) w ⌝ }
     ensures { λ r. ⌜ r ≡ refusalOf (tlvView (now (image .entry)) (ahead (now (table .entry)) w)) ⌝ }
@@ -129,8 +128,7 @@ fn message_refusal(image: &[u8], table: &[u16], w: Walk) -> u8
 // The refusal of the data area from `first` up to `end`, or 0, with a table of zeros to mark skipped addresses in.
 pub fn area_refusal(image: &[u8], table: &mut [u16], first: Address, end: Address) -> u8
     requires { ⌜ Blank (now image) (now table) (first .0) (end .0) ⌝ }
-    ensures is { λ r. ⌜ r ≡ refusalOf (areaView (now (image .entry)) (first .0) (end .0)) ⌝ }
-    ensures scratch { λ _. ⌜ length (now (table .exit)) ≡ length (now (table .entry)) ⌝ }
+    ensures { λ r. ⌜ r ≡ refusalOf (areaView (now (image .entry)) (first .0) (end .0)) ⌝ }
 {
     let w = Walk::new(first, end);
     match w.find_message(image, table) {

@@ -7,15 +7,13 @@ use tlv::value;
 use tlv::walk::Walk;
 ghost use mathlib.Core.Path.{_≡_};
 ghost use mathlib.Core.List.{List};
-ghost use Prim.Native.Nat.{ℕ, _-_};
-ghost use Rattle.tag.specs.Bytes.{run};
-ghost use Rattle.tlv.specs.Areas.{anyArea};
-ghost use Rattle.tlv.specs.Walk.{lengthOf, find};
-ghost use Rattle.tlv.specs.Message.{view, viewBy, viewOf};
+ghost use Prim.Native.Nat.{ℕ};
+ghost use Rattle.tlv.specs.Message.{view};
 ghost use Rattle.tlv.specs.Update.{fitsIn};
 ghost use Rattle.tlv.specs.Space.{spaceOf};
 ghost use Rattle.tlv.specs.Views.{ahead, Placed};
 ghost use Rattle.tlv_tag.specs.Blank.{Blank};
+ghost use Rattle.tlv_tag.specs.Reading.{areaView, tlvView};
 ghost use Rattle.tlv_tag.specs.Space.{spaceAs, SpaceHere, SpacePlaced};
 
 // A refusal; or the walk past the message TLV's type byte, where the message with its length has room.
@@ -59,7 +57,7 @@ fn space_at(w: Walk, n: usize, image: &[u8], table: &[u16], writable: bool) -> S
 // The message TLV whose type byte the walk has just passed: a bad length, or a value past the end, is refusal 7.
 fn space_after(w: Walk, n: usize, image: &[u8], table: &[u16], writable: bool) -> Space
     requires { ⌜ Placed (now image) (now table) w ⌝ }
-    ensures is { λ r. ⌜ spaceAs (now (table .entry)) r ≡ spaceOf writable n (viewBy (ahead (now (table .entry)) w) (lengthOf (now (image .entry)) (ahead (now (table .entry)) w))) ⌝ }
+    ensures is { λ r. ⌜ spaceAs (now (table .entry)) r ≡ spaceOf writable n (tlvView (now (image .entry)) (ahead (now (table .entry)) w)) ⌝ }
     ensures here { λ r. ⌜ SpaceHere (now (image .entry)) (now (table .entry)) n w r ⌝ }
 {
     match w.take_length(image, table) {
@@ -84,7 +82,7 @@ pub fn find_space(
     writable: bool,
 ) -> Space
     requires { ⌜ Blank (now image) (now table) (first .0) (end .0) ⌝ }
-    ensures is { λ r. ⌜ spaceAs (now (table .exit)) r ≡ spaceOf writable n (viewOf (now (image .entry)) (find anyArea (end .0 - first .0) (now (image .entry)) (run (first .0) (end .0 - first .0)))) ⌝ }
+    ensures is { λ r. ⌜ spaceAs (now (table .exit)) r ≡ spaceOf writable n (areaView (now (image .entry)) (first .0) (end .0)) ⌝ }
     ensures placed { λ r. ⌜ SpacePlaced (now (image .entry)) (now (table .exit)) n (first .0) (end .0) r ⌝ }
 {
     match Walk::new(first, end).find_message(image, table) {

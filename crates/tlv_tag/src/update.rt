@@ -9,7 +9,8 @@ ghost use lib.ListN.{length, drop};
 ghost use Rattle.tag.specs.Bytes.{overlay};
 ghost use Rattle.tlv.specs.Update.{lengthField, content};
 ghost use Rattle.tlv.specs.Views.{ahead, Placed, Within, Onward};
-ghost use Rattle.tlv_tag.specs.Update.{contentLength, ContentMarked};
+ghost use Rattle.tlv.specs.Values.{BlocksMarked};
+ghost use Rattle.tlv_tag.specs.Update.{contentLength};
 
 // Sets the length in its shortest form, and hands back the walk past it.
 fn set_length(w: Walk, n: usize, table: &[u16], image: &mut [u8]) -> Walk
@@ -51,7 +52,7 @@ fn content_length(n: usize) -> usize
 // Marks each block of `size` bytes that holds a byte to set for a message of `n` bytes.
 pub fn mark_content(w: Walk, n: usize, size: usize, table: &[u16], marks: &mut [u8])
     requires { ⌜ Within (now table) w × (n ≤ 65534) × (0 < size) × (w .end .0 ≤ size * length (now marks)) ⌝ }
-    ensures { λ _. ⌜ ContentMarked size n (ahead (now (table .entry)) w) (now (marks .entry)) (now (marks .exit)) ⌝ }
+    ensures { λ _. ⌜ BlocksMarked size (contentLength n) (ahead (now (table .entry)) w) (now (marks .entry)) (now (marks .exit)) ⌝ }
 {
     value::mark_blocks(w, content_length(n), size, table, marks);
 }

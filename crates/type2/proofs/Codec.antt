@@ -12,7 +12,6 @@ use lib.ListN.{length}
 use Rattle.tag.specs.Refusals.{not-well-formed}
 use Rattle.tag.specs.Stores.{Store, stores}
 use Rattle.tag.proofs.Logic.{and-l, and-r, nope}
-use Rattle.tag.proofs.Pieces.{Piece}
 use Rattle.type2.specs.Codec.{nameable, commandBytes, Decoded, undecoded, decoded, wellFormed, decode, commandOf, encoded}
 
 pub decode-encode : (blocks b : ℕ) (bytes : List ℕ) → nameable blocks b ≡ true → length bytes ≡ 4
@@ -65,14 +64,11 @@ sent blocks (s ∷ []) h =
     (ap (λ a. stores (record { at = a; bytes = s .bytes } ∷ [])) (sym (h .there)))
 sent blocks (s ∷ t ∷ ss) h = absurd h
 
--- the span of Type 2 is 6, whatever r follows
-pub span-sent : (blocks : ℕ) (ss : List Store) → Sendable blocks ss → (r : List ℕ) → length (encoded ss) ≡ 6
-span-sent blocks [] h r = absurd h
-span-sent blocks (s ∷ []) h r = omega (arith, h .four)
-span-sent blocks (s ∷ t ∷ ss) h r = absurd h
-
-pub piece-sent : (blocks : ℕ) (ss : List Store) → Sendable blocks ss → Piece (λ bs. 6) (encoded ss)
-piece-sent blocks ss h = (λ r. sym (span-sent blocks ss h r), omega (arith, span-sent blocks ss h []))
+-- as many bytes as Type 2's span
+pub length-sent : (blocks : ℕ) (ss : List Store) → Sendable blocks ss → length (encoded ss) ≡ 6
+length-sent blocks [] h = absurd h
+length-sent blocks (s ∷ []) h = omega (arith, h .four)
+length-sent blocks (s ∷ t ∷ ss) h = absurd h
 
 pub decode-sendable : (blocks : ℕ) (bs : List ℕ) (ss : List Store) → commandOf (decode blocks bs) ≡ stores ss
     → Sendable blocks ss × (encoded ss ≡ bs)

@@ -17,6 +17,7 @@ use Rattle.tlv.specs.Message.{View, refuse, viewOf, viewAfter, viewed}
 use Rattle.tlv.specs.Update.{planBy}
 use Rattle.tlv.specs.Space.{no-space, space, spaceOf}
 use Rattle.tlv.proofs.Space.{writingIn, writing-space}
+use Rattle.tlv_tag.specs.Reading.{areaView}
 use Rattle.type2.specs.declared.container.DataArea as code
 use Rattle.type2.specs.declared.container.DataArea.the-variants as answer
 use Rattle.type2.specs.Memory.{memory}
@@ -48,19 +49,19 @@ unfolding viewed
 refused-writing i m r e = by-view i m (refuse r) (ap (viewAfter memory i) (sym e))
 
 module _ (i m : List ℕ) (end : ℕ) (w : Bool) (h : Inside i end w) where
-  inside-view : viewed memory i ≡ viewOf i (find anyArea (end - 16) i (run 16 (end - 16)))
+  inside-view : viewed memory i ≡ areaView i 16 end
   unfolding viewed
   inside-view =
       let e : 8 * byte i 14 ≡ end - 16 = omega (arith, h .area .ends) in
       ap (viewAfter memory i) (h .sound) ∙ ap (λ n. viewOf i (find anyArea n i (run 16 n))) e
 
-  inside-writing : writing type2 i m ≡ writingIn 4 i m (spaceOf w (length m) (viewOf i (find anyArea (end - 16) i (run 16 (end - 16)))))
+  inside-writing : writing type2 i m ≡ writingIn 4 i m (spaceOf w (length m) (areaView i 16 end))
   inside-writing =
-      by-view i m (viewOf i (find anyArea (end - 16) i (run 16 (end - 16)))) inside-view
-      ∙ ap (λ b. writingIn 4 i m (spaceOf b (length m) (viewOf i (find anyArea (end - 16) i (run 16 (end - 16)))))) (sym (h .area .access))
+      by-view i m (areaView i 16 end) inside-view
+      ∙ ap (λ b. writingIn 4 i m (spaceOf b (length m) (areaView i 16 end))) (sym (h .area .access))
 
-  pub no-space-writing : (r : ℕ) → no-space r ≡ spaceOf w (length m) (viewOf i (find anyArea (end - 16) i (run 16 (end - 16)))) → writing type2 i m ≡ unwritten r
+  pub no-space-writing : (r : ℕ) → no-space r ≡ spaceOf w (length m) (areaView i 16 end) → writing type2 i m ≡ unwritten r
   no-space-writing r e = inside-writing ∙ ap (writingIn 4 i m) (sym e)
 
-  pub space-writing : (us : List ℕ) → space us ≡ spaceOf w (length m) (viewOf i (find anyArea (end - 16) i (run 16 (end - 16)))) → writing type2 i m ≡ written (planBy 4 us i m)
+  pub space-writing : (us : List ℕ) → space us ≡ spaceOf w (length m) (areaView i 16 end) → writing type2 i m ≡ written (planBy 4 us i m)
   space-writing us e = inside-writing ∙ ap (writingIn 4 i m) (sym e)

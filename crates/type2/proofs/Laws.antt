@@ -25,8 +25,8 @@ use Rattle.tlv.proofs.Shown.{wordless, in-place}
 use Rattle.type2.specs.Memory.{memory}
 use Rattle.type2.specs.Codec.{nameable, decode, commandOf, encoded}
 use Rattle.type2.specs.Type2.{type2}
-use Rattle.type2.proofs.Memory.{memory-laws, before-is, few-blocks}
-use Rattle.type2.proofs.Codec.{Sendable, sent, span-sent}
+use Rattle.type2.proofs.Memory.{memory-laws, before-is, short-image}
+use Rattle.type2.proofs.Codec.{Sendable, sent, length-sent}
 
 abbrev command : List ℕ → List ℕ → Command
 command i bs = commandOf (decode (length i / 4) bs)
@@ -50,7 +50,7 @@ module _ (i m : List ℕ) (r : Ready type2 i m) where
   name-block b y l u e =
       let lo : 4 * b ≤ y = leb-true (4 * b) y (and-l (leb (4 * b) y) (ltb y (4 * b + 4)) e) in
       let up : y < 4 * b + 4 = ltb-true y (4 * b + 4) (and-r (leb (4 * b) y) (ltb y (4 * b + 4)) e) in
-      let short : length i ≤ 1024 = few-blocks i (place .sound) in
+      let short : length i ≤ 1024 = short-image i (place .sound) in
       and-both (and-both (le-leb 4 b (omega arith)) (lt-ltb b (length i / 4) (omega (arith, whole)))) (le-leb b 255 (omega arith))
 
   beyond : (16 ≤ place .at) × Above (length i) (place .at) us
@@ -82,7 +82,7 @@ module _ (i m : List ℕ) (r : Ready type2 i m) where
       each-of _ (Sent type2 i) (list (plan memory i m) i)
       (λ ss h.
       let g : Sendable (length i / 4) ss = one-block ss h in
-      record { taken = sent (length i / 4) ss g; some-bytes = omega (arith, span-sent (length i / 4) ss g []); whole = λ r. sym (span-sent (length i / 4) ss g r) })
+      record { taken = sent (length i / 4) ss g; some-bytes = omega (arith, length-sent (length i / 4) ss g); whole = λ r. sym (length-sent (length i / 4) ss g) })
       (list-good (plan memory i m) i (λ b. nameable (length i / 4) b ≡ true) names)
 
 pub type2-laws : Laws type2

@@ -46,8 +46,8 @@ pub before-is : memory-laws .before ≡ 15
 unfolding memory-laws
 before-is = refl
 
--- and there are at most 256 blocks
-pub few-blocks : (i : List ℕ) → firstOf ((memory .checks) i) ≡ fine → length i ≤ 1024
-few-blocks i e =
+-- and the image has at most 1,024 bytes
+pub short-image : (i : List ℕ) → firstOf ((memory .checks) i) ≡ fine → length i ≤ 1024
+short-image i e =
     let c : AllPass (containerChecks (length i) (byte i 12) (byte i 13) (byte i 14) (byte i 15)) = fine-all ((memory .checks) i) e in
     length-is (length i) (c .0) .1

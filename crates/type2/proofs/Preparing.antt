@@ -2,8 +2,8 @@
 -- them is the plan's.
 -- Assumes nothing.
 use mathlib.Core.Path.{_≡_, refl, sym, ap, _∙_}
-use mathlib.Core.Bool.{Bool, true, false, not, _&&_}
-use mathlib.Core.List.{List, [], _∷_, _++_, append-nil, append-assoc, map}
+use mathlib.Core.Bool.{not, _&&_, Bool·not-not}
+use mathlib.Core.List.{List, [], _∷_, _++_, map}
 use Prim.Native.Nat.{ℕ, _+_, _/_, _<_, _≤_}
 use native.Mathlib.Omega.{arith}
 use native.Mathlib.Decide.{ℕ-discrete, decLt}
@@ -16,12 +16,15 @@ use Rattle.tag.specs.Stores.{Store}
 use Rattle.tag.specs.Plan.{newImage, blockOf, touches, between, picks, middle, list}
 use Rattle.tag.specs.TagType.{written, joined, listBytes, fitted, writeBy}
 use Rattle.tag.proofs.Picks.{picks-same}
+use Rattle.tag.proofs.Chunks.{joined-append}
 use Rattle.tag.proofs.Counts.{length-list, counted-same}
 use Rattle.tlv.specs.declared.walk.Walk.{Walk}
 use Rattle.tlv.specs.Update.{content, lengthAt, planBy}
 use Rattle.tlv.specs.Views.{ahead}
+use Rattle.tlv.specs.Values.{BlocksMarked}
 use Rattle.tlv.proofs.Usable.{from, At, from-first, from-end}
-use Rattle.tlv_tag.specs.Update.{ContentMarked}
+use Rattle.tlv_tag.specs.Update.{contentLength}
+use Rattle.tlv_tag.proofs.Content.{length-content}
 use Rattle.type2.specs.Codec.{encoded}
 use Rattle.type2.specs.Type2.{type2}
 use Rattle.type2.specs.Listing.{blockBytes, oneEach, marked, markedCount, markedBytes, guardedBytes, guardedOutput}
@@ -44,16 +47,12 @@ first-usable t w f p e l =
 -- ---- the marks
 
 module _ (us i m before after : List ℕ) (first : ℕ) (zeros : before ≡ replicate (length before) 0) (same : length after ≡ length before)
-    (is : ContentMarked 4 (length m) us before after) (at : first ≡ lengthAt us) where
+    (is : BlocksMarked 4 (contentLength (length m)) us before after) (at : first ≡ lengthAt us) where
   -- the blocks that hold a byte to set
   marked-touches : (b : ℕ) → b < length before → marked after b ≡ touches 4 us (content m) b
   marked-touches b l =
       let z : byte before b ≡ 0 = ap (λ k. byte k b) zeros ∙ getD-replicate (length before) b 0 0 l in
-      ap not (is m b refl l) ∙ rw z (go (touches 4 us (content m) b))
-    where
-      go : (t : Bool) → not (not t) ≡ t
-      go true = refl
-      go false = refl
+      ap not (is (content m) b (length-content m) l) ∙ rw z (Bool·not-not (touches 4 us (content m) b))
 
   -- and with the guard block's mark taken away
   pub marked-between : (b : ℕ) → b < length before → marked (set after (first / 4) 0) b ≡ between (planBy 4 us i m) b
@@ -64,14 +63,6 @@ module _ (us i m before after : List ℕ) (first : ℕ) (zeros : before ≡ repl
       go (no n) = rw (getD-set-other after (first / 4) b 0 0 n, ne-eqb b (first / 4) n) (marked-touches b l)
 
 -- ---- the list
-
-joined-append : (xs ys : List (List ℕ)) → joined (xs ++ ys) ≡ joined xs ++ joined ys
-joined-append [] ys = refl
-joined-append (x ∷ xs) ys = ap (λ bytes. x ++ bytes) (joined-append xs ys) ∙ sym (append-assoc x (joined xs) (joined ys))
-
-map-append : (xs ys : List (List Store)) → map encoded (xs ++ ys) ≡ map encoded xs ++ map encoded ys
-map-append [] ys = refl
-map-append (x ∷ xs) ys = ap (λ bytes. encoded x ∷ bytes) (map-append xs ys)
 
 module _ (us i m new marks : List ℕ) (first : ℕ) (p : Prepared us i m new marks first) (long : length i / 4 ≤ length marks) where
   agree : (b : ℕ) → b < length i / 4 → between (planBy 4 us i m) b ≡ marked marks b
@@ -96,10 +87,9 @@ module _ (us i m new marks : List ℕ) (first : ℕ) (p : Prepared us i m new ma
       let between-bytes = markedBytes new marks (length i / 4) in
       let last : List Store = blockOf 4 made g ∷ [] in
       let rest : joined (map encoded (middle (planBy 4 us i m) i ++ last ∷ [])) ≡ between-bytes ++ blockBytes made g
-      = ap joined (map-append (middle (planBy 4 us i m) i) (last ∷ []))
-      ∙ joined-append (map encoded (middle (planBy 4 us i m) i)) (encoded last ∷ [])
-      ∙ ap (λ bytes. bytes ++ (encoded last ++ [])) middle-is
-      ∙ ap (λ bytes. between-bytes ++ bytes) (append-nil (encoded last) ∙ block-one made g) in
+      = joined-append encoded (middle (planBy 4 us i m) i) last
+      ∙ ap (λ bytes. bytes ++ encoded last) middle-is
+      ∙ ap (λ bytes. between-bytes ++ bytes) (block-one made g) in
       ap (λ f. blockBytes (set i f 0x00) (f / 4) ++ (between-bytes ++ blockBytes new (f / 4))) (p .first-is)
       ∙ ap (λ j. blockBytes closed g ++ (between-bytes ++ blockBytes j g)) (p .new-is)
       ∙ sym (ap (λ bytes. bytes ++ joined (map encoded (middle (planBy 4 us i m) i ++ last ∷ []))) (block-one closed g)

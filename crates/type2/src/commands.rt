@@ -14,7 +14,7 @@ ghost use Rattle.tag.specs.TagType.{outputInto};
 ghost use Rattle.type2.specs.Codec.{nameable, encode, wellFormed, decode, decoded};
 ghost use Rattle.type2.specs.CodecViews.{decodedAs, commandAs};
 
-// The answer of `decode`: a refusal with an empty command, or 0 and the command.
+// The answer of `decode`: a refusal with a command of zeros, or 0 and the command.
 pub struct Decoded {
     pub refusal: u8,
     pub command: Command,
@@ -52,7 +52,7 @@ pub fn encode(command: Command, blocks: usize, bytes: &mut [u8]) -> CountAnswer
 }
 
 // Whether the bytes are a well-formed command.
-pub fn is_command(bytes: &[u8], blocks: usize) -> bool
+pub(crate) fn is_command(bytes: &[u8], blocks: usize) -> bool
     ensures { λ r. ⌜ r ≡ wellFormed blocks (now (bytes .entry)) ⌝ }
 {
     if bytes.len() != 6 {
@@ -65,7 +65,7 @@ pub fn is_command(bytes: &[u8], blocks: usize) -> bool
 }
 
 // Whether the bytes are a well-formed command for this tag.
-pub fn is_command_for(bytes: &[u8], image: &[u8]) -> bool
+pub(crate) fn is_command_for(bytes: &[u8], image: &[u8]) -> bool
     ensures { λ r. ⌜ r ≡ wellFormed (length (now (image .entry)) / 4) (now (bytes .entry)) ⌝ }
 {
     let end = Address(image.len()).block(4);

@@ -1,6 +1,6 @@
 // Reading a Type 2 tag.
 //
-// The table of skipped addresses is an array of the public function's frame, zeros at the start of each call.
+// The skip table is an array of the public function's frame, zeros at the start of each call.
 
 use crate::container;
 use crate::container::DataArea;
@@ -14,7 +14,7 @@ ghost use Rattle.tag.specs.Answers.{readAs};
 ghost use Rattle.type2.specs.Type2.{type2};
 ghost use Rattle.type2.specs.Table.{Clear};
 
-// Reading, with the table lent.
+// Reading, with the skip table lent.
 fn read_with(image: &[u8], gathered: &mut [u8], table: &mut [u16]) -> ReadAnswer
     requires { ⌜ Clear (now table) ⌝ }
     ensures answer { λ r. ⌜ readAs r ≡ answerOf (length (now (gathered .entry))) ((type2 .reading) (now (image .entry))) ⌝ }
@@ -45,7 +45,7 @@ pub fn shown<'a>(image: &'a [u8], gathered: &'a [u8], answer: ReadAnswer) -> &'a
     slices::shown(image, gathered, answer)
 }
 
-// Reading's refusal, with the table lent.
+// Reading's refusal, with the skip table lent.
 fn refusal_with(image: &[u8], table: &mut [u16]) -> u8
     requires { ⌜ Clear (now table) ⌝ }
     ensures { λ r. ⌜ r ≡ refusalNumber ((type2 .reading) (now (image .entry))) ⌝ }
@@ -57,7 +57,7 @@ fn refusal_with(image: &[u8], table: &mut [u16]) -> u8
 }
 
 // The refusal that reading gives, 1 to 8, or 0; the message is not gathered.
-pub fn refusal(image: &[u8]) -> u8
+pub(crate) fn refusal(image: &[u8]) -> u8
     ensures { λ r. ⌜ r ≡ refusalNumber ((type2 .reading) (now (image .entry))) ⌝ }
 {
     let mut table = [0u16; 1024];

@@ -28,7 +28,7 @@ fn copy_image(image: &[u8], new: &mut [u8])
 }
 
 // Makes the new image, marks the blocks that are written between the guard block's two commands, and hands back the address
-// of the first length byte, in whose block the guard is.
+// of the first length byte, whose block is the guard block.
 fn prepare(
     w: Walk,
     image: &[u8],
@@ -89,7 +89,8 @@ fn write_inside(
     }
 }
 
-// The same with work arrays that are lent: a skip table and block marks that are all 0, and room for the new image.
+// Refusals 1 to 12, or the list, with work arrays that are lent: a skip table and block marks that are all 0, and room for the
+// new image.
 fn write_on(
     image: &[u8],
     message: &[u8],

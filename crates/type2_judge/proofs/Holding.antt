@@ -1,36 +1,29 @@
 -- What a Type 2 tag holds, by what reading it answers and shows: the gathering buffer is long enough for every message.
 -- Assumes nothing.
-use mathlib.Core.Path.{_≡_, refl}
+use mathlib.Core.Path.{_≡_}
 use mathlib.Core.List.{List}
 use Prim.Native.Nat.{ℕ, _≤_}
 use native.Mathlib.Omega.{arith}
 use lib.ListN.{length}
-use Rattle.tag.specs.Reading.{message, empty, being-written, Report, reads, Answer, refusal, answer, answerOf, gatheredInto, shown, broken}
+use Rattle.tag.specs.Reading.{Report, reads, Answer, answerOf, gatheredInto, shown}
 use Rattle.tag.specs.TagType.{held}
-use Rattle.tag.specs.Answers.{heldBy, oldHeld, isMessage}
+use Rattle.tag.specs.Answers.{heldBy}
 use Rattle.tag.proofs.Showing.{held-shown}
 use Rattle.tlv.proofs.Shown.{message-short}
 use Rattle.tlv.proofs.Writes as writes
 use Rattle.type2.specs.Memory.{memory}
 use Rattle.type2.specs.Codec.{encoded}
 use Rattle.type2.specs.Type2.{type2}
-use Rattle.type2.proofs.Memory.{memory-laws, few-blocks}
+use Rattle.type2.proofs.Memory.{memory-laws, short-image}
 use Rattle.type2.proofs.Laws.{type2-laws}
 
 fits-gathering : (i : List ℕ) (p : Report) → (type2 .reading) i ≡ reads p → length (p .bytes) ≤ 1024
 fits-gathering i p e =
     let s = writes.placed memory memory-laws (type2 .command) (type2 .span) encoded i p e .0 .sound in
-    omega (arith, message-short memory memory-laws i p e, few-blocks i s)
+    omega (arith, message-short memory memory-laws i p e, short-image i s)
 
 pub held-read : (i before after : List ℕ) (a : Answer) (part : List ℕ) → length before ≡ 1024
     → a ≡ answerOf (length before) ((type2 .reading) i) → after ≡ gatheredInto before ((type2 .reading) i) → part ≡ shown i after a
     → heldBy a part ≡ held type2 i
 held-read i before after a part l e g s =
     rw (s, g, e) (held-shown type2 type2-laws i before (λ p q. omega (arith, fits-gathering i p q)))
-
--- the old message, of a tag that reads
-pub old-held : (a : Answer) (part : List ℕ) → (heldBy a part ≡ broken → ⊥) → oldHeld (isMessage a) part ≡ heldBy a part
-old-held (refusal r) part n = absurd (n refl)
-old-held (answer message a n interrupted w) part h = refl
-old-held (answer empty a n interrupted w) part h = refl
-old-held (answer being-written a n interrupted w) part h = refl

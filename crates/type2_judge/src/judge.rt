@@ -1,4 +1,5 @@
-// Judging: refusals 1 to 11 as writing gives them, then the list. Each function below lends one array of its frame to the next.
+// Judging: refusals 1 to 11 as writing gives them, then the list. An array is made in one function's frame and lent to the
+// next, which works on slices alone.
 
 use crate::steps;
 use tag::Address;
@@ -13,16 +14,14 @@ use type2::container;
 use type2::container::DataArea;
 ghost use mathlib.Core.Path.{_≡_};
 ghost use lib.ListN.{length, replicate};
-ghost use Rattle.tag.specs.Checks.{fine, firstOf};
 ghost use Rattle.tag.specs.TagType.{commands};
 ghost use Rattle.tag.specs.Answers.{verdictAs};
 ghost use Rattle.tag.specs.Judge.{judge, judged, task};
 ghost use Rattle.tlv.specs.Views.{ahead};
 ghost use Rattle.tlv_tag.specs.Space.{Room};
-ghost use Rattle.type2.specs.Memory.{memory};
 ghost use Rattle.type2.specs.Type2.{type2};
-ghost use Rattle.type2.specs.Views.{InsideArea};
 ghost use Rattle.type2.specs.Table.{Clear};
+ghost use Rattle.type2.specs.Writing.{Inside};
 ghost use Rattle.type2_judge.specs.Task.{Writable, Marks, Prepared};
 
 // With a copy of the tag to store the commands in.
@@ -43,6 +42,7 @@ fn judge_copy(
     steps::judge_list(image, message, list, set, old, had, work, gathered)
 }
 
+// With the old message known: makes the arrays that the list is followed in.
 fn judge_from(
     image: &[u8],
     message: &[u8],
@@ -84,6 +84,7 @@ fn judge_read(
     judge_from(image, message, list, set, old, holding::is_message(answer))
 }
 
+// With the addresses known that writing sets: makes a gathering buffer for the old message.
 fn judge_against(image: &[u8], message: &[u8], list: &[u8], set: &[u8]) -> JudgeAnswer
     requires { ⌜ Writable (now image) (now message) × Marks (now image) (now message) (now set) ⌝ }
     ensures { λ r. ⌜ verdictAs r ≡ judge (task type2 (now (image .entry)) (now (message .entry))) 0 (now (image .entry)) (commands type2 (now (image .entry)) (now (list .entry))) ⌝ }
@@ -108,6 +109,7 @@ fn judge_marked(
     judge_against(image, message, list, set)
 }
 
+// With the space for the message found: makes the array of marks.
 fn judge_space(image: &[u8], message: &[u8], list: &[u8], w: Walk, table: &[u16]) -> JudgeAnswer
     requires { ⌜ Writable (now image) (now message) × Room (now image) (now table) (length (now message)) w × (ahead (now table) w ≡ (type2 .plan) (now image) (now message) .addresses) ⌝ }
     ensures { λ r. ⌜ verdictAs r ≡ judge (task type2 (now (image .entry)) (now (message .entry))) 0 (now (image .entry)) (commands type2 (now (image .entry)) (now (list .entry))) ⌝ }
@@ -125,7 +127,7 @@ fn judge_area(
     writable: bool,
     table: &mut [u16],
 ) -> JudgeAnswer
-    requires { ⌜ Clear (now table) × InsideArea (now image) ((memory .writable) (now image)) (end .0) writable × (firstOf ((memory .checks) (now image)) ≡ fine) ⌝ }
+    requires { ⌜ Clear (now table) × Inside (now image) (end .0) writable ⌝ }
     ensures { λ r. ⌜ verdictAs r ≡ judged type2 (now (image .entry)) (now (message .entry)) (now (list .entry)) ⌝ }
 {
     match space::find_space(image, message.len(), table, Address(16), end, writable) {
@@ -134,7 +136,7 @@ fn judge_area(
     }
 }
 
-// With the table of skipped addresses.
+// With the skip table.
 fn judge_with(image: &[u8], message: &[u8], list: &[u8], table: &mut [u16]) -> JudgeAnswer
     requires { ⌜ Clear (now table) ⌝ }
     ensures { λ r. ⌜ verdictAs r ≡ judged type2 (now (image .entry)) (now (message .entry)) (now (list .entry)) ⌝ }

@@ -14,7 +14,7 @@ ghost use Rattle.type2.specs.Type2.{type2};
 ghost use Rattle.type2_judge.specs.Task.{Prepared};
 
 // The fault of one command, 20 to 22, or 0; what a well-formed one stores is stored in `work` in any case.
-pub(crate) fn step(
+fn step(
     image: &[u8],
     message: &[u8],
     command: &[u8],

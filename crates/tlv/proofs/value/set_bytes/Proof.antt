@@ -43,7 +43,7 @@ returns c =
       (
         rw z at (l .inv .6) ∙ ap (drop n) (sym us),
         record {
-          placed = record { ordered = search needs; in-table = search needs; in-image = search needs; short = search needs };
+          placed = record { within = record { ordered = search needs; in-table = search needs; short = search needs }; in-image = search needs };
           farther = search needs;
           same-end = refl;
         },
@@ -83,7 +83,7 @@ returns-2 c =
       (
         u ∙ sym (drop-nil (n - l .k)) ∙ rw u at (l .inv .6) ∙ ap (drop n) (sym us),
         record {
-          placed = record { ordered = search needs; in-table = search needs; in-image = search needs; short = search needs };
+          placed = record { within = record { ordered = search needs; in-table = search needs; short = search needs }; in-image = search needs };
           farther = search needs;
           same-end = refl;
         },

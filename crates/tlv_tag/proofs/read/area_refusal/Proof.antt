@@ -19,7 +19,7 @@ returns c =
     let a = s .args in
     let f = c .before .before .before .before .before .find-message in
     let n = c .before .before .before .before .before .before .before .new in
-    (sym (ap refusalOf (area-lost (a .image .now) (a .table .now) (f .last .1 .1 .0) (a .first .0) (a .end .0) (n .result) (f .result) (s .pre) (n .ensures) (f .ensures .0) _ (c .before .r .given .1))), search needs)
+    sym (ap refusalOf (area-lost (a .image .now) (a .table .now) (f .last .1 .1 .0) (a .first .0) (a .end .0) (n .result) (f .result) (s .pre) (n .ensures) (f .ensures .0) _ (c .before .r .given .1)))
 
 returns-2 : tie.Need-returns-2
 returns-2 c =
@@ -27,7 +27,7 @@ returns-2 c =
     let a = s .args in
     let f = c .before .before .before .before .before .before .before .find-message in
     let n = c .before .before .before .before .before .before .before .before .before .new in
-    (c .message-refusal .ensures ∙ sym (ap refusalOf (area-at (a .image .now) (a .table .now) (f .last .1 .1 .0) (a .first .0) (a .end .0) (n .result) (f .result) (s .pre) (n .ensures) (f .ensures .0) _ _ (c .before .before .before .v .given .1))), search needs)
+    c .message-refusal .ensures ∙ sym (ap refusalOf (area-at (a .image .now) (a .table .now) (f .last .1 .1 .0) (a .first .0) (a .end .0) (n .result) (f .result) (s .pre) (n .ensures) (f .ensures .0) _ _ (c .before .before .before .v .given .1)))
 
 pub area-refusal-spec : {M : Type 1} → statement M
 area-refusal-spec =

@@ -18,7 +18,7 @@ returns c =
     let a = s .args in
     let f = c .before .before .before .before .before .find-message in
     let n = c .before .before .before .before .before .before .before .new in
-    rw (area-lost (a .image .now) (a .table .now) (f .last .1 .1 .0) (a .first .0) (a .end .0) (n .result) (f .result) (s .pre) (n .ensures) (f .ensures .0) _ (c .before .r .given .1)) (refl, (refl, search needs))
+    rw (area-lost (a .image .now) (a .table .now) (f .last .1 .1 .0) (a .first .0) (a .end .0) (n .result) (f .result) (s .pre) (n .ensures) (f .ensures .0) _ (c .before .r .given .1)) (refl, refl)
 
 returns-2 : tie.Need-returns-2
 returns-2 c =
@@ -27,7 +27,7 @@ returns-2 c =
     let f = c .before .before .before .before .before .before .before .before .before .before .find-message in
     let n = c .before .before .before .before .before .before .before .before .before .before .before .before .new in
     let m = c .before .before .read-message .ensures in
-    rw (area-at (a .image .now) (a .table .now) (f .last .1 .1 .0) (a .first .0) (a .end .0) (n .result) (f .result) (s .pre) (n .ensures) (f .ensures .0) _ _ (c .before .before .before .before .before .before .v .given .1)) (m .0, (m .1, search needs))
+    rw (area-at (a .image .now) (a .table .now) (f .last .1 .1 .0) (a .first .0) (a .end .0) (n .result) (f .result) (s .pre) (n .ensures) (f .ensures .0) _ _ (c .before .before .before .before .before .before .v .given .1)) (m .0, m .1)
 
 pub read-area-spec : {M : Type 1} → statement M
 read-area-spec =

@@ -13,7 +13,7 @@ find-message-requires : tie.Need-find-message-requires
 find-message-requires c κs =
     let b = c .before .before .before .before .pre in
     let n = c .before .new .ensures in
-    record { ordered = omega (arith, n, b .ordered); in-table = omega (arith, n, b .in-table); in-image = omega (arith, n, b .in-image); short = b .short }
+    record { within = record { ordered = omega (arith, n, b .ordered); in-table = omega (arith, n, b .in-table); short = b .short }; in-image = omega (arith, n, b .in-image) }
 
 space-after-requires : tie.Need-space-after-requires
 space-after-requires c κs =

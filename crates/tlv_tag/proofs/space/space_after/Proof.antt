@@ -12,8 +12,7 @@ use Rattle.tlv_tag.proofs.space.space_after.Tie as tie
 
 count-requires : tie.Need-count-requires
 count-requires c κs =
-    let p = field-placed (c .before .before .before .take-length .ensures .1) (c .before .length .given .1) .0 .placed in
-    record { ordered = p .ordered; in-table = p .in-table; short = p .short }
+    field-placed (c .before .before .before .take-length .ensures .1) (c .before .length .given .1) .0 .placed .within
 
 returns : tie.Need-returns
 returns c =

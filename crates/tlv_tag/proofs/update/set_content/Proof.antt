@@ -20,7 +20,7 @@ returns c =
     let third = c .before .before .set-bytes2 in
     overlay-parts (a .w .end .0) (ahead t (a .w)) (ahead t (first .result)) (ahead t (second .result))
     (lengthField (length (a .message .now))) (a .message .now) (0xFE ∷ []) (a .image .now) _ _ _
-    (ahead-rising t (a .w) (s .pre .0 .ordered))
+    (ahead-rising t (a .w) (s .pre .0 .within .ordered))
     (first .ensures .0) (first .ensures .1 .0) (second .ensures .0) (second .ensures .1 .0) (third .ensures .0)
 
 pub set-content-spec : {M : Type 1} → statement M

@@ -22,7 +22,7 @@ returns-2 c =
     let a = c .before .before .before .before .before .before .before .before .before .before .before .before .before .before .args in
     let d = c .before .before .before .before .before .before .before .before .before .before .data-area in
     let x = c .before .before .before .before .read-area .ensures in
-    rw (by-area (a .image .now) (d .result) (d .ensures .0) (d .ensures .1) _ _ (c .before .before .before .before .before .before .before .before .end .given .1)) (x .0, x .1 .0)
+    rw (by-area (a .image .now) (d .result) (d .ensures .0) (d .ensures .1) _ _ (c .before .before .before .before .before .before .before .before .end .given .1)) (x .0, x .1)
 
 pub read-with-spec : {M : Type 1} → statement M
 read-with-spec =

@@ -23,7 +23,7 @@ returns-2 c =
     let a = c .before .before .before .before .before .before .before .before .before .before .args in
     let d = c .before .before .before .before .before .before .before .data-area in
     let g = c .before .before .before .before .before .end .given in
-    c .before .before .area-refusal .ensures .0 ∙ sym (refusal-by-area (a .image .now) (d .result) (d .ensures .0) (d .ensures .1) _ _ (g .1))
+    c .before .before .area-refusal .ensures ∙ sym (refusal-by-area (a .image .now) (d .result) (d .ensures .0) (d .ensures .1) _ _ (g .1))
 
 pub refusal-with-spec : {M : Type 1} → statement M
 refusal-with-spec =

@@ -19,12 +19,12 @@ found c =
     let s = c .before .before .before .before .before .before .before .before .before .before .before .before .before .before .before .before .before .before .before in
     let n = c .before .next-usable in
     first-usable (s .args .table .now) (s .args .w) (n .result .0)
-    (record { within = n .ensures .0 .1; in-table = s .pre .room .placed .in-table; free = n .ensures .1 .1 }) (n .ensures .1 .0) (omega (arith, s .pre .room .enough))
+    (record { within = n .ensures .0 .1; in-table = s .pre .room .placed .within .in-table; free = n .ensures .1 .1 }) (n .ensures .1 .0) (omega (arith, s .pre .room .enough))
 
 slice-write-marks : tie.Need-slice-write-marks
 slice-write-marks c =
     let s = c .before .before .before .before .before .before .before .before .before .before .before .before .before .before .before .before .before .before .before in
-    omega (arith, found c .1, c .block .ensures, s .pre .room .placed .in-image, s .pre .short, s .pre .marks-long, c .before .before .before .before .mark-content .kept)
+    omega (arith, found c .1, c .block .ensures, s .pre .room .placed .in-image, s .pre .short, s .pre .unmarked .size, c .before .before .before .before .mark-content .kept)
 
 returns : tie.Need-returns
 returns c =
@@ -37,7 +37,7 @@ returns c =
       new-is = c .before .before .before .before .before .before .before .before .set-content .ensures ∙ ap (overlay us (content (a .message .now))) (c .before .before .before .before .before .before .before .before .before .before .before .before .copy-image .ensures);
       marks-are = λ b l.
           ap (λ g. marked (set (k .last .1 .1 .1 .1 .0) g 0) b) (c .block .ensures)
-          ∙ marked-between us (a .image .now) (a .message .now) (a .marks .now) (k .last .1 .1 .1 .1 .0) (n .result .0) (s .pre .marks-zeros) (k .kept .1 .1 .1 .1 .0) (k .ensures) (found c .0) b
+          ∙ marked-between us (a .image .now) (a .message .now) (a .marks .now) (k .last .1 .1 .1 .1 .0) (n .result .0) (s .pre .unmarked .zeros) (k .kept .1 .1 .1 .1 .0) (k .ensures) (found c .0) b
           (omega (arith, length-set (k .last .1 .1 .1 .1 .0) (c .block .result .0) 0, k .kept .1 .1 .1 .1 .0));
       first-is = found c .0;
       inside = omega (arith, found c .1, s .pre .room .placed .in-image);

@@ -17,7 +17,7 @@ returns c =
     let p = c .before .before .before .before .before .before .before .before .before .before .prepare in
     let l = c .before .before .put-list in
     let e = prepared-output (ahead (a .table .now) (a .w)) (a .image .now) (a .message .now) (p .last .1 .1 .1 .1 .0) (p .last .1 .1 .1 .1 .1 .0) (p .result .0) (p .ensures)
-    (omega (arith, s .pre .short, s .pre .marks-long, p .kept .1 .1 .1 .1 .1 .0)) (length (a .list .now)) in
+    (omega (arith, s .pre .short, s .pre .unmarked .size, p .kept .1 .1 .1 .1 .1 .0)) (length (a .list .now)) in
     (l .ensures .0 ∙ ap countOf e, l .ensures .1 ∙ ap (outputInto (a .list .now)) e)
 
 pub write-at-spec : {M : Type 1} → statement M
@@ -30,5 +30,3 @@ write-at-spec =
     (λ c. search needs)
     (λ c. search needs)
     returns)
-
--- x

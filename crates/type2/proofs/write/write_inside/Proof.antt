@@ -20,8 +20,7 @@ write-at-requires c κs =
       whole = whole-blocks (s .args .image .now) (s .pre .0 .sound);
       short = s .pre .0 .area .short;
       as-long = s .pre .2;
-      marks-zeros = s .pre .1 .marks-zeros;
-      marks-long = s .pre .1 .marks-long;
+      unmarked = s .pre .1 .unmarked;
     }
 
 returns : tie.Need-returns

@@ -6,7 +6,8 @@ use lib.ListN.{length}
 use Rattle.tag.specs.Judge.{judgeBy}
 use Rattle.tlv_tag.specs.Space.{spaceAs, SpacePlaced}
 use Rattle.type2.specs.Type2.{type2}
-use Rattle.type2_judge.proofs.Preparing.{by-space, writable-at, addresses-at}
+use Rattle.type2.proofs.Deciding.{no-space-writing}
+use Rattle.type2_judge.proofs.Preparing.{writable-at, addresses-at}
 use Rattle.type2_judge.proofs.judge.judge_area.Statement.{statement}
 use Rattle.type2_judge.proofs.judge.judge_area.Tie as tie
 
@@ -15,9 +16,9 @@ find-space-requires c κs =
     let p = c .before .before .before .before .before .pre in
     record {
       clear = p .0 .zeros;
-      ordered = omega (arith, p .1 .ends);
-      in-table = omega (arith, p .1 .inside, p .1 .short, p .0 .size);
-      in-image = p .1 .inside;
+      ordered = omega (arith, p .1 .area .ends);
+      in-table = omega (arith, p .1 .area .inside, p .1 .area .short, p .0 .size);
+      in-image = p .1 .area .inside;
       short = omega (arith, p .0 .size);
     }
 
@@ -29,9 +30,9 @@ judge-space-requires c κs =
     let g = c .before .before .w .given in
     let e = sym (ap (spaceAs (f .last .1 .1 .0)) (g .1)) ∙ f .ensures .0 in
     let room = subst (SpacePlaced (a .image .now) (f .last .1 .1 .0) (length (a .message .now)) 16 (a .end .0)) (g .1) (f .ensures .1) in (
-      writable-at (a .image .now) (a .message .now) (a .end .0) (a .writable) (s .pre .1) (s .pre .2) _ e,
+      writable-at (a .image .now) (a .message .now) (a .end .0) (a .writable) (s .pre .1) _ e,
       room .0,
-      addresses-at (a .image .now) (a .message .now) (a .end .0) (a .writable) (s .pre .1) (s .pre .2) _ e,
+      addresses-at (a .image .now) (a .message .now) (a .end .0) (a .writable) (s .pre .1) _ e,
     )
 
 returns : tie.Need-returns
@@ -41,7 +42,7 @@ returns c =
     let f = c .before .before .before .before .before .find-space in
     let g = c .before .r .given in
     let e = sym (ap (spaceAs (f .last .1 .1 .0)) (g .1)) ∙ f .ensures .0 in
-    sym (ap (judgeBy type2 (a .image .now) (a .message .now) (a .list .now)) (by-space (a .image .now) (a .message .now) (a .end .0) (a .writable) (s .pre .1) (s .pre .2) _ e))
+    sym (ap (judgeBy type2 (a .image .now) (a .message .now) (a .list .now)) (no-space-writing (a .image .now) (a .message .now) (a .end .0) (a .writable) (s .pre .1) _ e))
 
 returns-2 : tie.Need-returns-2
 returns-2 c =
@@ -51,7 +52,7 @@ returns-2 c =
     let g = c .before .before .before .w .given in
     let e = sym (ap (spaceAs (f .last .1 .1 .0)) (g .1)) ∙ f .ensures .0 in
     c .judge-space .ensures
-    ∙ sym (ap (judgeBy type2 (a .image .now) (a .message .now) (a .list .now)) (writable-at (a .image .now) (a .message .now) (a .end .0) (a .writable) (s .pre .1) (s .pre .2) _ e .plan-is))
+    ∙ sym (ap (judgeBy type2 (a .image .now) (a .message .now) (a .list .now)) (writable-at (a .image .now) (a .message .now) (a .end .0) (a .writable) (s .pre .1) _ e .plan-is))
 
 pub judge-area-spec : {M : Type 1} → statement M
 judge-area-spec =

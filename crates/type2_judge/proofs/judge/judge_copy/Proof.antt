@@ -1,7 +1,7 @@
 -- `judge::judge_copy` meets its contract. Assumes nothing.
 use mathlib.Core.Path.{_∙_}
 use borrow.Author.Needs.{needs}
-use Rattle.type2_judge.proofs.Preparing.{copied}
+use Rattle.tag.proofs.Storing.{copied}
 use Rattle.type2_judge.proofs.judge.judge_copy.Statement.{statement}
 use Rattle.type2_judge.proofs.judge.judge_copy.Tie as tie
 

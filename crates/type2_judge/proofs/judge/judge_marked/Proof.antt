@@ -15,10 +15,10 @@ mark-content-requires c κs =
     let a = s .args in
     let p = s .pre .1 in
     let n : length (a .set .now) ≡ 1024 = ap length (s .pre .3) ∙ length-replicate {A = ℕ} 1024 0 in (
-      record { ordered = p .placed .ordered; in-table = p .placed .in-table; short = p .placed .short },
+      p .placed .within,
       omega (arith, p .enough, p .few),
       omega arith,
-      omega (arith, p .placed .in-table, p .placed .short, n),
+      omega (arith, p .placed .within .in-table, p .placed .within .short, n),
     )
 
 judge-against-requires : tie.Need-judge-against-requires

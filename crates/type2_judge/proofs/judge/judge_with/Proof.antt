@@ -1,12 +1,10 @@
 -- `judge::judge_with` meets its contract. Assumes nothing.
-use mathlib.Core.Path.{sym, ap, _∙_, subst}
+use mathlib.Core.Path.{sym, ap, _∙_}
 use borrow.Author.Needs.{needs}
 use Rattle.tag.specs.Judge.{judgeBy}
-use Rattle.type2.specs.Memory.{memory}
 use Rattle.type2.specs.Type2.{type2}
-use Rattle.type2.specs.Views.{checkedAs, Known}
-use Rattle.type2.proofs.Reading.{refused}
-use Rattle.type2_judge.proofs.Preparing.{writing-unread}
+use Rattle.type2.specs.Views.{checkedAs}
+use Rattle.type2.proofs.Deciding.{checks-pass, refused-writing}
 use Rattle.type2_judge.proofs.judge.judge_with.Statement.{statement}
 use Rattle.type2_judge.proofs.judge.judge_with.Tie as tie
 
@@ -16,7 +14,7 @@ judge-area-requires c κs =
     let a = s .args in
     let d = c .before .before .before .before .data-area in
     let g = c .before .before .end .given in
-    (s .pre, subst (Known (a .image .now) ((memory .writable) (a .image .now))) (g .1) (d .ensures .1), sym (d .ensures .0) ∙ ap checkedAs (g .1))
+    (s .pre, checks-pass (a .image .now) (d .result) (g .0 .0) (g .0 .1 .0) (d .ensures .0) (d .ensures .1) (g .1))
 
 returns : tie.Need-returns
 returns c =
@@ -24,7 +22,7 @@ returns c =
     let a = s .args in
     let d = c .before .before .before .data-area in
     let g = c .before .r .given in
-    sym (ap (judgeBy type2 (a .image .now) (a .message .now) (a .list .now)) (writing-unread (a .image .now) (a .message .now) _ (refused (a .image .now) (d .result) (d .ensures .0) (d .ensures .1) _ (g .1))))
+    sym (ap (judgeBy type2 (a .image .now) (a .message .now) (a .list .now)) (refused-writing (a .image .now) (a .message .now) (g .0 .0) (sym (ap checkedAs (g .1)) ∙ d .ensures .0)))
 
 pub judge-with-spec : {M : Type 1} → statement M
 judge-with-spec =

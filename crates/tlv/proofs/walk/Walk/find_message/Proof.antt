@@ -51,7 +51,7 @@ loop-less c =
     let g = c .before .v .given in
     let a = c .before .before .before .before .before .before .before .before .before .before .args in
     let p = subst (SteppedPlaced (a .image .now) (s .last .1 .1 .0) (l .w)) (g .1) (s .ensures .1) in
-    omega (arith, p .1, p .0 .placed .ordered, p .0 .same-end)
+    omega (arith, p .1, p .0 .placed .within .ordered, p .0 .same-end)
 
 loop-again : tie.Need-loop-again Inv-loop μ-loop
 loop-again c =

@@ -12,7 +12,7 @@ use Rattle.tlv.proofs.walk.Walk.pass_by_type.Tie as tie
 returns : tie.Need-returns
 returns c =
     let a = c .before .before .before .args in
-    (by-kind null (a .kind) (a .image .now) (a .place .0) (ahead (a .table .now) (a .self)) refl (search cases depth 12), search needs)
+    (by-kind null (a .byte) (a .image .now) (a .place .0) (ahead (a .table .now) (a .self)) refl (search cases depth 12), search needs)
 
 returns-2 : tie.Need-returns-2
 returns-2 c =
@@ -20,7 +20,7 @@ returns-2 c =
     let p = c .before .before .before .pass-control in
     let t = p .last .1 .1 .1 .0 in
     let s = c .step-of in (
-      by-kind (control lock) (a .kind) (a .image .now) (a .place .0) (ahead (a .table .now) (a .self)) (step-passed t (p .result) (s .result) (s .ensures) (p .ensures .0)) (search cases depth 12),
+      by-kind (control lock) (a .byte) (a .image .now) (a .place .0) (ahead (a .table .now) (a .self)) (step-passed t (p .result) (s .result) (s .ensures) (p .ensures .0)) (search cases depth 12),
       step-placed (a .image .now) t (a .self) (a .place .0) (p .result) (s .result) (s .ensures) (p .ensures .1),
     )
 
@@ -30,26 +30,26 @@ returns-3 c =
     let p = c .before .before .before .pass-control2 in
     let t = p .last .1 .1 .1 .0 in
     let s = c .step-of2 in (
-      by-kind (control memory) (a .kind) (a .image .now) (a .place .0) (ahead (a .table .now) (a .self)) (step-passed t (p .result) (s .result) (s .ensures) (p .ensures .0)) (search cases depth 12),
+      by-kind (control memory) (a .byte) (a .image .now) (a .place .0) (ahead (a .table .now) (a .self)) (step-passed t (p .result) (s .result) (s .ensures) (p .ensures .0)) (search cases depth 12),
       step-placed (a .image .now) t (a .self) (a .place .0) (p .result) (s .result) (s .ensures) (p .ensures .1),
     )
 
 returns-4 : tie.Need-returns-4
 returns-4 c =
     let a = c .before .before .before .before .before .before .args in
-    (by-kind message (a .kind) (a .image .now) (a .place .0) (ahead (a .table .now) (a .self)) refl (search cases depth 12), (search needs, refl))
+    (by-kind message (a .byte) (a .image .now) (a .place .0) (ahead (a .table .now) (a .self)) refl (search cases depth 12), (search needs, refl))
 
 returns-5 : tie.Need-returns-5
 returns-5 c =
     let a = c .before .before .before .before .before .before .before .args in
-    (by-kind terminator (a .kind) (a .image .now) (a .place .0) (ahead (a .table .now) (a .self)) refl (search cases depth 12), tt)
+    (by-kind terminator (a .byte) (a .image .now) (a .place .0) (ahead (a .table .now) (a .self)) refl (search cases depth 12), tt)
 
 returns-6 : tie.Need-returns-6
 returns-6 c =
     let a = c .before .before .before .before .before .before .before .before .before .before .args in
     let p = c .before .pass-other in
     let s = c .step-of3 in (
-      by-kind other (a .kind) (a .image .now) (a .place .0) (ahead (a .table .now) (a .self)) (step-passed (a .table .now) (p .result) (s .result) (s .ensures) (p .ensures .0)) (search cases depth 12),
+      by-kind other (a .byte) (a .image .now) (a .place .0) (ahead (a .table .now) (a .self)) (step-passed (a .table .now) (p .result) (s .result) (s .ensures) (p .ensures .0)) (search cases depth 12),
       step-placed (a .image .now) (a .table .now) (a .self) (a .place .0) (p .result) (s .result) (s .ensures) (p .ensures .1),
     )
 

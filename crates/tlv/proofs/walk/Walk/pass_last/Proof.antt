@@ -15,7 +15,7 @@ returns c = (search (on-took, yes-by) depth 20, tt)
 skip-area-requires : tie.Need-skip-area-requires
 skip-area-requires c κs =
     let p = took-placed (c .before .before .before .before .before .before .before .take-byte .ensures .1) (c .before .before .before .before .before .last .given .1) .0 .placed in
-    record { within = record { ordered = p .ordered; in-table = p .in-table; short = p .short }; small = c .before .area-of .ensures .1 }
+    record { within = p .within; small = c .before .area-of .ensures .1 }
 
 returns-2 : tie.Need-returns-2
 returns-2 c = (search (on-none) depth 20, tt)

@@ -9,8 +9,7 @@ use Rattle.tlv.proofs.walk.Walk.pass_other.Tie as tie
 
 pass-value-requires : tie.Need-pass-value-requires
 pass-value-requires c κs =
-    let p = field-placed (c .before .before .before .take-length .ensures .1) (c .before .n .given .1) .0 .placed in
-    record { ordered = p .ordered; in-table = p .in-table; short = p .short }
+    field-placed (c .before .before .before .take-length .ensures .1) (c .before .n .given .1) .0 .placed .within
 
 returns : tie.Need-returns
 unfolding passValue

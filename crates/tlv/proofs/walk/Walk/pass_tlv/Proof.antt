@@ -6,12 +6,12 @@ use Rattle.tlv.proofs.walk.Walk.pass_tlv.Statement.{statement}
 use Rattle.tlv.proofs.walk.Walk.pass_tlv.Tie as tie
 
 pass-by-type-requires : tie.Need-pass-by-type-requires
-pass-by-type-requires c κs = took-placed (c .before .before .before .before .take-byte .ensures .1) (c .before .before .kind .given .1) .0 .placed
+pass-by-type-requires c κs = took-placed (c .before .before .before .before .take-byte .ensures .1) (c .before .before .byte .given .1) .0 .placed
 
 returns-2 : tie.Need-returns-2
 returns-2 c =
     let r = c .before .before .pass-by-type in
-    let g = c .before .before .before .before .before .kind .given in
+    let g = c .before .before .before .before .before .byte .given in
     let t = c .before .before .before .before .before .before .before .take-byte in
     let p = took-placed (t .ensures .1) (g .1) in
     (search (on-took, r .ensures .0, t .ensures .0) depth 20, typed-placed (r .last .1 .1 .1 .1 .0) (g .0 .1 .0 .0) (r .result) (p .0) (p .1) (p .2) (r .ensures .1))

@@ -26,7 +26,7 @@ returns c =
       sym (ap (takeByte (a .image .now)) u),
       (
         record {
-          placed = record { ordered = search needs; in-table = search needs; in-image = search needs; short = search needs };
+          placed = record { within = record { ordered = search needs; in-table = search needs; short = search needs }; in-image = search needs };
           farther = search needs;
           same-end = refl;
         },
