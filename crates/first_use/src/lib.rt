@@ -1,8 +1,14 @@
 use tag::holding;
 use type2::read;
+ghost use mathlib.Core.Path.{_≡_};
+ghost use Rattle.tag.specs.TagType.{held};
+ghost use Rattle.tag.specs.Judge.{holdsAs};
+ghost use Rattle.type2.specs.Type2.{type2};
 
 // Whether the tag holds just this message.
-pub fn holds(image: &[u8], message: &[u8]) -> bool {
+pub fn holds(image: &[u8], message: &[u8]) -> bool
+    ensures { λ r. ⌜ r ≡ holdsAs (held type2 (now (image .entry))) (now (message .entry)) ⌝ }
+{
     let mut gathered = [0u8; 1024];
     let answer = read::read(image, &mut gathered);
     let shown = read::shown(image, &gathered, answer);

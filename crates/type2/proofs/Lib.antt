@@ -10,3 +10,4 @@ pub mod Guarding
 pub mod Preparing
 pub mod Deciding
 pub mod Modelling
+pub mod Holding

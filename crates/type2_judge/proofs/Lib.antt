@@ -1,5 +1,4 @@
 -- Laws of the judge of Type 2 tags.
-pub mod Holding
 pub mod Faults
 pub mod Turns
 pub mod Preparing

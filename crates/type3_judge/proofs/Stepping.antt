@@ -2,14 +2,13 @@
 -- Assumes nothing.
 use mathlib.Core.Path.{_≡_, sym, ap, _∙_}
 use mathlib.Core.Bool.{Bool, true, false}
-use mathlib.Core.List.{List, _++_, append-nil}
+use mathlib.Core.List.{List}
 use Prim.Native.Nat.{ℕ, _+_, _-_, _*_, _<_, _≤_}
 use native.Mathlib.Omega.{arith}
 use lib.ListN.{length, take, drop, length-drop, drop-of-length-le}
-use lib.Seq.{sets, take-all, drop-drop, getD-drop}
+use lib.Seq.{take-all, drop-drop, getD-drop}
 use Rattle.tag.specs.Bytes.{byte}
 use Rattle.tag.specs.Stores.{ill, stores}
-use Rattle.tag.proofs.Storing.{sets-front}
 use Rattle.type3.specs.Codec.{decode, commandOf, span}
 use Rattle.type3.specs.Type3.{type3}
 use Rattle.type3.specs.CodecViews.{isCommand}
@@ -70,10 +69,3 @@ module _ {number i m old : List ℕ} {had : Bool} {nbw nmaxb : ℕ} {set : List 
 
   pub command-inside : (bytes : List ℕ) → isCommand (decode number nbw nmaxb bytes) ≡ true → Storable bytes size
   command-inside bytes q = command-storable number nbw nmaxb bytes q size (omega (arith, k .marked .same-size, k .marked .admitted .reach))
-
--- ---- a copy
-
-pub copied : (i w : List ℕ) → length w ≡ length i → sets w 0 i ≡ i
-copied i w e =
-    let all : length w ≤ length i = omega arith in
-    sets-front i w (omega arith) ∙ ap (λ r. i ++ r) (drop-of-length-le w all) ∙ append-nil i

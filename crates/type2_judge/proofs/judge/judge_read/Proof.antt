@@ -5,7 +5,7 @@ use Rattle.tag.specs.Answers.{readAs, oldHeld}
 use Rattle.tag.proofs.Laws.{written-ready, ready-reads}
 use Rattle.tag.proofs.Showing.{old-held}
 use Rattle.type2.specs.Type2.{type2}
-use Rattle.type2_judge.proofs.Holding.{held-read}
+use Rattle.type2.proofs.Holding.{held-read}
 use Rattle.type2_judge.proofs.judge.judge_read.Statement.{statement}
 use Rattle.type2_judge.proofs.judge.judge_read.Tie as tie
 

@@ -3,7 +3,7 @@ use mathlib.Core.Path.{ap, _∙_}
 use borrow.Author.Needs.{needs}
 use Rattle.tag.specs.Judge.{holdsAs}
 use Rattle.tag.specs.Answers.{readAs}
-use Rattle.type2_judge.proofs.Holding.{held-read}
+use Rattle.type2.proofs.Holding.{held-read}
 use Rattle.type2_judge.proofs.reading.holds.Statement.{statement}
 use Rattle.type2_judge.proofs.reading.holds.Tie as tie
 

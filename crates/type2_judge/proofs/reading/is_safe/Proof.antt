@@ -3,7 +3,7 @@ use mathlib.Core.Path.{ap, _∙_}
 use borrow.Author.Needs.{needs}
 use Rattle.tag.specs.Judge.{readsAs}
 use Rattle.tag.specs.Answers.{readAs, oldHeld}
-use Rattle.type2_judge.proofs.Holding.{held-read}
+use Rattle.type2.proofs.Holding.{held-read}
 use Rattle.type2_judge.proofs.reading.is_safe.Statement.{statement}
 use Rattle.type2_judge.proofs.reading.is_safe.Tie as tie
 

@@ -8,7 +8,7 @@ use Rattle.tag.specs.TagType.{cutUp}
 use Rattle.type3.specs.Codec.{span}
 use Rattle.type3_judge.specs.Views.{Marked}
 use Rattle.type3_judge.proofs.Holding.{old-read}
-use Rattle.type3_judge.proofs.Stepping.{copied}
+use Rattle.tag.proofs.Storing.{copied}
 use borrow.Author.Needs.{needs}
 use Rattle.type3_judge.proofs.judge.judge_copy.Statement.{statement}
 use Rattle.type3_judge.proofs.judge.judge_copy.Tie as tie

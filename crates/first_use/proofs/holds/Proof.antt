@@ -1,0 +1,28 @@
+-- `holds` meets its contract. Assumes nothing.
+use mathlib.Core.Path.{refl, ap, _∙_}
+use borrow.Author.Needs.{needs}
+use lib.ListN.{replicate}
+use Rattle.tag.specs.Judge.{holdsAs}
+use Rattle.tag.specs.Answers.{readAs}
+use Rattle.type2.proofs.Holding.{held-read}
+use Rattle.first_use.proofs.holds.Statement.{statement}
+use Rattle.first_use.proofs.holds.Tie as tie
+
+returns : tie.Need-returns
+returns c =
+    let a = c .before .before .before .before .before .before .before .before .args in
+    let r = c .before .before .before .before .read in
+    c .holds .ensures
+    ∙ ap (λ h. holdsAs h (a .message .now))
+    (held-read (a .image .now) (replicate 1024 0) (r .last .1 .0) (readAs (r .result)) (c .before .shown .result .now) refl (r .ensures .0) (r .ensures .1) (c .before .shown .ensures))
+
+pub holds-spec : {M : Type 1} → statement M
+holds-spec =
+    tie.close
+    (tie.spec
+    (λ c. search needs)
+    (λ c κs. search needs)
+    (λ c. search needs)
+    (λ c κs. search needs)
+    (λ c κs. search needs)
+    returns)
