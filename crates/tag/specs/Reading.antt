@@ -1,5 +1,5 @@
--- What reading a tag answers and what a tag holds, for every type of tag. A type gives a `Reading`, which has the message itself; what the
--- caller of `read` gets (its length, and the gathering buffer) is worked out here.
+-- What reading a tag answers and what a tag holds, for every type of tag. A type gives a `Reading`, which has the message
+-- itself; what the caller of `read` gets (its length, and the gathering buffer) is worked out here.
 -- Assumes nothing.
 use mathlib.Core.Bool.{Bool, _&&_, cond}
 use mathlib.Core.List.{List, []}
