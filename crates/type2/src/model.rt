@@ -43,7 +43,7 @@ pub fn take_command(image: &mut [u8], command: &[u8]) -> bool
 // Reading's refusals but 13, then 20; else the block that the command names is stored, protected or not.
 pub fn model(image: &mut [u8], command: &[u8]) -> ModelAnswer
     ensures answer { λ r. ⌜ modelAs r ≡ storingOf (model type2 (now (image .entry)) (now (command .entry))) ⌝ }
-    ensures image { λ _. ⌜ now (image .exit) ≡ imageAfter (now (image .entry)) (model type2 (now (image .entry)) (now (command .entry))) ⌝ }
+    ensures stored { λ _. ⌜ now (image .exit) ≡ imageAfter (now (image .entry)) (model type2 (now (image .entry)) (now (command .entry))) ⌝ }
 {
     let refusal = read::refusal(image);
     if refusal != 0 {
