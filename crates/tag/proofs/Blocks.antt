@@ -14,11 +14,19 @@ use lib.ListN.{length, take, drop, length-drop}
 use lib.Seq.{getD-take, getD-drop, length-take-le}
 use Rattle.tag.specs.Bytes.{byte}
 use Rattle.tag.specs.Stores.{Store}
-use Rattle.tag.specs.Plan.{blockOf, inBlock, picks, chunk, chunks}
+use Rattle.tag.specs.Plan.{Plan, blockOf, inBlock, picks, chunk, chunks}
 use Rattle.tag.specs.Judge.{Task}
 use Rattle.tag.proofs.Logic.{and-l, and-r, and-both}
 use Rattle.tag.proofs.Each.{Each, each-take, each-drop}
 use Rattle.tag.proofs.Guarded.{In, Piece, Eaches, Some, Somes, Guard, Beside, Shuts, Tail}
+
+-- a plan over whole blocks of the tag, with a guard block among them
+pub record Blockwise (p : Plan) (i : List ℕ) : Type 0 where
+  pub some-size : 0 < p .size
+  pub some-width : 0 < p .width
+  pub whole : length i ≡ p .size * (length i / p .size)
+  pub inside : p .guard < length i / p .size
+  pub closed-length : length (p .closed) ≡ length i
 
 -- ---- stores dealt out to commands
 

@@ -1,29 +1,21 @@
 -- How many commands a list has: two for the guard block and, between them, as many as the chosen blocks fill. The chosen
 -- blocks are those for which the test is true, counted; a test that is true just on a run of blocks counts that run.
 -- Assumes nothing.
-use mathlib.Core.Path.{_≡_, refl, ap, _∙_}
+use mathlib.Core.Path.{_≡_, refl, sym, ap, _∙_}
 use mathlib.Core.Bool.{Bool, true, false, not, _&&_, cond}
 use mathlib.Core.List.{List, [], _∷_}
 use Prim.Native.Nat.{ℕ, zero, suc, _+_, _-_, _/_, _<_, _≤_}
 use native.Mathlib.Omega.{arith}
 use borrow.Author.Tests.{eq-eqb, ne-eqb}
 use lib.Dec.{eqb}
-use lib.ListN.{length, length-append}
+use lib.ListN.{length, length-append, length-map}
+use Rattle.tag.specs.Bytes.{run}
 use Rattle.tag.specs.Plan.{Plan, newImage, blockOf, touches, between, picks, middle, list, counted, touched}
-use Rattle.tag.proofs.Picks.{length-picks}
+use Rattle.tag.proofs.Addresses.{length-run}
+use Rattle.tag.proofs.Picks.{length-picks, picks-run}
 use Rattle.tag.proofs.Chunks.{length-chunk}
 
 module _ (t : ℕ → Bool) where
-  counted-none : (k b : ℕ) → ((c : ℕ) → b ≤ c → c < b + k → t c ≡ false) → counted t b k ≡ 0
-  counted-none zero b h = refl
-  counted-none (suc k) b h =
-      rw (h b (omega arith) (omega arith)) (omega (arith, counted-none k (suc b) (λ c l u. h c (omega arith) (omega arith))))
-
-  counted-all : (k b : ℕ) → ((c : ℕ) → b ≤ c → c < b + k → t c ≡ true) → counted t b k ≡ k
-  counted-all zero b h = refl
-  counted-all (suc k) b h =
-      rw (h b (omega arith) (omega arith)) (omega (arith, counted-all k (suc b) (λ c l u. h c (omega arith) (omega arith))))
-
   counted-add : (k l b : ℕ) → counted t b (k + l) ≡ counted t b k + counted t (b + k) l
   counted-add zero l b =
       let e : 0 + l ≡ l = omega arith in
@@ -57,14 +49,10 @@ module _ (t : ℕ → Bool) where
       → ((c : ℕ) → c < a → t c ≡ false) → ((c : ℕ) → a ≤ c → c < a + k → t c ≡ true) → ((c : ℕ) → a + k ≤ c → c < N → t c ≡ false)
       → counted t 0 N ≡ k
   counted-run a k N l below on past =
-      let e : N ≡ a + (k + (N - (a + k))) = omega arith in
-      let f : 0 + a ≡ a = omega arith in
-      let first : counted t 0 a ≡ 0 = counted-none a 0 (λ c p q. below c (omega arith)) in
-      let mid : counted t a k ≡ k = counted-all k a on in
-      let last : counted t (a + k) (N - (a + k)) ≡ 0 = counted-none (N - (a + k)) (a + k) (λ c p q. past c p (omega arith)) in
-      ap (counted t 0) e
-      ∙ counted-add a (k + (N - (a + k))) 0
-      ∙ rw (f, counted-add k (N - (a + k)) a) (omega arith)
+      sym (length-picks t 0 [] 0 N)
+      ∙ ap length (picks-run t 0 [] a k N l below on past)
+      ∙ length-map (run a k) (blockOf 0 [])
+      ∙ length-run k a
 
 pub length-list : (p : Plan) (i : List ℕ)
     → length (list p i) ≡ 2 + (counted (between p) 0 (length i / p .size) + (p .width - 1)) / p .width

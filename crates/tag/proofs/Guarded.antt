@@ -1,6 +1,6 @@
 -- The guarded list, once for every type of tag. It shuts a guard block, so that the tag holds none; it stores the other blocks
 -- from the new image; it opens the guard block last. It is accepted and ends in the new image. Stores that would change
--- nothing may be left out, and the first command where the guard is shut already.
+-- nothing may be left out.
 -- The invariant is byte by byte: while the guard is shut, a byte of the guard block is as closed, any other is old or new.
 -- Assumes nothing.
 use mathlib.Core.Path.{_≡_, refl, sym, ap, _∙_}
@@ -233,19 +233,3 @@ module _ (t : Task) (g : Guard t) where
 
     pub last-cut : cut (length (stores (first ∷ []) ∷ ending last mids)) (t .start) (stores (first ∷ []) ∷ ending last mids) ≡ g .new
     last-cut = ending-cut last mids s (put (t .start) first) shut-first (λ a l. cell a l .1)
-
-  -- without its first command, where the guard is shut already
-  module _ (last : Store) (mids : List (List Store)) (s : Tail last mids)
-      (closed-now : (a : ℕ) → a < length (t .start) → (g .block) a ≡ true → byte (t .start) a ≡ byte (g .closed) a) where
-    shut-now : Btw (t .start)
-    shut-now = (refl, λ a l. go a l ((g .block) a) refl)
-      where
-        go : (a : ℕ) → a < length (t .start) → (b : Bool) → (g .block) a ≡ b → Cell (g .block) (t .start) (g .closed) (g .new) (t .start) a
-        go a l true q = shut q (closed-now a l q)
-        go a l false q = old q refl
-
-    pub short-accepts : judge t 0 (t .start) (ending last mids) ≡ accepted (1 + length mids)
-    short-accepts = ending-accepts last mids s (t .start) shut-now (λ a l q. refl) 0 ∙ ap accepted (omega arith)
-
-    pub short-cut : cut (length (ending last mids)) (t .start) (ending last mids) ≡ g .new
-    short-cut = ending-cut last mids s (t .start) shut-now (λ a l q. refl)

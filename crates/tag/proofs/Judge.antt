@@ -18,6 +18,7 @@ use Rattle.tag.specs.Stores.{Store, Command, ill, stores, puts, done, st
 use Rattle.tag.specs.Judge.{accepted, refused, Task, holdsAs, reads, equalAt, keeps, every, fault, judge}
 use Rattle.tag.specs.Cuts.{Safe, as-none, as-new, as-old, Kept, Three, Left, KeptBy, SafeBy, Fault, none, form, change, reading, Faultless, First, of-command, of-list}
 use Rattle.tag.proofs.Logic.{and-l, and-r, and-both, or-cases, or-l, or-r, same-eq, same-refl, true-false, nope}
+use Rattle.tag.proofs.Judging.{judge-next, judge-good}
 
 -- ---- the tests say what the statements say
 
@@ -254,14 +255,11 @@ refused-first t cs r p e = go (refuse-first t 0 (t .start) cs r p e)
         let q : p ≡ length cs = omega (arith, pe) in
         rw q (of-list refl re (clear (length cs) nf) (λ h. true-false (as-holds _ _ h) w))
 
--- a step of the judge, for whoever shows that a list is accepted
+-- a step of the judge, and its end, for whoever shows that a list is accepted
 pub judge-goes : (t : Task) (n : ℕ) (j : List ℕ) (ss : List Store) (cs : List Command) → KeptBy t j (stores ss) → SafeBy t j (stores ss)
     → judge t n j (stores ss ∷ cs) ≡ judge t (suc n) (puts j ss) cs
-unfolding judge
 judge-goes t n j ss cs k s =
-    let q : fault t j (stores ss) ≡ 0 = of-fine t j (stores ss) _ (fault-is t j (stores ss)) (record { formed = stores-ill; kept = k; safe = s }) in
-    rw (q, judge)
+    judge-next t n j (stores ss) cs (of-fine t j (stores ss) _ (fault-is t j (stores ss)) (record { formed = stores-ill; kept = k; safe = s }))
 
 pub judge-ends : (t : Task) (n : ℕ) (j : List ℕ) → (t .held) j ≡ holds (t .wanted) → judge t n j [] ≡ accepted n
-unfolding judge
-judge-ends t n j e = let q : holdsAs ((t .held) j) (t .wanted) ≡ true = as-holds _ _ e in rw (q, judge)
+judge-ends t n j e = judge-good t n j (as-holds _ _ e)

@@ -19,16 +19,12 @@ use Rattle.tag.specs.Judge.{taskOf, accepted, judge}
 use Rattle.tag.specs.Cuts.{Kept}
 use Rattle.tag.proofs.Logic.{and-l, or-l, or-r, or-cases, true-false}
 use Rattle.tag.proofs.Images.{length-overlay, overlay-out}
-use Rattle.tag.proofs.Guarded.{Between, Guard, Shuts, Tail, ending, accepts, last-cut, short-accepts, short-cut}
-use Rattle.tag.proofs.Blocks.{block-shuts, block-tail}
+use Rattle.tag.proofs.Guarded.{Between, Guard, Shuts, Tail, ending, accepts, last-cut}
+use Rattle.tag.proofs.Blocks.{Blockwise, block-shuts, block-tail}
 
 -- what a type of tag shows of the plan for a tag and a message
 pub record Sound (T : TagType) (i m : List ℕ) (p : Plan) : Type 0 where
-  pub some-size : 0 < p .size
-  pub some-width : 0 < p .width
-  pub whole : length i ≡ p .size * (length i / p .size)
-  pub inside : p .guard < length i / p .size
-  pub closed-length : length (p .closed) ≡ length i
+  pub blockwise : Blockwise p i
   pub closed-kept : Kept (taskOf T i m p) (p .closed)
   -- with the guard shut the tag holds none
   pub quiet : (j : List ℕ) → Between (inBlock (p .size) (p .guard)) i (p .closed) (newImage p i) j → held T j ≡ nothing
@@ -73,29 +69,22 @@ module _ (T : TagType) (i m : List ℕ) (p : Plan) (s : Sound T i m p) where
   module _ (pick : ℕ → Bool) (c : Choice pick) where
     shuts : Shuts (taskOf T i m p) guard (blockOf (p .size) (p .closed) (p .guard))
     shuts =
-        block-shuts (taskOf T i m p) guard (p .size) (p .width) (length i / p .size) (p .guard) pick (s .some-size) (s .some-width) (s .whole) (s .inside)
-        (λ a. refl) (s .closed-length) (c .others) (c .complete)
+        let b = s .blockwise in
+        block-shuts (taskOf T i m p) guard (p .size) (p .width) (length i / p .size) (p .guard) pick (b .some-size) (b .some-width) (b .whole) (b .inside)
+        (λ a. refl) (b .closed-length) (c .others) (c .complete)
 
     tail : Tail (taskOf T i m p) guard (blockOf (p .size) (newImage p i) (p .guard)) (chunks (p .width) (picks pick (p .size) (newImage p i) 0 (length i / p .size)))
     tail =
-        block-tail (taskOf T i m p) guard (p .size) (p .width) (length i / p .size) (p .guard) pick (s .some-size) (s .some-width) (s .whole) (s .inside)
-        (λ a. refl) (s .closed-length) (c .others) (c .complete)
+        let b = s .blockwise in
+        block-tail (taskOf T i m p) guard (p .size) (p .width) (length i / p .size) (p .guard) pick (b .some-size) (b .some-width) (b .whole) (b .inside)
+        (λ a. refl) (b .closed-length) (c .others) (c .complete)
 
-    -- the list with its first command
-    pub chosen-accepted : (held T i ≡ broken → ⊥)
+    chosen-accepted : (held T i ≡ broken → ⊥)
         → judge (taskOf T i m p) 0 i (stores (blockOf (p .size) (p .closed) (p .guard) ∷ []) ∷ rest pick) ≡ accepted (suc (length (rest pick)))
     chosen-accepted ok = accepts (taskOf T i m p) guard _ _ _ shuts tail ok ∙ ap accepted (simp (length-append, length-map) (omega arith))
 
-    pub chosen-ends : cut (suc (length (rest pick))) i (stores (blockOf (p .size) (p .closed) (p .guard) ∷ []) ∷ rest pick) ≡ newImage p i
+    chosen-ends : cut (suc (length (rest pick))) i (stores (blockOf (p .size) (p .closed) (p .guard) ∷ []) ∷ rest pick) ≡ newImage p i
     chosen-ends = last-cut (taskOf T i m p) guard _ _ _ shuts tail
-
-    -- and without it, on a tag that is closed already
-    pub short-accepted : p .closed ≡ i → judge (taskOf T i m p) 0 i (rest pick) ≡ accepted (length (rest pick))
-    short-accepted e =
-        short-accepts (taskOf T i m p) guard _ _ tail (λ a l q. ap (λ x. byte x a) (sym e)) ∙ ap accepted (simp (length-append, length-map) (omega arith))
-
-    pub short-ends : p .closed ≡ i → cut (length (rest pick)) i (rest pick) ≡ newImage p i
-    short-ends e = short-cut (taskOf T i m p) guard _ _ tail (λ a l q. ap (λ x. byte x a) (sym e))
 
   -- every block that holds a byte to set
   all-touched : Choice (between p)

@@ -33,8 +33,9 @@ fits-is n u e = go (leb n 254) refl
     go true q = inl (q, leb-true (1 + n) u (rw (q, fitsIn) at e))
     go false q = inr (q, leb-true (3 + n) u (rw (q, fitsIn) at e))
 
-pub fits-pos : (n u : ℕ) → fitsIn n u ≡ true → 0 < u
-fits-pos n u e = ⊎-elim (λ c. omega (arith, c .1)) (λ c. omega (arith, c .1)) (fits-is n u e)
+-- a message that fits leaves a byte for its length
+pub fits-less : (n u : ℕ) → fitsIn n u ≡ true → n < u
+fits-less n u e = ⊎-elim (λ c. omega (arith, c .1)) (λ c. omega (arith, c .1)) (fits-is n u e)
 
 pub fits-of : (n u k : ℕ) → Sized n u k → n ≤ k → fitsIn n u ≡ true
 unfolding fitsIn

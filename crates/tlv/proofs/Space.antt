@@ -13,7 +13,8 @@ use Rattle.tag.specs.Checks.{check, Checked, firstOf}
 use Rattle.tlv.specs.Message.{TlvTag, View, refuse, view, viewed, reading}
 use Rattle.tlv.specs.Update.{usable, fitsIn, planBy}
 use Rattle.tlv.specs.Space.{Space, no-space, space, spaceOf}
-use Rattle.tlv.proofs.Writes.{tagOf, report-writable}
+use Rattle.tlv.specs.Tag.{tagOf}
+use Rattle.tlv.proofs.Writes.{report-writable}
 
 -- what the space is for writing
 abbrev pub writingIn : ℕ → List ℕ → List ℕ → Space → Writing

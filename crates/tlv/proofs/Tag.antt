@@ -23,7 +23,7 @@ use Rattle.tlv.specs.Walk.{Length, bad, len, lengthBy, lengthOf, Found, 
 use Rattle.tlv.specs.Message.{TlvTag, View, refuse, view, viewBy, viewed, readingOf, reading}
 use Rattle.tlv.specs.Update.{usable, fitsIn, content, lengthAt}
 use Rattle.tlv.proofs.Locality.{find-above, find-same}
-use Rattle.tlv.proofs.Field.{Written, written, fits-pos, fits-of, length-size, above-first}
+use Rattle.tlv.proofs.Field.{Written, written, fits-less, fits-of, length-size, above-first}
 
 -- ---- a message TLV by its length field
 
@@ -208,7 +208,7 @@ module _ (T : TlvTag) (laws : TlvLaws T) where
         same-held i us p j (length-overlay us (content m) i) new-agrees ∙ view-written ((T .writable) j) us m j w (r .some-bytes)
 
     pub some-room : 0 < length us
-    some-room = fits-pos (length m) (length us) (r .room)
+    some-room = omega (arith, fits-less (length m) (length us) (r .room))
 
     -- a message that fits is held by an image of equal length that agrees wherever no byte is to be set
     pub long-enough : (length (overlay us (content m) i) ≡ length i)

@@ -22,20 +22,10 @@ use Rattle.tag.proofs.Writes.{Sound}
 use Rattle.tag.proofs.Laws.{Near}
 use Rattle.tlv.specs.Message.{TlvTag, View, refuse, view, viewed, reportOf, reading}
 use Rattle.tlv.specs.Update.{usable, fitsIn, content, lengthAt, fits, plan}
+use Rattle.tlv.specs.Tag.{tagOf}
 use Rattle.tlv.proofs.Field.{first-set}
 use Rattle.tlv.proofs.Tag as tlv
 use Rattle.tlv.proofs.Tag.{TlvLaws, Placed, view-placed, ready-of, usable-is}
-
--- a tag of kind K whose commands are these
-abbrev pub tagOf : TlvTag → (List ℕ → List ℕ → Command) → (List ℕ → ℕ) → (List Store → List ℕ) → TagType
-tagOf K command span encoded = record {
-  reading = reading K;
-  fits = fits K;
-  plan = plan K;
-  command = command;
-  span = span;
-  encoded = encoded;
-}
 
 pub report-writable : (w : Bool) (i ms : List ℕ) → reportOf w i ms .writable ≡ w
 report-writable w i [] = refl
@@ -98,16 +88,18 @@ module _ (K : TlvTag) (laws : TlvLaws K) (command : List ℕ → List ℕ → Co
     pub whole : length i ≡ K .block * (length i / K .block)
     whole = tlv.bounds K laws i us at .0
 
-    pub guard-inside : plan K i m .guard < length i / K .block
+    guard-inside : plan K i m .guard < length i / K .block
     guard-inside = div-lt-iff-lt-mul (laws .block-pos) .1 (omega (arith, front .1, whole))
 
     pub sound : Sound T i m (plan K i m)
     sound = record {
-      some-size = laws .block-pos;
-      some-width = omega arith;
-      whole = whole;
-      inside = guard-inside;
-      closed-length = length-set i (lengthAt us) 0;
+      blockwise = record {
+        some-size = laws .block-pos;
+        some-width = omega arith;
+        whole = whole;
+        inside = guard-inside;
+        closed-length = length-set i (lengthAt us) 0;
+      };
       closed-kept = λ a l q. getD-set-other i (lengthAt us) a 0 0 (λ e. true≢false (sym q ∙ rw (e, first-set us m some)));
       quiet = quiet;
       new-reads = tlv.reads-new K laws i m us (prepared i m r);

@@ -3,6 +3,7 @@ pub mod Areas
 pub mod Walk
 pub mod Message
 pub mod Update
+pub mod Tag
 pub mod Table
 pub mod Views
 pub mod Marks

@@ -6,7 +6,7 @@ use mathlib.Core.List.{List}
 use Prim.Native.Nat.{ℕ, suc, _+_, _-_, _<_, _≤_}
 use native.Mathlib.Omega.{arith}
 use native.Mathlib.Decide.{decLt}
-use borrow.Author.Tests.{leb-true, le-leb, lt-leb}
+use borrow.Author.Tests.{le-leb, lt-leb}
 use lib.Dec.{leb, ltb}
 use lib.ListN.{length, take}
 use Rattle.tag.specs.declared.Address.{Address}
@@ -17,7 +17,7 @@ use Rattle.tlv.specs.declared.find.Found as code-found
 use Rattle.tlv.specs.declared.find.Found.the-variants as found
 use Rattle.tlv.specs.Areas.{anyArea}
 use Rattle.tlv.specs.Walk.{Length, bad, len, find}
-use Rattle.tlv.specs.Message.{view, viewBy}
+use Rattle.tlv.specs.Message.{View, refuse, view, viewBy}
 use Rattle.tlv.specs.Update.{fitsIn}
 use Rattle.tlv.specs.Space.{Space, no-space, spaceOf}
 use Rattle.tlv.specs.Views.{ahead, Onward}
@@ -26,6 +26,7 @@ use Rattle.tlv.proofs.Finding.{find-all}
 use Rattle.tlv_tag.specs.declared.space.Space as code
 use Rattle.tlv_tag.specs.declared.space.Space.the-variants as answer
 use Rattle.tlv_tag.specs.Blank.{Blank}
+use Rattle.tlv_tag.specs.Reading.{refusalOf}
 use Rattle.tlv_tag.specs.Space.{Room, SpaceHere, SpacePlaced}
 
 -- one byte of length and n of message
@@ -40,30 +41,23 @@ leb-less n u h = go (decLt (u - n) 3)
     go (yes l) = lt-leb 3 (u - n) l ∙ sym (lt-leb (3 + n) u (omega arith))
     go (no l) = le-leb 3 (u - n) (omega arith) ∙ sym (le-leb (3 + n) u (omega arith))
 
--- a message that fits leaves a byte for its length
-pub fits-less : (n u : ℕ) → fitsIn n u ≡ true → n < u
-unfolding fitsIn
-fits-less n u e = go (leb n 254) refl
-  where
-    go : (b : Bool) → leb n 254 ≡ b → n < u
-    go true q = let h : 1 + n ≤ u = leb-true (1 + n) u (rw q at e) in omega arith
-    go false q = let h : 3 + n ≤ u = leb-true (3 + n) u (rw q at e) in omega arith
+-- ---- the message TLV, by its refusal
 
--- ---- the message TLV, once its length is taken
+module _ (w : Bool) (n : ℕ) where
+  pub refused-space : (v : View) (r : ℕ) → r ≡ refusalOf v → (r ≡ 0 → ⊥) → no-space r ≡ spaceOf w n v
+  refused-space (refuse q) r e z = ap no-space e
+  refused-space (view us ms) r e z = absurd (z e)
 
-module _ (w : Bool) (n : ℕ) (us : List ℕ) (l : Length) where
-  pub after-bad : bad ≡ l → no-space bad-length ≡ spaceOf w n (viewBy us l)
+  -- one that is not refused has a message, whatever its addresses
+  pub whole-space : {s : Space} (us : List ℕ) (l : Length) → refusalOf (viewBy us l) ≡ 0 → ((ms : List ℕ) → s ≡ spaceOf w n (view us ms))
+      → s ≡ spaceOf w n (viewBy us l)
   unfolding viewBy
-  after-bad e = rw (← e)
-
-  module _ (k : ℕ) (vs : List ℕ) (e : len k vs ≡ l) where
-    pub after-short : length vs < k → no-space bad-length ≡ spaceOf w n (viewBy us l)
-    unfolding viewBy
-    after-short h = rw (← e, lt-leb k (length vs) h)
-
-    pub after-whole : {s : Space} → k ≤ length vs → ((ms : List ℕ) → s ≡ spaceOf w n (view us ms)) → s ≡ spaceOf w n (viewBy us l)
-    unfolding viewBy
-    after-whole h f = rw (← e, le-leb k (length vs) h) (f (take k vs))
+  whole-space us bad e f = absurd (omega (arith, e))
+  whole-space {s} us (len k vs) e f = go (leb k (length vs)) refl
+    where
+      go : (b : Bool) → leb k (length vs) ≡ b → s ≡ spaceOf w n (viewBy us (len k vs))
+      go true q = rw (q, viewBy) (f (take k vs))
+      go false q = let seven : bad-length ≡ 0 = rw (q, viewBy) at e in absurd (omega arith)
 
 -- ---- the walk from the start of the data area
 

@@ -115,7 +115,7 @@ pub fn read_area(
 }
 
 // The refusal of the message TLV, or 0, from the walk past its type byte: it is refused just where it could not be passed over.
-fn message_refusal(image: &[u8], table: &[u16], w: Walk) -> u8
+pub(crate) fn message_refusal(image: &[u8], table: &[u16], w: Walk) -> u8
     requires { ⌜ Placed (now image) (now table) w ⌝ }
     ensures { λ r. ⌜ r ≡ refusalOf (tlvView (now (image .entry)) (ahead (now (table .entry)) w)) ⌝ }
 {

@@ -1,8 +1,8 @@
 // Where a message goes on a tag that has a TLV area: refusals 6 to 11.
 
+use crate::read;
 use tag::Address;
 use tlv::find::Found;
-use tlv::length::Field;
 use tlv::value;
 use tlv::walk::Walk;
 ghost use mathlib.Core.Path.{_≡_};
@@ -54,22 +54,17 @@ fn space_at(w: Walk, n: usize, image: &[u8], table: &[u16], writable: bool) -> S
     Space::At(w)
 }
 
-// The message TLV whose type byte the walk has just passed: a bad length, or a value past the end, is refusal 7.
+// The message TLV whose type byte the walk has just passed: its own refusal comes first.
 fn space_after(w: Walk, n: usize, image: &[u8], table: &[u16], writable: bool) -> Space
     requires { ⌜ Placed (now image) (now table) w ⌝ }
     ensures is { λ r. ⌜ spaceAs (now (table .entry)) r ≡ spaceOf writable n (tlvView (now (image .entry)) (ahead (now (table .entry)) w)) ⌝ }
     ensures here { λ r. ⌜ SpaceHere (now (image .entry)) (now (table .entry)) n w r ⌝ }
 {
-    match w.take_length(image, table) {
-        Field::Bad => Space::Refused(7),
-        Field::Is(length, v) => {
-            let left = value::count(v, table);
-            if left < length {
-                return Space::Refused(7);
-            }
-            space_at(w, n, image, table, writable)
-        }
+    let refusal = read::message_refusal(image, table, w);
+    if refusal != 0 {
+        return Space::Refused(refusal);
     }
+    space_at(w, n, image, table, writable)
 }
 
 // The space for a message of `n` bytes in the data area from `first` up to `end`.

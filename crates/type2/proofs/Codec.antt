@@ -12,6 +12,7 @@ use lib.ListN.{length}
 use Rattle.tag.specs.Refusals.{not-well-formed}
 use Rattle.tag.specs.Stores.{Store, stores}
 use Rattle.tag.proofs.Logic.{and-l, and-r, nope}
+use Rattle.tag.proofs.Sending.{Named}
 use Rattle.type2.specs.Codec.{nameable, commandBytes, Decoded, undecoded, decoded, wellFormed, decode, commandOf, encoded}
 
 pub decode-encode : (blocks b : ℕ) (bytes : List ℕ) → nameable blocks b ≡ true → length bytes ≡ 4
@@ -43,31 +44,25 @@ encode-decode blocks (t ∷ c ∷ r) b bytes e = go (wellFormed blocks (t ∷ c 
 
 -- ---- what a command can carry
 
--- a store of one block that may be named
-pub record Sent (blocks : ℕ) (s : Store) : Type 0 where
-  pub block : ℕ
-  pub there : s .at ≡ 4 * block
-  pub nameable-block : nameable blocks block ≡ true
-  pub four : length (s .bytes) ≡ 4
-
--- exactly one such store
+-- exactly one store, of a block that may be named
 abbrev pub Sendable : ℕ → List Store → Type 0
 Sendable blocks [] = ⊥
-Sendable blocks (s ∷ []) = Sent blocks s
+Sendable blocks (s ∷ []) = Named 4 (λ b. nameable blocks b ≡ true) s
 Sendable blocks (s ∷ t ∷ ss) = ⊥
 
 pub sent : (blocks : ℕ) (ss : List Store) → Sendable blocks ss → commandOf (decode blocks (encoded ss)) ≡ stores ss
 sent blocks [] h = absurd h
 sent blocks (s ∷ []) h =
-    let e : s .at / 4 ≡ h .block = omega (arith, h .there) in
-    rw (e, decode-encode blocks (h .block) (s .bytes) (h .nameable-block) (h .four))
-    (ap (λ a. stores (record { at = a; bytes = s .bytes } ∷ [])) (sym (h .there)))
+    let w = h .whole in
+    let e : s .at / 4 ≡ w .block = omega (arith, w .at-block) in
+    rw (e, decode-encode blocks (w .block) (s .bytes) (h .good) (w .full))
+    (ap (λ a. stores (record { at = a; bytes = s .bytes } ∷ [])) (sym (w .at-block)))
 sent blocks (s ∷ t ∷ ss) h = absurd h
 
 -- as many bytes as Type 2's span
 pub length-sent : (blocks : ℕ) (ss : List Store) → Sendable blocks ss → length (encoded ss) ≡ 6
 length-sent blocks [] h = absurd h
-length-sent blocks (s ∷ []) h = omega (arith, h .four)
+length-sent blocks (s ∷ []) h = omega (arith, h .whole .full)
 length-sent blocks (s ∷ t ∷ ss) h = absurd h
 
 pub decode-sendable : (blocks : ℕ) (bs : List ℕ) (ss : List Store) → commandOf (decode blocks bs) ≡ stores ss
@@ -80,4 +75,4 @@ decode-sendable blocks bs ss e = go (decode blocks bs) refl
         let h = encode-decode blocks bs b bytes q in
         let one : ss ≡ record { at = 4 * b; bytes = bytes } ∷ [] = cc in
         let same-block : 4 * b / 4 ≡ b = omega arith in
-        rw one (record { block = b; there = refl; nameable-block = h .0; four = h .1 }, rw same-block (sym (h .2)))
+        rw one (record { whole = record { block = b; at-block = refl; full = h .1 }; good = h .0 }, rw same-block (sym (h .2)))

@@ -7,7 +7,7 @@ use Prim.Native.Nat.{ℕ, _+_, _*_, _/_, _<_, _≤_}
 use native.Mathlib.Omega.{arith}
 use borrow.Author.Tests.{leb-true, ltb-true, le-leb, lt-ltb}
 use lib.Dec.{leb, ltb}
-use lib.ListN.{length, length-set}
+use lib.ListN.{length}
 use Rattle.tag.specs.Stores.{Store, Command}
 use Rattle.tag.specs.Plan.{inBlock, list}
 use Rattle.tag.specs.Cuts.{Ready}
@@ -15,7 +15,7 @@ use Rattle.tag.proofs.Logic.{and-l, and-r, and-both}
 use Rattle.tag.proofs.Addresses.{Above}
 use Rattle.tag.proofs.Each.{Each, each-of}
 use Rattle.tag.proofs.Blocks.{block-of}
-use Rattle.tag.proofs.Sending.{Whole, Sized, Nameable, list-good, touch-bounds}
+use Rattle.tag.proofs.Sending.{Named, Sized, Nameable, list-good, touch-bounds}
 use Rattle.tag.proofs.Laws.{Laws, Sent}
 use Rattle.tlv.specs.Message.{viewed}
 use Rattle.tlv.specs.Update.{usable, content, lengthAt, plan}
@@ -60,11 +60,6 @@ module _ (i m : List ℕ) (r : Ready type2 i m) where
   names =
       let (lo, up) = tlv.front memory memory-laws i us place (writes.some memory memory-laws command span encoded i m r) in
       record {
-        some-size = omega arith;
-        some-width = omega arith;
-        whole = whole;
-        inside = writes.guard-inside memory memory-laws command span encoded i m r;
-        closed-length = length-set i (lengthAt us) 0;
         guard-good = name-block (lengthAt us / 4) (lengthAt us) (omega (arith, beyond .0)) up (block-of 4 (lengthAt us) (omega arith));
         touched-good = λ b l g e.
             let (y, after, before, q) = touch-bounds 4 (length i) (place .at) us (content m) b (beyond .1) e in
@@ -72,9 +67,9 @@ module _ (i m : List ℕ) (r : Ready type2 i m) where
       }
 
   -- a command of the list stores one block
-  one-block : (ss : List Store) → Each (Whole 4 (λ b. nameable (length i / 4) b ≡ true)) ss × Sized 4 1 (length i / 4) ss → Sendable (length i / 4) ss
+  one-block : (ss : List Store) → Each (Named 4 (λ b. nameable (length i / 4) b ≡ true)) ss × Sized 4 1 (length i / 4) ss → Sendable (length i / 4) ss
   one-block [] h = absurd (omega (arith, h .1 .0))
-  one-block (s ∷ []) h = record { block = h .0 .0 .block; there = h .0 .0 .at-block; nameable-block = h .0 .0 .good; four = h .0 .0 .full }
+  one-block (s ∷ []) h = h .0 .0
   one-block (s ∷ t ∷ ss) h = absurd (omega (arith, h .1 .1))
 
   all-sent : Each (Sent type2 i) (list (plan memory i m) i)
@@ -83,7 +78,7 @@ module _ (i m : List ℕ) (r : Ready type2 i m) where
       (λ ss h.
       let g : Sendable (length i / 4) ss = one-block ss h in
       record { taken = sent (length i / 4) ss g; some-bytes = omega (arith, length-sent (length i / 4) ss g); whole = λ r. sym (length-sent (length i / 4) ss g) })
-      (list-good (plan memory i m) i (λ b. nameable (length i / 4) b ≡ true) names)
+      (list-good (plan memory i m) i (writes.sound memory memory-laws command span encoded i m r .blockwise) (λ b. nameable (length i / 4) b ≡ true) names)
 
 pub type2-laws : Laws type2
 type2-laws = record {

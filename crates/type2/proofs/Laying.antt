@@ -17,7 +17,7 @@ use Rattle.tag.proofs.Addresses.{map-run}
 use Rattle.tag.proofs.Filling.{lay-more}
 use Rattle.tag.proofs.Picks.{length-picks, picked, picks-next}
 use Rattle.tag.proofs.Counts.{counted-yes, counted-no}
-use Rattle.tag.proofs.Sending.{Whole, picks-whole}
+use Rattle.tag.proofs.Sending.{Named, picks-named}
 use Rattle.type2.specs.Codec.{commandBytes, encoded}
 use Rattle.type2.specs.Listing.{blockBytes, oneEach}
 
@@ -64,11 +64,11 @@ chunks-one ss =
 pub block-one : (i : List ℕ) (b : ℕ) → encoded (blockOf 4 i b ∷ []) ≡ blockBytes i b
 block-one i b = let e : 4 * b / 4 ≡ b = omega arith in rw e
 
-length-one : (Q : ℕ → Type 0) (ss : List Store) → Each (Whole 4 Q) ss → length (oneEach ss) ≡ 6 * length ss
+length-one : (Q : ℕ → Type 0) (ss : List Store) → Each (Named 4 Q) ss → length (oneEach ss) ≡ 6 * length ss
 unfolding oneEach
 length-one Q [] h = refl
 length-one Q (s ∷ ss) h =
-    omega (arith, length-append (encoded (s ∷ [])) (oneEach ss), length-one Q ss (h .1), h .0 .full)
+    omega (arith, length-append (encoded (s ∷ [])) (oneEach ss), length-one Q ss (h .1), h .0 .whole .full)
 
 -- ---- the blocks that a test picks
 
@@ -76,7 +76,7 @@ module _ (t : ℕ → Bool) (i : List ℕ) where
   pub length-picked : (k : ℕ) → 4 * k ≤ length i → length (oneEach (picks t 4 i 0 k)) ≡ 6 * counted t 0 k
   length-picked k h =
       let Q : ℕ → Type 0 = λ b. Unit {0} in
-      length-one Q (picks t 4 i 0 k) (picks-whole 4 i Q t k 0 k (omega arith) h (λ c l e. tt))
+      length-one Q (picks t 4 i 0 k) (picks-named 4 i Q t k 0 k (omega arith) h (λ c l e. tt))
       ∙ ap (λ n. 6 * n) (length-picks t 4 i 0 k)
 
   -- one block more

@@ -17,6 +17,7 @@ use Rattle.tag.specs.Stores.{Store, stores}
 use Rattle.tag.proofs.Logic.{and-l, and-r, same-eq, same-refl, nope}
 use Rattle.tag.proofs.Addresses.{Above, Rising, above-rising}
 use Rattle.tag.proofs.Each.{Each}
+use Rattle.tag.proofs.Sending.{blockNumber, Whole}
 use Rattle.type3.specs.Update.{blocksPerCommand}
 use Rattle.type3.specs.Codec.{namesBytes, Names, no-names, names, withName, namesOf, nameable, wellNamed, opening, commandBytes, Decoded, undecoded, decoded, decodeBy, decode, storesOf, commandOf, storedBytes, encoded, span}
 
@@ -164,7 +165,7 @@ length-command number bs bytes n l =
     )
 
 -- the count stands at byte 12, whatever follows the command
-pub count-at : (number bs bytes r : List ℕ) → length number ≡ 8 → byte (commandBytes number bs bytes ++ r) 12 ≡ length bs
+count-at : (number bs bytes r : List ℕ) → length number ≡ 8 → byte (commandBytes number bs bytes ++ r) 12 ≡ length bs
 count-at number bs bytes r n =
     ap (λ l. byte (l ++ r) 12) (grouped number bs bytes)
     ∙ ap (λ l. byte l 12) (append-assoc (opening number) (length bs ∷ (namesBytes bs ++ bytes)) r)
@@ -172,45 +173,39 @@ count-at number bs bytes r n =
 
 -- ---- what a command can carry
 
--- a store of one block
-pub record Whole (s : Store) : Type 0 where
-  pub block : ℕ
-  pub there : s .at ≡ 16 * block
-  pub sixteen : length (s .bytes) ≡ 16
-
 abbrev pub blocksOf : List Store → List ℕ
-blocksOf ss = map (λ s. s .at / 16) ss
+blocksOf ss = map (blockNumber 16) ss
 
--- such stores, whose blocks may be named together
+-- stores of whole blocks that may be named together
 abbrev pub Sendable : ℕ → ℕ → List Store → Type 0
-Sendable nbw nmaxb ss = Each Whole ss × (wellNamed nbw nmaxb (blocksOf ss) ≡ true)
+Sendable nbw nmaxb ss = Each (Whole 16) ss × (wellNamed nbw nmaxb (blocksOf ss) ≡ true)
 
-length-stored : (ss : List Store) → Each Whole ss → length (storedBytes ss) ≡ 16 * length ss
+length-stored : (ss : List Store) → Each (Whole 16) ss → length (storedBytes ss) ≡ 16 * length ss
 length-stored [] h = refl
-length-stored (s ∷ ss) h = omega (arith, length-append (s .bytes) (storedBytes ss), h .0 .sixteen, length-stored ss (h .1))
+length-stored (s ∷ ss) h = omega (arith, length-append (s .bytes) (storedBytes ss), h .0 .full, length-stored ss (h .1))
 
-stores-stored : (ss : List Store) → Each Whole ss → storesOf (blocksOf ss) (storedBytes ss) ≡ ss
+stores-stored : (ss : List Store) → Each (Whole 16) ss → storesOf (blocksOf ss) (storedBytes ss) ≡ ss
 stores-stored [] h = refl
 stores-stored (s ∷ ss) h =
-    let back : 16 * (s .at / 16) ≡ s .at = omega (arith, h .0 .there) in
-    rw (back, take-at (s .bytes) (storedBytes ss) 16 (h .0 .sixteen), drop-at (s .bytes) (storedBytes ss) 16 (h .0 .sixteen))
+    let back : 16 * (s .at / 16) ≡ s .at = omega (arith, h .0 .at-block) in
+    rw (back, take-at (s .bytes) (storedBytes ss) 16 (h .0 .full), drop-at (s .bytes) (storedBytes ss) 16 (h .0 .full))
     (ap (λ r. s ∷ r) (stores-stored ss (h .1)))
 
 stored-stores : (bs bytes : List ℕ) → length bytes ≡ 16 * length bs
-    → Each Whole (storesOf bs bytes) × (blocksOf (storesOf bs bytes) ≡ bs) × (storedBytes (storesOf bs bytes) ≡ bytes)
+    → Each (Whole 16) (storesOf bs bytes) × (blocksOf (storesOf bs bytes) ≡ bs) × (storedBytes (storesOf bs bytes) ≡ bytes)
 stored-stores [] [] l = (tt, refl, refl)
 stored-stores [] (a ∷ bytes) l = absurd (omega arith)
 stored-stores (b ∷ bs) bytes l =
     let ih = stored-stores bs (drop 16 bytes) (omega (arith, length-drop 16 bytes)) in
     let back : 16 * b / 16 ≡ b = omega arith in (
-      (record { block = b; there = refl; sixteen = omega (arith, length-take 16 bytes) }, ih .0),
+      (record { block = b; at-block = refl; full = omega (arith, length-take 16 bytes) }, ih .0),
       cc (ih .1),
       ap (λ r. take 16 bytes ++ r) (ih .2) ∙ take-append-drop 16 bytes,
     )
 
 -- the bytes are as many as the names ask for
-length-sent : (ss : List Store) → Each Whole ss → length (storedBytes ss) ≡ 16 * length (blocksOf ss)
-length-sent ss h = omega (arith, length-stored ss h, length-map ss (λ s. s .at / 16))
+length-sent : (ss : List Store) → Each (Whole 16) ss → length (storedBytes ss) ≡ 16 * length (blocksOf ss)
+length-sent ss h = omega (arith, length-stored ss h, length-map ss (blockNumber 16))
 
 pub sent : (number : List ℕ) (nbw nmaxb : ℕ) (ss : List Store) → length number ≡ 8 → Sendable nbw nmaxb ss
     → commandOf (decode number nbw nmaxb (encoded number ss)) ≡ stores ss

@@ -17,7 +17,7 @@ use Rattle.tag.specs.Cuts.{Ready}
 use Rattle.tag.proofs.Logic.{and-l, and-r, and-both}
 use Rattle.tag.proofs.Each.{Each, each-map, each-of}
 use Rattle.tag.proofs.Writes.{Sound}
-use Rattle.tag.proofs.Sending.{Whole, Sized, touch-bounds, Nameable, list-good}
+use Rattle.tag.proofs.Sending.{blockNumber, Named, Sized, touch-bounds, Nameable, list-good}
 use Rattle.tag.proofs.Laws.{Sent, Near, Laws, ready-reads}
 use Rattle.type3.specs.Attributes.{nmaxbOf, mayWrite}
 use Rattle.type3.specs.Message.{reading}
@@ -47,11 +47,13 @@ module _ (number i m : List ℕ) (r : Ready (type3 number) i m) where
 
   plan-sound : Sound (type3 number) i m (plan i m)
   plan-sound = record {
-    some-size = omega arith;
-    some-width = some-width;
-    whole = bounds i (ready-room .passes) .whole;
-    inside = omega (arith, inside i m ready-room);
-    closed-length = closed-length i;
+    blockwise = record {
+      some-size = omega arith;
+      some-width = some-width;
+      whole = bounds i (ready-room .passes) .whole;
+      inside = omega (arith, inside i m ready-room);
+      closed-length = closed-length i;
+    };
     closed-kept = λ a l q. closed-kept i m a q;
     quiet = λ j h. quiet i j _ (ready-room .passes) h;
     new-reads = reads-new i m ready-room;
@@ -68,33 +70,29 @@ touched-most i m b e =
     omega arith
 
 -- a command of whole blocks at most Nmaxb, one to w of them, rising
-sendable : (nbw nmaxb hi : ℕ) (ss : List Store) → nmaxb ≤ 255 → Each (Whole 16 (λ b. b ≤ nmaxb)) ss → Sized 16 (blocksPerCommand nbw) hi ss → Sendable nbw nmaxb ss
+sendable : (nbw nmaxb hi : ℕ) (ss : List Store) → nmaxb ≤ 255 → Each (Named 16 (λ b. b ≤ nmaxb)) ss → Sized 16 (blocksPerCommand nbw) hi ss → Sendable nbw nmaxb ss
 sendable nbw nmaxb hi ss l w s = (
-  each-of _ _ ss (λ x h. record { block = h .block; there = h .at-block; sixteen = h .full }) w,
+  each-of _ _ ss (λ x h. h .whole) w,
   and-both
       (and-both (le-leb 1 (length (blocksOf ss)) (omega (arith, count, s .0))) (le-leb (length (blocksOf ss)) (blocksPerCommand nbw) (omega (arith, count, s .1))))
-      (rising-nameable hi nmaxb (blocksOf ss) (s .2) (each-map (λ b. b ≤ nmaxb) (λ x. x .at / 16) ss (each-of _ _ ss (λ x h. omega (arith, h .at-block, h .good)) w)) l),
+      (rising-nameable hi nmaxb (blocksOf ss) (s .2) (each-map (λ b. b ≤ nmaxb) (blockNumber 16) ss (each-of _ _ ss (λ x h. omega (arith, h .whole .at-block, h .good)) w)) l),
 )
   where
     count : length (blocksOf ss) ≡ length ss
-    count = length-map ss (λ x. x .at / 16)
+    count = length-map ss (blockNumber 16)
 
 module _ (number i m : List ℕ) (eight : length number ≡ 8) (r : Ready (type3 number) i m) where
   plan-nameable : Nameable (plan i m) i (λ b. b ≤ nmaxbOf i)
   plan-nameable = record {
-    some-size = omega arith;
-    some-width = some-width number i m r;
-    whole = bounds i (ready-room number i m r .passes) .whole;
-    inside = omega (arith, inside i m (ready-room number i m r));
-    closed-length = closed-length i;
     guard-good = omega arith;
     touched-good = λ b l n e. omega (arith, touched-most i m b e, few-blocks i m (ready-room number i m r));
   }
 
   list-sent : Each (Sent (type3 number) i) (list (plan i m) i)
-  list-sent = each-of _ _ (list (plan i m) i) command-sent (list-good (plan i m) i (λ b. b ≤ nmaxbOf i) plan-nameable)
+  list-sent = each-of _ _ (list (plan i m) i) command-sent
+      (list-good (plan i m) i (plan-sound number i m r .blockwise) (λ b. b ≤ nmaxbOf i) plan-nameable)
     where
-      command-sent : (ss : List Store) → Each (Whole 16 (λ b. b ≤ nmaxbOf i)) ss × Sized 16 (blocksPerCommand (byte i 2)) (length i / 16) ss → Sent (type3 number) i ss
+      command-sent : (ss : List Store) → Each (Named 16 (λ b. b ≤ nmaxbOf i)) ss × Sized 16 (blocksPerCommand (byte i 2)) (length i / 16) ss → Sent (type3 number) i ss
       command-sent ss h =
           let b = bounds i (ready-room number i m r .passes) in
           let s : Sendable (byte i 2) (nmaxbOf i) ss = sendable (byte i 2) (nmaxbOf i) (length i / 16) ss (omega (arith, b .short, b .reach)) (h .0) (h .1) in

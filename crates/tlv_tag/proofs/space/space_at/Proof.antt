@@ -7,7 +7,7 @@ use lib.ListN.{length}
 use Rattle.tag.proofs.Cases.{cases}
 use Rattle.tlv.specs.Update.{fitsIn}
 use Rattle.tlv.specs.Views.{ahead}
-use Rattle.tlv_tag.proofs.Fitting.{fits-less}
+use Rattle.tlv.proofs.Field.{fits-less}
 use Rattle.tlv_tag.proofs.space.space_at.Statement.{statement}
 use Rattle.tlv_tag.proofs.space.space_at.Tie as tie
 

@@ -1,0 +1,19 @@
+-- A tag with a TLV area as a type of tag, whatever its commands look like.
+-- Assumes nothing.
+use mathlib.Core.List.{List}
+use Prim.Native.Nat.{ℕ}
+use Rattle.tag.specs.Stores.{Store, Command}
+use Rattle.tag.specs.TagType.{TagType}
+use Rattle.tlv.specs.Message.{TlvTag, reading}
+use Rattle.tlv.specs.Update.{fits, plan}
+
+-- by what the tag handed in takes a command's bytes for, how many bytes of a list a command takes, and the bytes of a command
+abbrev pub tagOf : TlvTag → (List ℕ → List ℕ → Command) → (List ℕ → ℕ) → (List Store → List ℕ) → TagType
+tagOf K command span encoded = record {
+  reading = reading K;
+  fits = fits K;
+  plan = plan K;
+  command = command;
+  span = span;
+  encoded = encoded;
+}
