@@ -12,8 +12,8 @@
  * After a refusal every buffer holds what it held. After success a buffer keeps its bytes past
  * what is written.
  *
- * A slice is a pointer and a length. No pointer may be null, also where the length is 0, and a
- * buffer that is written to may not overlap another argument.
+ * A slice is a pointer and a length. No pointer may be null, not even where the length is 0, and
+ * a buffer that is written to may not overlap another argument.
  */
 #ifndef ZANFIROTTA_H
 #define ZANFIROTTA_H
@@ -42,7 +42,8 @@ enum zan_refusal {
     ZAN_EMPTY_MESSAGE = 9,     /* message to write has length 0 */
     ZAN_NOT_WRITABLE = 10,     /* tag not writable */
     ZAN_MESSAGE_TOO_LONG = 11, /* message too long */
-    ZAN_LIST_BUFFER = 12,      /* list buffer shorter than the list, or bytes than the command */
+    ZAN_LIST_BUFFER = 12,      /* list buffer shorter than the list, or the buffer of encoding
+                                  shorter than the command */
     ZAN_GATHERING_BUFFER = 13, /* gathering buffer shorter than an interrupted message */
     ZAN_NOT_WELL_FORMED = 20,  /* command not well formed */
     ZAN_PROTECTED_BYTE = 21,   /* command changes a protected byte */

@@ -169,7 +169,7 @@ impl RefusalNumber {
             NotWellFormed => "command not well formed",
             ProtectedByte => "command changes a protected byte",
             Misread => "tag misreads after the command",
-            Unfinished => "list ends before the message stands",
+            Unfinished => "the list ends and the tag does not read as the message",
         }
     }
 }
@@ -177,10 +177,11 @@ impl RefusalNumber {
 impl fmt::Display for Refusal {
     fn fmt(&self, f: &mut fmt::Formatter) -> fmt::Result {
         write!(f, "refused {}: {}", self.number as u8, self.number.text())?;
-        if self.number >= RefusalNumber::NotWellFormed {
-            write!(f, ", at command {}", self.position)?;
+        match self.number {
+            RefusalNumber::Unfinished => write!(f, ", after {} commands", self.position),
+            n if n >= RefusalNumber::NotWellFormed => write!(f, ", at command {}", self.position),
+            _ => Ok(()),
         }
-        Ok(())
     }
 }
 

@@ -1,5 +1,5 @@
-//! What README.md and examples/c show, tried. The Rust lines of README.md are a doc test of the
-//! crate.
+//! What README.md and examples/c show, tried, and the header: every function is called from C. The
+//! Rust lines of README.md are a doc test of the crate.
 
 #![cfg(zanfirotta_archive)]
 
@@ -37,7 +37,7 @@ fn run_c(name: &str, source: &Path) -> String {
         .expect("cc runs");
     assert!(compiled.success(), "{name} does not compile");
     let run = Command::new(&program).output().expect("it runs");
-    assert!(run.status.success(), "{name} fails");
+    assert!(run.status.success(), "{name} fails: {}", run.status);
     String::from_utf8(run.stdout).unwrap()
 }
 
@@ -91,4 +91,9 @@ int main(void)
 fn c_example_runs() {
     let printed = run_c("write_tag", &top().join("examples/c/write_tag.c"));
     assert!(printed.starts_with("Type 2: 4 commands\n"), "{printed}");
+}
+
+#[test]
+fn every_function_is_called_from_c() {
+    run_c("calls", &top().join("rust/tests/c/calls.c"));
 }

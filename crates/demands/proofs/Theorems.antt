@@ -54,7 +54,7 @@ pub type2-count : Count2
 type2-count i m r =
     let us = usable (viewed memory i) in
     let some = writes.some memory memory-laws command span encoded i m r in
-    length-single ((type2 .plan) i m) i refl (writes.guard-inside memory memory-laws command span encoded i m r)
+    length-single ((type2 .plan) i m) i refl (type2-laws .sound i m r .blockwise .inside)
     (touch-of 4 us (content m) (lengthAt us) (lengthAt us / 4) (first-set us m some) (block-of 4 (lengthAt us) (omega arith)))
 
 pub type2-demand3 : (i m : List ℕ) → Ready type2 i m → Demand3 type2 i m

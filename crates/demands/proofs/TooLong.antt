@@ -85,7 +85,7 @@ content-octets m l h = go (leb (length m) 254) refl
         rw (q, lengthField) (omega arith, octets-append m (0xFE ∷ []) h (omega arith, tt))
     go false q = rw (q, lengthField) (omega arith, (omega arith, (omega arith, octets-append m (0xFE ∷ []) h (omega arith, tt))))
 
-module _ (i m : List ℕ) (a : Asked type2 i m) (t : ℕ) (us : List ℕ) (e : messageTlv layout i ≡ found t us) where
+module _ (i m : List ℕ) (a : Asked type2 i m) (t : ℕ) (us : List ℕ) (e : messageTlv layout i ≡ found t us) (end : ℕ) where
   at-tlv : tlv.Placed memory i (usable (viewed memory i))
   at-tlv = placed memory memory-laws (λ i bs. commandOf (decode (length i / 4) bs)) (λ bs. 6) encoded i (a .report) (a .reads-as) .0
 
@@ -98,7 +98,7 @@ module _ (i m : List ℕ) (a : Asked type2 i m) (t : ℕ) (us : List ℕ) (e : m
   room : (b : Bool) → fitsIn (length m) (length (usable (viewed memory i))) ≡ b → fitsIn (length m) (length us) ≡ b
   room b f = ap (λ vs. fitsIn (length m) (length vs)) (sym same-us) ∙ f
 
-  no-room : fitsIn (length m) (length (usable (viewed memory i))) ≡ false → (j : List ℕ) → Octets j → Alike2 t us i j → held type2 j ≡ holds m → ⊥
+  no-room : fitsIn (length m) (length (usable (viewed memory i))) ≡ false → (j : List ℕ) → Octets j → Alike2 end t us i j → held type2 j ≡ holds m → ⊥
   unfolding place
   no-room f j o k h = tlv.too-long memory memory-laws i us place j (k .same-length) (k .same-start) m (room false f) h
 
@@ -115,7 +115,7 @@ module _ (i m : List ℕ) (a : Asked type2 i m) (t : ℕ) (us : List ℕ) (e : m
         let u = above-length (length i) (place .at) us (tlv.beyond memory memory-laws i us place .1) in
         ⊎-elim (λ c. omega (arith, c .1, b .1, u)) (λ c. omega (arith, c .1, b .1, u)) (fits-is (length m) (length us) (room true f))
 
-    alike : Alike2 t us i new
+    alike : Alike2 end t us i new
     unfolding new ready place
     alike =
         let l = tlv.long-enough memory memory-laws i m us ready in
@@ -125,15 +125,15 @@ module _ (i m : List ℕ) (a : Asked type2 i m) (t : ℕ) (us : List ℕ) (e : m
           same-skipped = λ x lo hi h. l .1 x (has-unset us (content m) x h);
         }
 
-    with-room : ((j : List ℕ) → Octets j → Alike2 t us i j → held type2 j ≡ holds m → ⊥) → ⊥
+    with-room : ((j : List ℕ) → Octets j → Alike2 end t us i j → held type2 j ≡ holds m → ⊥) → ⊥
     unfolding new
     with-room none =
         none new (octets-overlay us (content m) i (content-octets m short (a .message-octets)) (a .image-octets)) alike
         (tlv.reads-new memory memory-laws i m us ready)
 
 pub too-long-2 : TooLong2
-too-long-2 i m a t us e =
-    exactly type2 i m a ((j : List ℕ) → Octets j → Alike2 t us i j → held type2 j ≡ holds m → ⊥) (no-room i m a t us e) (with-room i m a t us e)
+too-long-2 i m a t us e end =
+    exactly type2 i m a ((j : List ℕ) → Octets j → Alike2 end t us i j → held type2 j ≡ holds m → ⊥) (no-room i m a t us e end) (with-room i m a t us e end)
 
 -- ---- Type 3
 

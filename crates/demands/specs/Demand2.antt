@@ -49,16 +49,17 @@ pub record Asked (T : TagType) (i m : List ℕ) : Type 0 where
   pub image-octets : Octets i
   pub message-octets : Octets m
 
--- Type 2: images of equal length, equal up to and with the type byte, at t, and at all skipped addresses: those of the data
--- area after it that are not among the usable ones, us
-pub record Alike2 (t : ℕ) (us i j : List ℕ) : Type 0 where
+-- Type 2: images of equal length, equal up to and with the type byte, at t, and at all skipped addresses: those after it and
+-- below `end` that are not among the usable ones, us
+pub record Alike2 (end t : ℕ) (us i j : List ℕ) : Type 0 where
   pub same-length : length j ≡ length i
   pub same-start : (a : ℕ) → a ≤ t → byte j a ≡ byte i a
-  pub same-skipped : (a : ℕ) → t < a → a < 16 + 8 * byte i 14 → has a us ≡ false → byte j a ≡ byte i a
+  pub same-skipped : (a : ℕ) → t < a → a < end → has a us ≡ false → byte j a ≡ byte i a
 
+-- for every end: whether an address past the data area counts as skipped changes nothing
 abbrev pub TooLong2 : Type 0
-TooLong2 = (i m : List ℕ) → Asked type2 i m → (t : ℕ) (us : List ℕ) → messageTlv layout i ≡ found t us
-    → (writing type2 i m ≡ unwritten too-long) ↔ ((j : List ℕ) → Octets j → Alike2 t us i j → held type2 j ≡ holds m → ⊥)
+TooLong2 = (i m : List ℕ) → Asked type2 i m → (t : ℕ) (us : List ℕ) → messageTlv layout i ≡ found t us → (end : ℕ)
+    → (writing type2 i m ≡ unwritten too-long) ↔ ((j : List ℕ) → Octets j → Alike2 end t us i j → held type2 j ≡ holds m → ⊥)
 
 -- Type 3: images of equal length with the same bytes 0 to 8 and 10
 pub record Alike3 (i j : List ℕ) : Type 0 where
