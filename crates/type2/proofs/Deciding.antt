@@ -23,8 +23,7 @@ use Rattle.type2.specs.declared.container.DataArea.the-variants as answe
 use Rattle.type2.specs.Memory.{memory}
 use Rattle.type2.specs.Codec.{decode, commandOf, encoded}
 use Rattle.type2.specs.Type2.{type2}
-use Rattle.type2.specs.Views.{checkedAs, Known}
-use Rattle.type2.specs.Writing.{Inside}
+use Rattle.type2.specs.Views.{checkedAs, Inside, Known}
 use Rattle.type2.proofs.Memory.{memory-laws}
 
 by-view : (i m : List ℕ) (v : View) → viewed memory i ≡ v
