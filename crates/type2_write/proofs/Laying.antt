@@ -24,12 +24,12 @@ use Rattle.type2_write.specs.Listing.{blockBytes, oneEach}
 -- ---- one block
 
 pub block-bytes : (i : List ℕ) (b a : ℕ) → a ≡ 4 * b → 4 * b + 4 ≤ length i
-    → 0xA2 ∷ b ∷ byte i a ∷ byte i (a + 1) ∷ byte i (a + 2) ∷ byte i (a + 3) ∷ [] ≡ blockBytes i b
+    → commandBytes b (byte i a ∷ byte i (a + 1) ∷ byte i (a + 2) ∷ byte i (a + 3) ∷ []) ≡ blockBytes i b
 block-bytes i b a e h =
     let one : a + 1 ≡ suc (4 * b) = omega arith in
     let two : a + 2 ≡ suc (suc (4 * b)) = omega arith in
     let three : a + 3 ≡ suc (suc (suc (4 * b))) = omega arith in
-    rw (one, two, three, e) (ap (λ bytes. 0xA2 ∷ b ∷ bytes) (map-run 4 (4 * b) i h))
+    rw (one, two, three, e) (ap (commandBytes b) (map-run 4 (4 * b) i h))
 
 pub length-block : (i : List ℕ) (b : ℕ) → 4 * b + 4 ≤ length i → length (blockBytes i b) ≡ 6
 length-block i b h = ap (λ n. suc (suc n)) (length-take-le 4 (drop (4 * b) i) (rw length-drop (omega arith)))
@@ -46,7 +46,7 @@ block-set i r b x k v h e l =
 
 -- ---- a command for each store
 
-pub one-append : (ss rs : List Store) → oneEach (ss ++ rs) ≡ oneEach ss ++ oneEach rs
+one-append : (ss rs : List Store) → oneEach (ss ++ rs) ≡ oneEach ss ++ oneEach rs
 unfolding oneEach
 one-append [] rs = refl
 one-append (s ∷ ss) rs = ap (λ bytes. encoded (s ∷ []) ++ bytes) (one-append ss rs) ∙ sym (append-assoc (encoded (s ∷ [])) (oneEach ss) (oneEach rs))
@@ -80,7 +80,7 @@ module _ (t : ℕ → Bool) (i : List ℕ) where
       ∙ ap (λ n. 6 * n) (length-picks t 4 i 0 k)
 
   -- one block more
-  pub picked-next : (k : ℕ) → oneEach (picks t 4 i 0 (k + 1)) ≡ oneEach (picks t 4 i 0 k) ++ cond (t k) (blockBytes i k) []
+  picked-next : (k : ℕ) → oneEach (picks t 4 i 0 (k + 1)) ≡ oneEach (picks t 4 i 0 k) ++ cond (t k) (blockBytes i k) []
   unfolding oneEach
   picked-next k = ap oneEach (picks-next t 4 i k) ∙ one-append (picks t 4 i 0 k) (picked t 4 i k) ∙ ap (λ bytes. oneEach (picks t 4 i 0 k) ++ bytes) (go (t k))
     where
@@ -88,10 +88,10 @@ module _ (t : ℕ → Bool) (i : List ℕ) where
       go true = append-nil (encoded (blockOf 4 i k ∷ [])) ∙ block-one i k
       go false = refl
 
-  pub picked-yes : (k : ℕ) → t k ≡ true → oneEach (picks t 4 i 0 (k + 1)) ≡ oneEach (picks t 4 i 0 k) ++ blockBytes i k
+  picked-yes : (k : ℕ) → t k ≡ true → oneEach (picks t 4 i 0 (k + 1)) ≡ oneEach (picks t 4 i 0 k) ++ blockBytes i k
   picked-yes k q = picked-next k ∙ rw q
 
-  pub picked-no : (k : ℕ) → t k ≡ false → oneEach (picks t 4 i 0 (k + 1)) ≡ oneEach (picks t 4 i 0 k)
+  picked-no : (k : ℕ) → t k ≡ false → oneEach (picks t 4 i 0 (k + 1)) ≡ oneEach (picks t 4 i 0 k)
   picked-no k q = picked-next k ∙ rw q (append-nil (oneEach (picks t 4 i 0 k)))
 
   -- a turn of the loop over the blocks: what is written so far grows by the block's command, or stays

@@ -4,6 +4,7 @@
 use tag::Address;
 use tag::Block;
 use tag::CountAnswer;
+use type2::commands;
 ghost use mathlib.Core.Path.{_≡_};
 ghost use mathlib.Core.Bool.{cond};
 ghost use mathlib.Core.List.{_++_};
@@ -20,14 +21,8 @@ fn put_block(image: &[u8], block: Block, out: &mut [u8])
 {
     let first = block.address(4);
     let at = first.0;
-    let command = [
-        0xA2,
-        block.0 as u8,
-        image[at],
-        image[at + 1],
-        image[at + 2],
-        image[at + 3],
-    ];
+    let four = [image[at], image[at + 1], image[at + 2], image[at + 3]];
+    let command = commands::command_bytes(block.0 as u8, four);
     bytes::copy(&command, out);
 }
 
