@@ -27,7 +27,7 @@ module _ (i new marks : List ℕ) (first : ℕ) (h : Listed i new marks first) w
   length-open : length (blockBytes new (first / 4)) ≡ 6
   length-open = length-block new (first / 4) (omega (arith, inside, h .as-long))
 
-  pub length-guarded : length (guardedBytes i new marks first) ≡ 6 * (2 + markedCount marks (length i / 4))
+  length-guarded : length (guardedBytes i new marks first) ≡ 6 * (2 + markedCount marks (length i / 4))
   length-guarded =
       omega (
         arith,

@@ -8,7 +8,8 @@ use Rattle.tlv.specs.Views.{ahead}
 use Rattle.tlv_tag.specs.Space.{spaceAs}
 use Rattle.tlv_tag.proofs.Fitting.{space-room}
 use Rattle.type2.specs.Type2.{type2}
-use Rattle.type2.proofs.Deciding.{whole-blocks, no-space-writing, space-writing}
+use Rattle.type2.proofs.Memory.{whole-blocks}
+use Rattle.type2.proofs.Deciding.{no-space-writing, space-writing}
 use Rattle.type2_write.proofs.write.write_inside.Statement.{statement}
 use Rattle.type2_write.proofs.write.write_inside.Tie as tie
 
