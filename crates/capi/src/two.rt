@@ -30,7 +30,7 @@ pub extern "C" fn zan_type2_write(image: &[u8], message: &[u8], list: &mut [u8])
     ensures answer { λ r. ⌜ r ≡ packedCount (countOf (write type2 (length (now (list .entry))) (now (image .entry)) (now (message .entry)))) ⌝ }
     ensures buffer { λ _. ⌜ now (list .exit) ≡ outputInto (now (list .entry)) (write type2 (length (now (list .entry))) (now (image .entry)) (now (message .entry))) ⌝ }
 {
-    let answer = type2::write::write(image, message, list);
+    let answer = type2_write::write::write(image, message, list);
     answers::count(answer)
 }
 

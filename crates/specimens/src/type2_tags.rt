@@ -32,7 +32,7 @@ pub fn write(name: &[u8], front: &[u8], message: &[u8]) {
     lay(front, &mut image);
     print::name(name);
     let mut list = [0u8; 1024];
-    print::count(type2::write::write(&image, message, &mut list));
+    print::count(type2_write::write::write(&image, message, &mut list));
 }
 
 pub fn judge(name: &[u8], front: &[u8], message: &[u8], list: &[u8]) {

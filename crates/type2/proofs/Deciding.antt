@@ -9,7 +9,7 @@ use native.Mathlib.Omega.{arith}
 use lib.ListN.{length}
 use Rattle.tag.specs.declared.Address.{Address}
 use Rattle.tag.specs.Bytes.{byte, run}
-use Rattle.tag.specs.Checks.{fine, fault, firstOf}
+use Rattle.tag.specs.Checks.{fault, firstOf}
 use Rattle.tag.specs.TagType.{unwritten, written, writing}
 use Rattle.tlv.specs.Areas.{anyArea}
 use Rattle.tlv.specs.Walk.{find}
@@ -23,19 +23,13 @@ use Rattle.type2.specs.declared.container.DataArea.the-variants as answe
 use Rattle.type2.specs.Memory.{memory}
 use Rattle.type2.specs.Codec.{decode, commandOf, encoded}
 use Rattle.type2.specs.Type2.{type2}
-use Rattle.type2.specs.Views.{checkedAs, Known}
-use Rattle.type2.specs.Writing.{Inside}
-use Rattle.type2.proofs.Memory.{memory-laws}
+use Rattle.type2.specs.Views.{checkedAs, Inside, Known}
 
 by-view : (i m : List ℕ) (v : View) → viewed memory i ≡ v
     → writing type2 i m ≡ writingIn 4 i m (spaceOf ((memory .writable) i) (length m) v)
 by-view i m v e =
     writing-space memory (λ j bs. commandOf (decode (length j / 4) bs)) (λ bs. 6) encoded i m
     ∙ ap (λ x. writingIn 4 i m (spaceOf ((memory .writable) i) (length m) x)) e
-
--- what the checks say of the image's length
-pub whole-blocks : (i : List ℕ) → firstOf ((memory .checks) i) ≡ fine → length i ≡ 4 * (length i / 4)
-whole-blocks i e = (memory-laws .bound) i e .0
 
 -- the capability container is sound
 pub checks-pass : (i : List ℕ) (d : code.DataArea) (end : Address) (w : Bool) → checkedAs d ≡ firstOf ((memory .checks) i)

@@ -5,9 +5,6 @@ pub mod Codec
 pub mod Laws
 pub mod Encoding
 pub mod Reading
-pub mod Laying
-pub mod Guarding
-pub mod Preparing
 pub mod Deciding
 pub mod Modelling
 pub mod Holding

@@ -46,7 +46,11 @@ pub before-is : memory-laws .before ≡ 15
 unfolding memory-laws
 before-is = refl
 
--- and the image has at most 1,024 bytes
+-- the image is whole blocks
+pub whole-blocks : (i : List ℕ) → firstOf ((memory .checks) i) ≡ fine → length i ≡ 4 * (length i / 4)
+whole-blocks i e = (memory-laws .bound) i e .0
+
+-- and has at most 1,024 bytes
 pub short-image : (i : List ℕ) → firstOf ((memory .checks) i) ≡ fine → length i ≤ 1024
 short-image i e =
     let c : AllPass (containerChecks (length i) (byte i 12) (byte i 13) (byte i 14) (byte i 15)) = fine-all ((memory .checks) i) e in

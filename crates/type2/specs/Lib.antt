@@ -5,5 +5,3 @@ pub mod Type2
 pub mod Views
 pub mod CodecViews
 pub mod Table
-pub mod Listing
-pub mod Writing

@@ -1,4 +1,4 @@
--- The skip table and the block marks that a call starts with.
+-- The skip table that a call starts with.
 -- Assumes nothing.
 use mathlib.Core.Path.{_≡_}
 use mathlib.Core.List.{List}
@@ -9,8 +9,3 @@ use lib.ListN.{length, replicate}
 pub record Clear (table : List ℕ) : Type 0 where
   pub size : length table ≡ 1024
   pub zeros : table ≡ replicate (length table) 0
-
--- a mark for each block of the longest image, and none marked
-pub record Unmarked (marks : List ℕ) : Type 0 where
-  pub size : length marks ≡ 256
-  pub zeros : marks ≡ replicate (length marks) 0

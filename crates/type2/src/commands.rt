@@ -11,7 +11,7 @@ ghost use lib.ListN.{length, drop};
 ghost use Rattle.tag.specs.Bytes.{byte};
 ghost use Rattle.tag.specs.Answers.{countOf, countAs};
 ghost use Rattle.tag.specs.TagType.{outputInto};
-ghost use Rattle.type2.specs.Codec.{nameable, encode, wellFormed, decode, decoded};
+ghost use Rattle.type2.specs.Codec.{nameable, commandBytes, encode, wellFormed, decode, decoded};
 ghost use Rattle.type2.specs.CodecViews.{decodedAs, commandAs};
 
 // The answer of `decode`: a refusal with a command of zeros, or 0 and the command.
@@ -33,6 +33,13 @@ fn nameable(block: usize, blocks: usize) -> bool
     block <= 255
 }
 
+// The six bytes of a command, whether or not its block may be named.
+pub fn command_bytes(block: u8, four: [u8; 4]) -> [u8; 6]
+    ensures { λ r. ⌜ r ≡ commandBytes block four ⌝ }
+{
+    [0xA2, block, four[0], four[1], four[2], four[3]]
+}
+
 // Writes the command's bytes to the front of `bytes`: 20 if its block may not be named, 12 if they do not fit.
 pub fn encode(command: Command, blocks: usize, bytes: &mut [u8]) -> CountAnswer
     ensures answer { λ r. ⌜ countAs r ≡ countOf (encode blocks (command .block .0) (command .bytes) (length (now (bytes .entry)))) ⌝ }
@@ -46,7 +53,7 @@ pub fn encode(command: Command, blocks: usize, bytes: &mut [u8]) -> CountAnswer
     if bytes.len() < 6 {
         return CountAnswer::Refused(12);
     }
-    let whole = [0xA2, block as u8, four[0], four[1], four[2], four[3]];
+    let whole = command_bytes(block as u8, four);
     slices::store(&whole, 0, bytes);
     CountAnswer::Count(6)
 }

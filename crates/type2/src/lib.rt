@@ -1,11 +1,9 @@
-// Type 2 tags.
+// Type 2 tags: the capability container, reading, the commands and the model. Writing and judging are crates of their own.
 
 pub mod commands;
 pub mod container;
-pub mod list;
 pub mod model;
 pub mod read;
-pub mod write;
 
 use tag::Block;
 

@@ -20,7 +20,7 @@ use Rattle.tlv_tag.specs.Reading.{areaView}
 use Rattle.tlv_tag.specs.Update.{contentLength}
 use Rattle.tlv_tag.proofs.Content.{length-content}
 use Rattle.type2.specs.Type2.{type2}
-use Rattle.type2.specs.Writing.{Inside}
+use Rattle.type2.specs.Views.{Inside}
 use Rattle.type2.proofs.Deciding.{space-writing}
 use Rattle.type2_judge.specs.Task.{Writable, Marks}
 

@@ -20,8 +20,8 @@ ghost use Rattle.tag.specs.Judge.{judge, judged, task};
 ghost use Rattle.tlv.specs.Views.{ahead};
 ghost use Rattle.tlv_tag.specs.Space.{Room};
 ghost use Rattle.type2.specs.Type2.{type2};
+ghost use Rattle.type2.specs.Views.{Inside};
 ghost use Rattle.type2.specs.Table.{Clear};
-ghost use Rattle.type2.specs.Writing.{Inside};
 ghost use Rattle.type2_judge.specs.Task.{Writable, Marks, Prepared};
 
 // With a copy of the tag to store the commands in.

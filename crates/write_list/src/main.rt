@@ -22,7 +22,7 @@ fn print_list(list: &[u8], count: usize) {
 }
 
 fn print_answer(image: &[u8], message: &[u8], list: &mut [u8]) {
-    match type2::write::write(image, message, list) {
+    match type2_write::write::write(image, message, list) {
         CountAnswer::Refused(number) => printing::refusal(number),
         CountAnswer::Count(count) => print_list(list, count),
     }

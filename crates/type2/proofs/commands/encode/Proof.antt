@@ -1,17 +1,15 @@
 -- `commands::encode` meets its contract. Assumes nothing.
 use mathlib.Core.Path.{_≡_, _∙_, sym, ap}
-use mathlib.Core.List.{_∷_}
 use native.Mathlib.Omega.{arith}
 use borrow.Author.Needs.{needs}
 use borrow.Author.Tests.{not-true, not-false}
-use lib.ListN.{length, length-map}
+use lib.ListN.{length}
 use lib.Seq.{sets}
-use Rattle.tag.specs.Bytes.{overwrite}
 use Rattle.tag.specs.Answers.{countOf}
 use Rattle.tag.specs.TagType.{outputInto}
 use Rattle.tag.proofs.Storing.{sets-front}
-use Rattle.type2.specs.Codec.{nameable, commandBytes}
-use Rattle.type2.proofs.Encoding.{named, four-bytes, encode-unnamed, encode-short, encode-written}
+use Rattle.type2.specs.Codec.{commandBytes}
+use Rattle.type2.proofs.Encoding.{named, encode-unnamed, encode-short, encode-written}
 use Rattle.type2.proofs.commands.encode.Statement.{statement}
 use Rattle.type2.proofs.commands.encode.Tie as tie
 
@@ -26,27 +24,27 @@ returns-2 : tie.Need-returns-2
 returns-2 c =
     let a = c .before .before .before .before .before .args in
     let n = c .before .before .nameable in
-    let e = encode-short (a .blocks) (a .command .block .0) (a .command .bytes) (length (a .bytes .now)) (sym (n .ensures) ∙ not-false (n .result) (c .before .if1 .left)) (sym (length-map (a .command .bytes) _) ∙ c .before .before .before .before .before .good .0 .1 .1 .1 .0 .1 .0 .1) (omega arith) in
+    let four : length (a .command .bytes) ≡ 4 = search needs in
+    let e = encode-short (a .blocks) (a .command .block .0) (a .command .bytes) (length (a .bytes .now)) (sym (n .ensures) ∙ not-false (n .result) (c .before .if1 .left)) four (omega arith) in
     (sym (ap countOf e), sym (ap (outputInto (a .bytes .now)) e))
 
-cast-t10 : tie.Need-cast-t10
-cast-t10 c =
+cast-command-bytes : tie.Need-cast-command-bytes
+cast-command-bytes c =
     let a = c .before .before .before .before .before .args in
     let n = c .before .before .nameable in
     omega (arith, named (a .blocks) (a .command .block .0) (sym (n .ensures) ∙ not-false (n .result) (c .before .if1 .left)))
 
 returns-3 : tie.Need-returns-3
 returns-3 c =
-    let a = c .before .before .before .before .before .before .before .before .before .before .args in
-    let n = c .before .before .before .before .before .before .before .nameable in
-    let four : length (a .command .bytes) ≡ 4 = sym (length-map (a .command .bytes) _) ∙ c .before .before .before .before .before .before .before .before .before .before .good .0 .1 .1 .1 .0 .1 .0 .1 in
-    let e = encode-written (a .blocks) (a .command .block .0) (a .command .bytes) (length (a .bytes .now)) (sym (n .ensures) ∙ not-false (n .result) (c .before .before .before .before .before .before .if1 .left)) four (omega arith) in
-    let o : sets (a .bytes .now) 0 (commandBytes (a .command .block .0) (a .command .bytes)) ≡ overwrite (commandBytes (a .command .block .0) (a .command .bytes)) (a .bytes .now)
-    = sets-front (commandBytes (a .command .block .0) (a .command .bytes)) (a .bytes .now) (omega arith) in (
+    let a = c .before .before .before .before .before .before .before .before .before .before .before .args in
+    let n = c .before .before .before .before .before .before .before .before .nameable in
+    let four : length (a .command .bytes) ≡ 4 = search needs in
+    let bytes = commandBytes (a .command .block .0) (a .command .bytes) in
+    let e = encode-written (a .blocks) (a .command .block .0) (a .command .bytes) (length (a .bytes .now)) (sym (n .ensures) ∙ not-false (n .result) (c .before .before .before .before .before .before .before .if1 .left)) four (omega arith) in (
       sym (ap countOf e),
       c .before .before .store .ensures
-          ∙ ap (λ r. sets (a .bytes .now) 0 (0xA2 ∷ a .command .block .0 ∷ r)) (sym (four-bytes (a .command .bytes) four))
-          ∙ o
+          ∙ ap (sets (a .bytes .now) 0) (c .before .before .before .before .before .command-bytes .ensures)
+          ∙ sets-front bytes (a .bytes .now) (omega arith)
           ∙ sym (ap (outputInto (a .bytes .now)) e),
     )
 
@@ -57,11 +55,8 @@ encode-spec =
     (λ c κs. search needs)
     returns
     returns-2
-    cast-t10
-    (λ c. search needs)
-    (λ c. search needs)
-    (λ c. search needs)
-    (λ c. search needs)
+    cast-command-bytes
+    (λ c κs. search needs)
     (λ c. search needs)
     (λ c κs. search needs)
     (λ c. search needs)

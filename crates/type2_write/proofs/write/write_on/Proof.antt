@@ -1,0 +1,63 @@
+-- `write::write_on` meets its contract. Assumes nothing.
+use mathlib.Core.Path.{sym, ap, _∙_}
+use Prim.Native.Nat.{_≤_}
+use native.Mathlib.Omega.{arith}
+use borrow.Author.Needs.{needs}
+use lib.ListN.{length}
+use lib.Seq.{length-take-le}
+use Rattle.tag.specs.TagType.{writeBy, outputInto}
+use Rattle.tag.specs.Answers.{countOf}
+use Rattle.type2.specs.Type2.{type2}
+use Rattle.type2.specs.Views.{checkedAs, Inside}
+use Rattle.type2.proofs.Deciding.{checks-pass, refused-writing}
+use Rattle.type2_write.proofs.write.write_on.Statement.{statement}
+use Rattle.type2_write.proofs.write.write_on.Tie as tie
+
+-- the data area that was found
+found : (c : tie.After-write-inside-arg) → Inside (c .before .before .before .before .before .before .before .before .before .before .before .args .image .now) (c .before .before .end .given .0 .0 .0) (c .before .before .end .given .0 .1 .0)
+found c =
+    let d = c .before .before .before .before .data-area in
+    let g = c .before .before .end .given in
+    checks-pass (c .before .before .before .before .before .before .before .before .before .before .before .args .image .now) (d .result) (g .0 .0) (g .0 .1 .0) (d .ensures .0) (d .ensures .1) (g .1)
+
+long-enough : (c : tie.After-write-inside-arg) → length (c .before .before .before .before .before .before .before .before .before .before .before .args .image .now) ≤ length (c .before .before .before .before .before .before .before .before .before .before .before .args .new .now)
+long-enough c = omega (arith, found c .area .short, c .before .before .before .before .before .before .before .before .before .before .before .pre .1)
+
+slice-relend-prefix-write-inside : tie.Need-slice-relend-prefix-write-inside
+slice-relend-prefix-write-inside c = long-enough c
+
+slice-aggregate-write-inside : tie.Need-slice-aggregate-write-inside
+slice-aggregate-write-inside c =
+    let a = c .before .before .before .before .before .before .before .before .before .before .before .before .args in
+    sym (length-take-le (length (a .image .now)) (a .new .now) (long-enough (c .before)))
+
+write-inside-requires : tie.Need-write-inside-requires
+write-inside-requires c κs =
+    let s = c .before .before .before .before .before .before .before .before .before .before .before .before .before .before in
+    let a = s .args in
+    (found (c .before .before .before), s .pre .0, length-take-le (length (a .image .now)) (a .new .now) (long-enough (c .before .before .before)))
+
+returns : tie.Need-returns
+returns c =
+    let a = c .before .before .before .before .before .before .before .before .before .before .args in
+    let d = c .before .before .before .data-area in
+    let g = c .before .r .given in
+    let e = refused-writing (a .image .now) (a .message .now) (g .0 .0) (sym (ap checkedAs (g .1)) ∙ d .ensures .0) in
+    (sym (ap (λ v. countOf (writeBy type2 (length (a .list .now)) (a .image .now) v)) e), sym (ap (λ v. outputInto (a .list .now) (writeBy type2 (length (a .list .now)) (a .image .now) v)) e))
+
+pub write-on-spec : {M : Type 1} → statement M
+write-on-spec =
+    tie.close
+    (tie.spec
+    (λ c κs. search needs)
+    (λ c. search needs)
+    (λ c. search needs)
+    slice-relend-prefix-write-inside
+    slice-aggregate-write-inside
+    write-inside-requires
+    returns
+    (λ c. search needs)
+    (λ c. search needs)
+    (λ c. search needs)
+    (λ c. search needs)
+    (λ c. search needs))
