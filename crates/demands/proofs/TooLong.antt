@@ -13,7 +13,7 @@ use Rattle.tag.specs.Bytes.{byte, has, overlay, isSet}
 use Rattle.tag.specs.Refusals.{too-long}
 use Rattle.tag.specs.Reading.{holds}
 use Rattle.tag.specs.Plan.{newImage}
-use Rattle.tag.specs.TagType.{TagType, held, writing, unwritten, written, planned, checksOf, writable}
+use Rattle.tag.specs.TagType.{TagType, held, writing, unwritten, written, planned, checksOf}
 use Rattle.tag.specs.Checks.{fault, firstOf}
 use Rattle.tag.specs.Cuts.{Ready}
 use Rattle.tag.proofs.Logic.{nope, or-l, or-cases}

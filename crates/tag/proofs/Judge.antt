@@ -15,14 +15,14 @@ use lib.ListN.{length, getD}
 use Rattle.tag.specs.Bytes.{byte, run, same}
 use Rattle.tag.specs.Reading.{Held, broken, nothing, holds}
 use Rattle.tag.specs.Stores.{Store, Command, ill, stores, puts, done, states, cut}
-use Rattle.tag.specs.Judge.{accepted, refused, Task, holdsAs, reads, equalAt, keeps, every, fault, judge}
+use Rattle.tag.specs.Judge.{accepted, refused, Task, holdsAs, isSafe, equalAt, keeps, every, fault, judge}
 use Rattle.tag.specs.Cuts.{Safe, as-none, as-new, as-old, Kept, Three, Left, KeptBy, SafeBy, Fault, none, form, change, reading, Faultless, First, of-command, of-list}
 use Rattle.tag.proofs.Logic.{and-l, and-r, and-both, or-cases, or-l, or-r, same-eq, same-refl, true-false, nope}
 use Rattle.tag.proofs.Judging.{judge-next, judge-good}
 
 -- ---- the tests say what the statements say
 
-reads-safe : (t : Task) (j : List ℕ) → reads t ((t .held) j) ≡ true → Safe t j
+reads-safe : (t : Task) (j : List ℕ) → isSafe t ((t .held) j) ≡ true → Safe t j
 reads-safe t j e = go ((t .held) j) refl
   where
     old : (h : Held) (x : List ℕ) → (t .held) (t .start) ≡ h → (t .held) j ≡ holds x → holdsAs h x ≡ true → Safe t j
@@ -37,7 +37,7 @@ reads-safe t j e = go ((t .held) j) refl
         let e′ : same x (t .wanted) || holdsAs ((t .held) (t .start)) x ≡ true = rw q at e in
         ⊎-elim (λ w. as-new (q ∙ ap holds (same-eq x (t .wanted) w))) (λ w. old ((t .held) (t .start)) x refl q w) (or-cases _ _ e′)
 
-safe-reads : (t : Task) (j : List ℕ) → Safe t j → reads t ((t .held) j) ≡ true
+safe-reads : (t : Task) (j : List ℕ) → Safe t j → isSafe t ((t .held) j) ≡ true
 safe-reads t j (as-none q) = rw q
 safe-reads t j (as-new q) = rw q (or-l _ _ (same-refl (t .wanted)))
 safe-reads t j (as-old x p q) = rw (q, p) (or-r (same x (t .wanted)) (same x x) (same-refl x))
@@ -84,15 +84,15 @@ stores-ill e = nope (cc)
 pub fault-is : (t : Task) (j : List ℕ) (c : Command) → Fault t j c (fault t j c)
 unfolding fault
 fault-is t j ill = form refl
-fault-is t j (stores ss) = go (every (keeps t) (states j ss)) refl (every (λ x. reads t ((t .held) x)) (states j ss)) refl
+fault-is t j (stores ss) = go (every (keeps t) (states j ss)) refl (every (λ x. isSafe t ((t .held) x)) (states j ss)) refl
   where
-    go : (k : Bool) → every (keeps t) (states j ss) ≡ k → (g : Bool) → every (λ x. reads t ((t .held) x)) (states j ss) ≡ g
+    go : (k : Bool) → every (keeps t) (states j ss) ≡ k → (g : Bool) → every (λ x. isSafe t ((t .held) x)) (states j ss) ≡ g
         → Fault t j (stores ss) (fault t j (stores ss))
     go false q g r = rw (q, fault) (change stores-ill (λ h. true-false (left-every (keeps t) ss j (λ x w. kept-keeps t x (h x w))) q))
     go true q false r = rw (q, r, fault) (reading stores-ill (λ x w. keeps-kept t x (every-left (keeps t) ss j q x w))
-        (λ h. true-false (left-every (λ x. reads t ((t .held) x)) ss j (λ x w. safe-reads t x (h x w))) r))
+        (λ h. true-false (left-every (λ x. isSafe t ((t .held) x)) ss j (λ x w. safe-reads t x (h x w))) r))
     go true q true r = rw (q, r, fault) (none stores-ill (λ x w. keeps-kept t x (every-left (keeps t) ss j q x w))
-        (λ x w. reads-safe t x (every-left (λ x. reads t ((t .held) x)) ss j r x w)))
+        (λ x w. reads-safe t x (every-left (λ x. isSafe t ((t .held) x)) ss j r x w)))
 
 -- what a command that is not at fault keeps
 pub record Fine (t : Task) (j : List ℕ) (c : Command) : Type 0 where

@@ -10,7 +10,7 @@ use lib.Dec.{eqb}
 use Rattle.tag.specs.Bytes.{byte, run}
 use Rattle.tag.specs.Refusals.{not-well-formed, changes-protected, misreads, ends-otherwise}
 use Rattle.tag.specs.Stores.{Store, Command, ill, stores, puts, done}
-use Rattle.tag.specs.Judge.{accepted, refused, Task, holdsAs, reads, equalAt, keeps, fault, judge}
+use Rattle.tag.specs.Judge.{accepted, refused, Task, holdsAs, isSafe, equalAt, keeps, fault, judge}
 
 module _ (t : Task) where
   pub fault-ill : (j : List ℕ) → fault t j ill ≡ not-well-formed
@@ -21,11 +21,11 @@ module _ (t : Task) where
   unfolding fault
   fault-change j ss k = rw (k, fault)
 
-  pub fault-misread : (j : List ℕ) (ss : List Store) → keeps t (puts j ss) ≡ true → reads t ((t .held) (puts j ss)) ≡ false → fault t j (stores ss) ≡ misreads
+  pub fault-misread : (j : List ℕ) (ss : List Store) → keeps t (puts j ss) ≡ true → isSafe t ((t .held) (puts j ss)) ≡ false → fault t j (stores ss) ≡ misreads
   unfolding fault
   fault-misread j ss k r = rw (k, r, fault)
 
-  pub fault-none : (j : List ℕ) (ss : List Store) → keeps t (puts j ss) ≡ true → reads t ((t .held) (puts j ss)) ≡ true → fault t j (stores ss) ≡ 0
+  pub fault-none : (j : List ℕ) (ss : List Store) → keeps t (puts j ss) ≡ true → isSafe t ((t .held) (puts j ss)) ≡ true → fault t j (stores ss) ≡ 0
   unfolding fault
   fault-none j ss k r = rw (k, r, fault)
 

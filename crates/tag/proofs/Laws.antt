@@ -7,11 +7,11 @@ use Prim.Native.Nat.{ℕ, _<_}
 use borrow.Author.Tests.{ne-eqb, eqb-false, not-true}
 use lib.Dec.{eqb}
 use lib.ListN.{length}
-use Rattle.tag.specs.Checks.{Checked, fine, fault}
+use Rattle.tag.specs.Checks.{Checked, fine, fault, firstOf}
 use Rattle.tag.specs.Reading.{What, message, empty, being-written, Report, Reading, unreadable, reads, broken, nothing, holds, part}
 use Rattle.tag.specs.Stores.{Store, stores}
 use Rattle.tag.specs.Plan.{Plan, list}
-use Rattle.tag.specs.TagType.{TagType, held, unwritten, written, checksOf, writable, planned, writing}
+use Rattle.tag.specs.TagType.{TagType, held, unwritten, written, checksOf, planned, writing}
 use Rattle.tag.specs.Judge.{taskOf}
 use Rattle.tag.specs.Cuts.{Ready, Kept}
 use Rattle.tag.proofs.Logic.{nope}
@@ -53,7 +53,7 @@ pub record Laws (T : TagType) : Type 0 where
 pub ready-written : (T : TagType) (i m : List ℕ) → Ready T i m → writing T i m ≡ written ((T .plan) i m)
 unfolding writing
 ready-written T i m r =
-    let e : writable T i m (r .report) ≡ fine = all-fine (checksOf T i m (r .report)) (rw (ne-eqb (length m) 0 (r .some-bytes)), (r .writable, (r .room, tt))) in
+    let e : firstOf (checksOf T i m (r .report)) ≡ fine = all-fine (checksOf T i m (r .report)) (rw (ne-eqb (length m) 0 (r .some-bytes)), (r .writable, (r .room, tt))) in
     rw (r .reads-as) (ap (planned ((T .plan) i m)) e)
 
 pub written-ready : (T : TagType) (i m : List ℕ) (p : Plan) → writing T i m ≡ written p → Ready T i m × ((T .plan) i m ≡ p)
@@ -62,15 +62,15 @@ written-ready T i m p e = go ((T .reading) i) refl
   where
     go : (v : Reading) → (T .reading) i ≡ v → Ready T i m × ((T .plan) i m ≡ p)
     go (unreadable r) q = let e′ : unwritten r ≡ written p = rw q at e in absurd (nope (cc))
-    go (reads v) q = on (writable T i m v) refl
+    go (reads v) q = on (firstOf (checksOf T i m v)) refl
       where
-        on : (c : Checked) → writable T i m v ≡ c → Ready T i m × ((T .plan) i m ≡ p)
+        on : (c : Checked) → firstOf (checksOf T i m v) ≡ c → Ready T i m × ((T .plan) i m ≡ p)
         on (fault r) f =
-            let e′ : planned ((T .plan) i m) (writable T i m v) ≡ written p = rw q at e in
+            let e′ : planned ((T .plan) i m) (firstOf (checksOf T i m v)) ≡ written p = rw q at e in
             let e″ : unwritten r ≡ written p = sym (ap (planned ((T .plan) i m)) f) ∙ e′ in
             absurd (nope (cc))
         on fine f =
-            let e′ : planned ((T .plan) i m) (writable T i m v) ≡ written p = rw q at e in
+            let e′ : planned ((T .plan) i m) (firstOf (checksOf T i m v)) ≡ written p = rw q at e in
             let e″ : written ((T .plan) i m) ≡ written p = sym (ap (planned ((T .plan) i m)) f) ∙ e′ in
             let a : AllPass (checksOf T i m v) = fine-all (checksOf T i m v) f in (
               record {

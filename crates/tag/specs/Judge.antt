@@ -37,8 +37,8 @@ readsAs new old broken = false
 readsAs new old nothing = true
 readsAs new old (holds x) = same x new || holdsAs old x
 
-abbrev pub reads : Task → Held → Bool
-reads t h = readsAs (t .wanted) ((t .held) (t .start)) h
+abbrev pub isSafe : Task → Held → Bool
+isSafe t h = readsAs (t .wanted) ((t .held) (t .start)) h
 
 -- does the tag j have the bytes of i at each of the addresses that the test picks
 abbrev pub equalAt : (ℕ → Bool) → List ℕ → List ℕ → List ℕ → Bool
@@ -59,7 +59,7 @@ fault t j ill = not-well-formed
 fault t j (stores ss) =
     elim (every (keeps t) (states j ss)) [
       | false ↦ changes-protected
-      | true ↦ elim (every (λ x. reads t ((t .held) x)) (states j ss)) [ false ↦ misreads | true ↦ 0 ]
+      | true ↦ elim (every (λ x. isSafe t ((t .held) x)) (states j ss)) [ false ↦ misreads | true ↦ 0 ]
     ]
 
 -- the commands from place n on, with the tag j that those before have left

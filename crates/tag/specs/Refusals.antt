@@ -7,15 +7,15 @@ abbrev pub image-length : ℕ
 image-length = 1
 
 -- Type 2: no NDEF mark E1h. Type 3: the checksum is wrong
-abbrev pub no-mark : ℕ
-no-mark = 2
+abbrev pub mark-or-checksum : ℕ
+mark-or-checksum = 2
 
 abbrev pub unknown-version : ℕ
 unknown-version = 3
 
 -- an access byte or an attribute has a value that is not defined
-abbrev pub bad-access : ℕ
-bad-access = 4
+abbrev pub access-or-flags : ℕ
+access-or-flags = 4
 
 -- the data area reaches past the image
 abbrev pub past-image : ℕ

@@ -44,16 +44,13 @@ checksOf T i m p =
     ∷ check ((T .fits) i (length m)) too-long
     ∷ []
 
-abbrev pub writable : TagType → List ℕ → List ℕ → Report → Checked
-writable T i m p = firstOf (checksOf T i m p)
-
 abbrev pub planned : Plan → Checked → Writing
 planned p fine = written p
 planned p (fault r) = unwritten r
 
 abbrev pub writingBy : TagType → List ℕ → List ℕ → Reading → Writing
 writingBy T i m (unreadable r) = unwritten r
-writingBy T i m (reads p) = planned ((T .plan) i m) (writable T i m p)
+writingBy T i m (reads p) = planned ((T .plan) i m) (firstOf (checksOf T i m p))
 
 unfoldable pub writing : TagType → List ℕ → List ℕ → Writing
 writing T i m = writingBy T i m ((T .reading) i)

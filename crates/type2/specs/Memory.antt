@@ -7,7 +7,7 @@ use Prim.Native.Nat.{ℕ, _+_, _*_, _%_}
 use lib.Dec.{leb, eqb}
 use lib.ListN.{length}
 use Rattle.tag.specs.Bytes.{byte}
-use Rattle.tag.specs.Refusals.{image-length, no-mark, unknown-version, bad-access, past-image}
+use Rattle.tag.specs.Refusals.{image-length, mark-or-checksum, unknown-version, access-or-flags, past-image}
 use Rattle.tag.specs.Checks.{Check, check}
 use Rattle.tag.specs.Version.{knownVersion}
 use Rattle.tlv.specs.Areas.{anyArea}
@@ -22,9 +22,9 @@ imageLength n = eqb (n % 4) 0 && leb 64 n && leb n 1024
 abbrev pub containerChecks : ℕ → ℕ → ℕ → ℕ → ℕ → List Check
 containerChecks n mark version size access =
     check (imageLength n) image-length
-    ∷ check (eqb mark 0xE1) no-mark
+    ∷ check (eqb mark 0xE1) mark-or-checksum
     ∷ check (knownVersion version) unknown-version
-    ∷ check (eqb access 0x00 || eqb access 0x0F) bad-access
+    ∷ check (eqb access 0x00 || eqb access 0x0F) access-or-flags
     ∷ check (leb (16 + 8 * size) n) past-image
     ∷ []
 

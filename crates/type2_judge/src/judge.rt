@@ -1,5 +1,5 @@
-// Judging: refusals 1 to 11 as writing gives them, then the list. An array is made in one function's frame and lent to the
-// next, which works on slices alone.
+// Judging: refusals 1 to 11 as writing gives them, then the list. Each array is made by a function that does little else and lends
+// it to the next: a proof about the function that makes an array has all its elements before it, one about a slice has not.
 
 use crate::steps;
 use tag::Address;

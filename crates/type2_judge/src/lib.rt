@@ -1,5 +1,5 @@
 // The judge of command lists for Type 2 tags, whoever made them.
 
 pub mod judge;
-pub mod reading;
-pub mod steps;
+mod reading;
+mod steps;

@@ -6,7 +6,7 @@ use mathlib.Core.List.{List, [], _∷_}
 use Prim.Native.Nat.{ℕ, _+_, _*_, _%_}
 use lib.Dec.{leb, eqb}
 use Rattle.tag.specs.Bytes.{byte}
-use Rattle.tag.specs.Refusals.{image-length, no-mark, unknown-version, bad-access, past-image, bad-length}
+use Rattle.tag.specs.Refusals.{image-length, mark-or-checksum, unknown-version, access-or-flags, past-image, bad-length}
 use Rattle.tag.specs.Checks.{Check, check}
 use Rattle.tag.specs.Version.{knownVersion}
 
@@ -58,9 +58,9 @@ flagsDefined a =
 abbrev pub attributeChecks : ℕ → Attributes → List Check
 attributeChecks n a =
     check (imageLength n) image-length
-    ∷ check (eqb (a .sum) (a .checksum)) no-mark
+    ∷ check (eqb (a .sum) (a .checksum)) mark-or-checksum
     ∷ check (knownVersion (a .version)) unknown-version
-    ∷ check (flagsDefined a) bad-access
+    ∷ check (flagsDefined a) access-or-flags
     ∷ check (leb (16 * (1 + a .nmaxb)) n) past-image
     ∷ check (leb (a .ln) (16 * a .nmaxb)) bad-length
     ∷ []
