@@ -17,9 +17,10 @@ use Rattle.tag.specs.TagType.{TagType, Output, withheld, output, outputInto, fi
 use Rattle.tag.specs.Judge.{accepted, judged}
 use Rattle.tag.specs.Model.{Modelled, unstored, stored, model, imageAfter}
 use Rattle.tag.specs.Answers.{uncounted, counts, countOf, countAs, verdictAs, unstoring, storing, storingOf, modelAs}
+use Rattle.tag.specs.Contracts.{Wrote, Judged, Took}
 use Rattle.tag.proofs.Logic.{nope}
 use Rattle.demands.specs.Demand3.{cutOf, ourBytes, ourImage, Demand3}
-use Rattle.demands.specs.ByContract.{Wrote, Judged, Took, Code3}
+use Rattle.demands.specs.ByContract.{Code3}
 use Rattle.demands.proofs.Demand2.{fitted-is}
 
 -- an answer is the one that its verdict says

@@ -1,6 +1,5 @@
--- Demand 3 about what the public functions answer. A contract says what comes back for what is handed in; the relations below
--- are those contracts of `write`, `judge` and `model`, word by word, for any type of tag. `Code3` is demand 3 of any answers
--- that meet them. This file states; `proofs/ByContract.antt` proves.
+-- Demand 3 about what the public functions answer: of any answers that meet the contracts of `write`, `judge` and `model`, which
+-- are the relations `Wrote`, `Judged` and `Took`. This file states; `proofs/ByContract.antt` proves.
 -- Assumes nothing.
 use mathlib.Core.Path.{_≡_}
 use mathlib.Core.List.{List, []}
@@ -13,24 +12,11 @@ use Rattle.tag.specs.declared.JudgeAnswer.the-variants as verdict
 use Rattle.tag.specs.declared.ModelAnswer as model-answer
 use Rattle.tag.specs.declared.ModelAnswer.the-variants as storing
 use Rattle.tag.specs.Plan.{list}
-use Rattle.tag.specs.TagType.{TagType, outputInto, write, pieces, commands}
-use Rattle.tag.specs.Judge.{task, judged}
-use Rattle.tag.specs.Model.{model, imageAfter}
-use Rattle.tag.specs.Answers.{countOf, countAs, verdictAs, storingOf, modelAs}
+use Rattle.tag.specs.TagType.{TagType, pieces, commands}
+use Rattle.tag.specs.Judge.{task}
 use Rattle.tag.specs.Cuts.{Three, First}
+use Rattle.tag.specs.Contracts.{Wrote, Judged, Took}
 use Rattle.demands.specs.Demand3.{cutOf, ourBytes, ourImage}
-
--- `write`, given a tag, a message and a list buffer, answers r and leaves the buffer as out
-abbrev pub Wrote : TagType → List ℕ → List ℕ → List ℕ → count.CountAnswer → List ℕ → Type 0
-Wrote T i m buffer r out = (countAs r ≡ countOf (write T (length buffer) i m)) × (out ≡ outputInto buffer (write T (length buffer) i m))
-
--- `judge`, given a tag, a message and a list, answers r
-abbrev pub Judged : TagType → List ℕ → List ℕ → List ℕ → judge.JudgeAnswer → Type 0
-Judged T i m bytes r = verdictAs r ≡ judged T i m bytes
-
--- `model`, given a tag and a command, answers r and leaves the tag as j
-abbrev pub Took : TagType → List ℕ → List ℕ → model-answer.ModelAnswer → List ℕ → Type 0
-Took T i command r j = (modelAs r ≡ storingOf (model T i command)) × (j ≡ imageAfter i (model T i command))
 
 pub record Code3 (T : TagType) (i m : List ℕ) : Type 0 where
   -- the judge accepts just the lists for which the three things hold, with the number of their commands

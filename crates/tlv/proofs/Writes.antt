@@ -21,7 +21,7 @@ use Rattle.tag.proofs.Blocks.{block-of}
 use Rattle.tag.proofs.Writes.{Sound}
 use Rattle.tag.proofs.Laws.{Near}
 use Rattle.tlv.specs.Message.{TlvTag, View, refuse, view, viewed, reportOf, reading}
-use Rattle.tlv.specs.Update.{usable, fitsIn, content, lengthAt, fits, plan}
+use Rattle.tlv.specs.Update.{usable, fitsIn, content, lengthAt, plan}
 use Rattle.tlv.specs.Tag.{tagOf}
 use Rattle.tlv.proofs.Field.{first-set}
 use Rattle.tlv.proofs.Tag as tlv

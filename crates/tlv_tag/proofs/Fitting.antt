@@ -18,7 +18,6 @@ use Rattle.tlv.specs.declared.find.Found.the-variants as found
 use Rattle.tlv.specs.Areas.{anyArea}
 use Rattle.tlv.specs.Walk.{Length, bad, len, find}
 use Rattle.tlv.specs.Message.{View, refuse, view, viewBy}
-use Rattle.tlv.specs.Update.{fitsIn}
 use Rattle.tlv.specs.Space.{Space, no-space, spaceOf}
 use Rattle.tlv.specs.Views.{ahead, Onward}
 use Rattle.tlv.specs.Finding.{FoundPlaced}

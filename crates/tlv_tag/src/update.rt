@@ -4,7 +4,7 @@
 use tlv::value;
 use tlv::walk::Walk;
 ghost use mathlib.Core.Path.{_≡_};
-ghost use Prim.Native.Nat.{_+_, _*_, _<_, _≤_};
+ghost use Prim.Native.Nat.{_*_, _<_, _≤_};
 ghost use lib.ListN.{length, drop};
 ghost use Rattle.tag.specs.Bytes.{overlay};
 ghost use Rattle.tlv.specs.Update.{lengthField, content};

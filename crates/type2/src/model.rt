@@ -12,8 +12,7 @@ ghost use lib.ListN.{length, drop};
 ghost use lib.Seq.{sets};
 ghost use Rattle.tag.specs.Bytes.{byte};
 ghost use Rattle.tag.specs.Stores.{done};
-ghost use Rattle.tag.specs.Model.{model, imageAfter};
-ghost use Rattle.tag.specs.Answers.{modelAs, storingOf};
+ghost use Rattle.tag.specs.Contracts.{Took};
 ghost use Rattle.type2.specs.Codec.{wellFormed};
 ghost use Rattle.type2.specs.Type2.{type2};
 
@@ -42,8 +41,7 @@ pub fn take_command(image: &mut [u8], command: &[u8]) -> bool
 
 // Reading's refusals but 13, then 20; else the block that the command names is stored, protected or not.
 pub fn model(image: &mut [u8], command: &[u8]) -> ModelAnswer
-    ensures answer { λ r. ⌜ modelAs r ≡ storingOf (model type2 (now (image .entry)) (now (command .entry))) ⌝ }
-    ensures stored { λ _. ⌜ now (image .exit) ≡ imageAfter (now (image .entry)) (model type2 (now (image .entry)) (now (command .entry))) ⌝ }
+    ensures { λ r. ⌜ Took type2 (now (image .entry)) (now (command .entry)) r (now (image .exit)) ⌝ }
 {
     let refusal = read::refusal(image);
     if refusal != 0 {

@@ -16,7 +16,8 @@ ghost use mathlib.Core.Path.{_≡_};
 ghost use lib.ListN.{length, replicate};
 ghost use Rattle.tag.specs.TagType.{commands};
 ghost use Rattle.tag.specs.Answers.{verdictAs};
-ghost use Rattle.tag.specs.Judge.{judge, judged, task};
+ghost use Rattle.tag.specs.Judge.{judge, task};
+ghost use Rattle.tag.specs.Contracts.{Judged};
 ghost use Rattle.tlv.specs.Views.{ahead};
 ghost use Rattle.tlv_tag.specs.Space.{Room};
 ghost use Rattle.type2.specs.Type2.{type2};
@@ -128,7 +129,7 @@ fn judge_area(
     table: &mut [u16],
 ) -> JudgeAnswer
     requires { ⌜ Clear (now table) × Inside (now image) (end .0) writable ⌝ }
-    ensures { λ r. ⌜ verdictAs r ≡ judged type2 (now (image .entry)) (now (message .entry)) (now (list .entry)) ⌝ }
+    ensures { λ r. ⌜ Judged type2 (now (image .entry)) (now (message .entry)) (now (list .entry)) r ⌝ }
 {
     match space::find_space(image, message.len(), table, Address(16), end, writable) {
         Space::Refused(r) => JudgeAnswer::Refused(r, 0),
@@ -139,7 +140,7 @@ fn judge_area(
 // With the skip table.
 fn judge_with(image: &[u8], message: &[u8], list: &[u8], table: &mut [u16]) -> JudgeAnswer
     requires { ⌜ Clear (now table) ⌝ }
-    ensures { λ r. ⌜ verdictAs r ≡ judged type2 (now (image .entry)) (now (message .entry)) (now (list .entry)) ⌝ }
+    ensures { λ r. ⌜ Judged type2 (now (image .entry)) (now (message .entry)) (now (list .entry)) r ⌝ }
 {
     match container::data_area(image) {
         DataArea::Refused(r) => JudgeAnswer::Refused(r, 0),
@@ -149,7 +150,7 @@ fn judge_with(image: &[u8], message: &[u8], list: &[u8], table: &mut [u16]) -> J
 
 // Judges the list of commands, laid end to end, that is to write the message to the tag.
 pub fn judge(image: &[u8], message: &[u8], list: &[u8]) -> JudgeAnswer
-    ensures { λ r. ⌜ verdictAs r ≡ judged type2 (now (image .entry)) (now (message .entry)) (now (list .entry)) ⌝ }
+    ensures { λ r. ⌜ Judged type2 (now (image .entry)) (now (message .entry)) (now (list .entry)) r ⌝ }
 {
     let mut table = [0u16; 1024];
     judge_with(image, message, list, &mut table)

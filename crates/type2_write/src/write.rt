@@ -12,8 +12,9 @@ use type2::container;
 use type2::container::DataArea;
 ghost use mathlib.Core.Path.{_≡_};
 ghost use lib.ListN.{length};
-ghost use Rattle.tag.specs.TagType.{written, writeBy, write, outputInto};
+ghost use Rattle.tag.specs.TagType.{written, writeBy, outputInto};
 ghost use Rattle.tag.specs.Answers.{countAs, countOf};
+ghost use Rattle.tag.specs.Contracts.{Wrote};
 ghost use Rattle.tlv.specs.Update.{planBy};
 ghost use Rattle.tlv.specs.Views.{ahead};
 ghost use Rattle.type2.specs.Type2.{type2};
@@ -81,8 +82,7 @@ fn write_inside(
     list: &mut [u8],
 ) -> CountAnswer
     requires { ⌜ Inside (now image) (end .0) writable × Work (now table) (now marks) × (length (now new) ≡ length (now image)) ⌝ }
-    ensures answer { λ r. ⌜ countAs r ≡ countOf (write type2 (length (now (list .entry))) (now (image .entry)) (now (message .entry))) ⌝ }
-    ensures buffer { λ _. ⌜ now (list .exit) ≡ outputInto (now (list .entry)) (write type2 (length (now (list .entry))) (now (image .entry)) (now (message .entry))) ⌝ }
+    ensures { λ r. ⌜ Wrote type2 (now (image .entry)) (now (message .entry)) (now (list .entry)) r (now (list .exit)) ⌝ }
 {
     match space::find_space(image, message.len(), table, Address(16), end, writable) {
         Space::Refused(r) => CountAnswer::Refused(r),
@@ -101,8 +101,7 @@ fn write_on(
     list: &mut [u8],
 ) -> CountAnswer
     requires { ⌜ Work (now table) (now marks) × (length (now new) ≡ 1024) ⌝ }
-    ensures answer { λ r. ⌜ countAs r ≡ countOf (write type2 (length (now (list .entry))) (now (image .entry)) (now (message .entry))) ⌝ }
-    ensures buffer { λ _. ⌜ now (list .exit) ≡ outputInto (now (list .entry)) (write type2 (length (now (list .entry))) (now (image .entry)) (now (message .entry))) ⌝ }
+    ensures { λ r. ⌜ Wrote type2 (now (image .entry)) (now (message .entry)) (now (list .entry)) r (now (list .exit)) ⌝ }
 {
     let n = image.len();
     match container::data_area(image) {
@@ -123,8 +122,7 @@ fn write_on(
 // Writes the list of commands that puts the message on the tag to the front of `list`, and answers the number of commands; or a
 // refusal, which changes no byte of `list`.
 pub fn write(image: &[u8], message: &[u8], list: &mut [u8]) -> CountAnswer
-    ensures answer { λ r. ⌜ countAs r ≡ countOf (write type2 (length (now (list .entry))) (now (image .entry)) (now (message .entry))) ⌝ }
-    ensures buffer { λ _. ⌜ now (list .exit) ≡ outputInto (now (list .entry)) (write type2 (length (now (list .entry))) (now (image .entry)) (now (message .entry))) ⌝ }
+    ensures { λ r. ⌜ Wrote type2 (now (image .entry)) (now (message .entry)) (now (list .entry)) r (now (list .exit)) ⌝ }
 {
     let mut table = [0u16; 1024];
     let mut new = [0u8; 1024];
