@@ -15,4 +15,5 @@ pub mod Laying
 pub mod Dealing
 pub mod Sixteen
 pub mod ListBytes
+pub mod Refusing
 pub mod Writing

@@ -8,12 +8,11 @@ use lib.ListN.{length, take, drop, length-append, length-map}
 use lib.Seq.{take-add, drop-drop}
 use Rattle.tag.specs.Bytes.{byte, run}
 use Rattle.tag.specs.Stores.{Store}
-use Rattle.tag.specs.Plan.{newImage, blockOf, between, picks, chunk, chunks, middle, list}
+use Rattle.tag.specs.Plan.{newImage, blockOf, between, picks, chunk, chunks, middle}
 use Rattle.tag.specs.TagType.{joined, listBytes}
 use Rattle.tag.proofs.Addresses.{length-run}
 use Rattle.tag.proofs.Runs.{run-part}
 use Rattle.tag.proofs.Picks.{picks-run}
-use Rattle.tag.proofs.Counts.{length-list}
 use Rattle.tag.proofs.Chunks.{chunk-more, joined-append}
 use Rattle.type3.specs.Attributes.{attributes}
 use Rattle.type3.specs.Update.{blocksFor, blocksPerCommand, closed, plan}
@@ -21,7 +20,7 @@ use Rattle.type3.specs.Codec.{commandBytes, storedBytes, encoded}
 use Rattle.type3.specs.Type3.{type3}
 use Rattle.type3.specs.Listing.{attributeBlock, attributeCommand, messageCommand, messageCommands, listAs, Dealt}
 use Rattle.type3.proofs.Update.{HasRoom, inside}
-use Rattle.type3.proofs.Counts.{between-guard, between-on, between-past, between-count}
+use Rattle.type3.proofs.Counts.{between-guard, between-on, between-past}
 use Rattle.type3.proofs.Attributes.{length-attribute-command}
 use Rattle.type3.proofs.Dealing.{left-over, length-commands}
 use Rattle.type3.proofs.Sixteen.{closed-block, new-block, new-blocks}
@@ -98,12 +97,6 @@ module _ (number i m : List ℕ) (r : HasRoom i m) where
       ap (λ x. encoded number (blockOf 16 (closed i) 0 ∷ []) ++ x) rest
       ∙ cc (shut, middle-bytes w t e f d, opened)
       ∙ sym (append-assoc (attributeCommand number i 0x0F (attributes i .ln)) (messageCommands number m w t) (attributeCommand number i 0x00 (length m)))
-
-  -- the number of its commands
-  pub list-length : (w t : ℕ) → w ≡ blocksPerCommand (byte i 2) → t ≡ (blocksFor (length m) + (w - 1)) / w → length (list (plan i m) i) ≡ 2 + t
-  list-length w t e f =
-      let k = blocksFor (length m) in
-      length-list (plan i m) i ∙ ap (λ c. 2 + (c + (blocksPerCommand (byte i 2) - 1)) / blocksPerCommand (byte i 2)) (between-count i m r) ∙ ap (λ v. 2 + (k + (v - 1)) / v) (sym e) ∙ ap (λ c. 2 + c) (sym f)
 
 -- the number of its bytes
 pub length-list-as : (number i m : List ℕ) (ln w t : ℕ) → length number ≡ 8 → Dealt (blocksFor (length m)) w t

@@ -4,6 +4,7 @@ use crate::commands;
 use crate::read;
 use crate::read::Attributes;
 use crate::read::Checked;
+use crate::space;
 use tag::Block;
 use tag::CountAnswer;
 ghost use mathlib.Core.Path.{_≡_};
@@ -118,7 +119,7 @@ fn put_message(message: &[u8], number: &[u8], w: usize, turns: usize, out: &mut 
     requires { ⌜ Dealt (blocksFor (length (now message))) w turns × (length (now number) ≡ 8) × (13 * turns + 18 * blocksFor (length (now message)) ≤ length (now out)) ⌝ }
     ensures { λ _. ⌜ now (out .exit) ≡ messageCommands (now (number .entry)) (now (message .entry)) w turns ++ drop (13 * turns + 18 * blocksFor (length (now (message .entry)))) (now (out .entry)) ⌝ }
 {
-    let k = (message.len() + 15) / 16;
+    let k = space::blocks_for(message.len());
     let mut at = 0usize;
     let mut skip = 0usize;
     let mut t = 0usize;
@@ -147,7 +148,7 @@ fn put_list(
     ensures { λ _. ⌜ now (list .exit) ≡ listAs (now (number .entry)) (now (image .entry)) (now (message .entry)) ln w turns ++ drop (62 + 13 * turns + 18 * blocksFor (length (now (message .entry)))) (now (list .entry)) ⌝ }
 {
     let n = message.len();
-    let k = (n + 15) / 16;
+    let k = space::blocks_for(n);
     let last = 31 + 13 * turns + 18 * k;
     put_attributes(image, number, 0x0F, ln, list);
     put_message(message, number, w, turns, &mut list[31..]);
@@ -176,17 +177,11 @@ fn write_to(
     ensures buffer { λ _. ⌜ now (list .exit) ≡ outputInto (now (list .entry)) (write (type3 (now (number .entry))) (length (now (list .entry))) (now (image .entry)) (now (message .entry))) ⌝ }
 {
     let n = message.len();
-    if n == 0 {
-        return CountAnswer::Refused(9);
+    let refusal = space::refusal(a, n);
+    if refusal != 0 {
+        return CountAnswer::Refused(refusal);
     }
-    if !a.writable {
-        return CountAnswer::Refused(10);
-    }
-    let nmaxb = a.nmaxb;
-    if 16 * nmaxb < n {
-        return CountAnswer::Refused(11);
-    }
-    let k = (n + 15) / 16;
+    let k = space::blocks_for(n);
     let w = smaller(a.nbw, 8);
     let turns = turns_for(k, w);
     if list.len() < 62 + 13 * turns + 18 * k {

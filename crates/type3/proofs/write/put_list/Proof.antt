@@ -15,24 +15,26 @@ use Rattle.type3.proofs.write.put_list.Tie as tie
 
 returns : tie.Need-returns
 returns c =
-    let s = c .before .before .before .before .before .before .before .before .before .before .before .before .before .before .before .before in
+    let s = c .before .before .before .before .before .before .before .before .before .before .before .before .before .before .before .before .before in
     let a = s .args in
     let i = a .image .now in
     let m = a .message .now in
     let n = a .number .now in
     let k = blocksFor (length m) in
+    let blocks = c .before .before .before .before .before .before .before .before .before .before .before .before .blocks-for in
+    let last = 31 + 13 * a .turns + 18 * blocks .result in
     let shut = c .before .before .before .before .before .before .before .before .before .before .put-attributes in
     let put = c .before .before .before .before .before .before .put-message in
     let closed = attributeCommand n i 0x0F (a .ln) in
     let body = messageCommands n m (a .w) (a .turns) in
-    let last : 31 + (13 * a .turns + 18 * k) ≡ 31 + 13 * a .turns + 18 * k = omega arith in
-    let all : 31 + 13 * a .turns + 18 * k + 31 ≡ 62 + 13 * a .turns + 18 * k = omega arith in
+    let place : 31 + (13 * a .turns + 18 * k) ≡ last = omega (arith, blocks .ensures) in
+    let all : last + 31 ≡ 62 + 13 * a .turns + 18 * k = omega (arith, blocks .ensures) in
     let most : min (a .w * a .turns) k ≡ k = omega (arith, s .pre .dealt .enough) in
-    let long : length (closed ++ body) ≡ 31 + 13 * a .turns + 18 * k
-    = omega (arith, length-append closed body, length-attribute-command n i 0x0F (a .ln) (s .pre .eight), length-commands n m (a .w) (a .turns) (a .turns) (s .pre .eight) (s .pre .dealt) (search needs), most) in
+    let long : length (closed ++ body) ≡ last
+    = omega (arith, blocks .ensures, length-append closed body, length-attribute-command n i 0x0F (a .ln) (s .pre .eight), length-commands n m (a .w) (a .turns) (a .turns) (s .pre .eight) (s .pre .dealt) (search needs), most) in
     let two = lay-part (shut .last .1 .1 .1 .1 .0) closed (a .list .now) 31 (shut .ensures) (length-attribute-command n i 0x0F (a .ln) (s .pre .eight))
     body _ (length (shut .last .1 .1 .1 .1 .0)) (13 * a .turns + 18 * k) (omega arith) (omega arith) (put .ensures) in
-    lay-part _ (closed ++ body) (a .list .now) (31 + 13 * a .turns + 18 * k) (rw last at two) long (attributeCommand n i 0x00 (length m)) _ _ 31 (omega arith) (omega arith)
+    lay-part _ (closed ++ body) (a .list .now) last (rw place at two) long (attributeCommand n i 0x00 (length m)) _ _ 31 (omega arith) (omega arith)
     (c .before .before .put-attributes2 .ensures)
     ∙ rw all
 
@@ -40,7 +42,7 @@ pub put-list-spec : {M : Type 1} → statement M
 put-list-spec =
     tie.close
     (tie.spec
-    (λ c. search needs)
+    (λ c κs. search needs)
     (λ c. search needs)
     (λ c. search needs)
     (λ c. search needs)

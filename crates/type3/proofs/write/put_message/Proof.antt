@@ -12,19 +12,18 @@ use Rattle.type3.proofs.Dealing.{times-more, place-more, left-over, com
 use Rattle.type3.proofs.write.put_message.Statement.{statement}
 use Rattle.type3.proofs.write.put_message.Tie as tie
 
-record Laid (m number : List ℕ) (w turns : ℕ) (out₀ : List ℕ) (k : ℕ) (out : List ℕ) (at skip t : ℕ) : Type 0 where
-  dealt : Dealt k w turns
+record Laid (m number : List ℕ) (w turns : ℕ) (out₀ out : List ℕ) (at skip t : ℕ) : Type 0 where
+  dealt : Dealt (blocksFor (length m)) w turns
   eight : length number ≡ 8
-  room : 13 * turns + 18 * k ≤ length out₀
-  blocks : k ≡ blocksFor (length m)
+  room : 13 * turns + 18 * blocksFor (length m) ≤ length out₀
   turn : t ≤ turns
   skipped : skip ≡ w * t
-  place : at ≡ 13 * t + 18 * min (w * t) k
+  place : at ≡ 13 * t + 18 * min (w * t) (blocksFor (length m))
   same : length out ≡ length out₀
   laid : out ≡ messageCommands number m w t ++ drop at out₀
 
 abbrev Inv-loop : tie.InvT-loop
-Inv-loop message number w turns out₀ k at₀ skip₀ t₀ out at skip t = Laid message number w turns out₀ k out at skip t
+Inv-loop message number w turns out₀ k at₀ skip₀ t₀ out at skip t = Laid message number w turns out₀ out at skip t
 
 abbrev μ-loop : tie.MeasureT-loop
 μ-loop message number w turns out₀ k at₀ skip₀ t₀ out at skip t = turns - t
@@ -32,12 +31,11 @@ abbrev μ-loop : tie.MeasureT-loop
 loop-holds : tie.Need-loop-holds Inv-loop μ-loop
 unfolding messageCommands
 loop-holds c =
-    let p = c .before .before .before .pre in
+    let p = c .before .before .before .before .pre in
     record {
       dealt = p .0;
       eight = p .1;
       room = p .2;
-      blocks = refl;
       turn = search needs;
       skipped = omega arith;
       place = omega arith;
@@ -46,7 +44,7 @@ loop-holds c =
     }
 
 -- in a turn there are blocks left
-left : (c : tie.In-loop Inv-loop μ-loop) → c .before .loop .skip < blocksFor (length (c .before .before .before .before .before .args .message .now))
+left : (c : tie.In-loop Inv-loop μ-loop) → c .before .loop .skip < blocksFor (length (c .before .before .before .before .before .before .args .message .now))
 left c = omega (arith, left-over (c .before .loop .t) (c .before .loop .inv .dealt) (c .loop-test .taken))
 
 put-command-requires : tie.Need-put-command-requires Inv-loop μ-loop
@@ -59,14 +57,14 @@ put-command-requires c κs =
 
 loop-again : tie.Need-loop-again Inv-loop μ-loop
 loop-again c =
-    let a = c .before .before .before .before .before .before .before .before .before .before .args in
+    let a = c .before .before .before .before .before .before .before .before .before .before .before .args in
     let l = c .before .before .before .before .before .before .loop in
     let m = a .message .now in
     let n = a .number .now in
     let count = c .before .before .before .before .smaller .result in
     let some = left (c .before .before .before .before .before) in
     let more = times-more (a .w) (l .t) in
-    let taken : count ≡ min (a .w) (blocksFor (length m) - a .w * l .t) = c .before .before .before .before .smaller .ensures ∙ ap (λ x. min (a .w) (blocksFor (length m) - x)) (l .inv .skipped) in
+    let taken : count ≡ min (a .w) (blocksFor (length m) - a .w * l .t) = c .before .before .before .before .smaller .ensures ∙ ap (λ x. min (a .w) (x - l .skip)) (c .before .before .before .before .before .before .before .blocks-for .ensures) ∙ ap (λ x. min (a .w) (blocksFor (length m) - x)) (l .inv .skipped) in
     let long : length (messageCommands n m (a .w) (l .t)) ≡ l .at = length-commands n m (a .w) (a .turns) (l .t) (l .inv .eight) (l .inv .dealt) (l .inv .turn) ∙ omega arith in
     let put = lay-part (l .out) (messageCommands n m (a .w) (l .t)) (a .out .now) (l .at) (l .inv .laid) long
     (messageCommand n m (l .skip) count) _ (length (l .out)) (13 + 18 * count) (omega arith) (omega arith) (c .before .before .put-command .ensures) in
@@ -74,7 +72,6 @@ loop-again c =
       dealt = l .inv .dealt;
       eight = l .inv .eight;
       room = l .inv .room;
-      blocks = refl;
       turn = omega arith;
       skipped = omega arith;
       place = place-more (blocksFor (length m)) (a .w) (l .t) (l .at) count (omega arith) (l .inv .place) taken;
@@ -84,7 +81,7 @@ loop-again c =
 
 returns : tie.Need-returns Inv-loop μ-loop
 returns c =
-    let a = c .before .before .before .before .before .args in
+    let a = c .before .before .before .before .before .before .args in
     let l = c .before .loop in
     let all : l .t ≡ a .turns = omega arith in
     let end : l .at ≡ 13 * a .turns + 18 * blocksFor (length (a .message .now)) = rw all at (l .inv .place) ∙ omega arith in
@@ -96,7 +93,7 @@ put-message-spec =
     (tie.spec
     Inv-loop
     μ-loop
-    (λ c. search needs)
+    (λ c κs. search needs)
     loop-holds
     (λ c. omega (arith, left c))
     (λ c κs. search needs)

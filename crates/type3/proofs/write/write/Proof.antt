@@ -5,7 +5,8 @@ use lib.ListN.{length}
 use Rattle.tag.specs.TagType.{outputInto}
 use Rattle.tag.specs.Answers.{countOf}
 use Rattle.type3.specs.Views.{checkedAs, Known}
-use Rattle.type3.proofs.Writing.{write-unread}
+use Rattle.type3.proofs.Refusing.{writing-unread}
+use Rattle.type3.proofs.Writing.{write-refused}
 use Rattle.type3.proofs.write.write.Statement.{statement}
 use Rattle.type3.proofs.write.write.Tie as tie
 
@@ -20,8 +21,8 @@ returns : tie.Need-returns
 returns c =
     let a = c .before .before .before .before .before .before .before .args in
     let checked = c .before .checked .given in
-    let e = write-unread (a .number .now) (a .image .now) (a .message .now) (length (a .list .now)) (checked .0 .0)
-    (sym (c .before .before .before .attributes-of .ensures .0) ∙ ap checkedAs (checked .1)) in
+    let e = write-refused (a .number .now) (a .image .now) (a .message .now) (length (a .list .now)) (checked .0 .0)
+    (writing-unread (a .number .now) (a .image .now) (a .message .now) (checked .0 .0) (sym (c .before .before .before .attributes-of .ensures .0) ∙ ap checkedAs (checked .1))) in
     (sym (ap countOf e), sym (ap (outputInto (a .list .now)) e))
 
 pub write-spec : {M : Type 1} → statement M
