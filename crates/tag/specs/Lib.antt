@@ -11,3 +11,4 @@ pub mod Judge
 pub mod Model
 pub mod Cuts
 pub mod Answers
+pub mod Numbers

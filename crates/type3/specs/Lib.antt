@@ -8,4 +8,3 @@ pub mod InPlace
 pub mod CodecViews
 pub mod Views
 pub mod Space
-pub mod Listing

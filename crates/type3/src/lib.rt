@@ -4,7 +4,6 @@ pub mod commands;
 mod names;
 pub mod read;
 pub mod space;
-pub mod write;
 
 // A write command: the numbers of its blocks, of which the first `count` are used, and sixteen bytes for each of them.
 pub struct Command {

@@ -2,6 +2,7 @@
 
 use tag::holding;
 use tag::kept;
+use tag::numbers;
 use type3::commands;
 use type3::read;
 use type3_model::stores;
@@ -25,7 +26,7 @@ pub(crate) fn piece_size(list: &[u8], at: usize) -> usize
     if rest < 13 {
         return rest;
     }
-    let size = 13 + 18 * read::wide(list[at + 12]);
+    let size = 13 + 18 * numbers::wide(list[at + 12]);
     if rest < size {
         return rest;
     }
