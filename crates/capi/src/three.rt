@@ -60,7 +60,7 @@ pub extern "C" fn zan_type3_model(image: &mut [u8], number: &[u8; 8], command: &
     ensures answer { λ r. ⌜ r ≡ packedStoring (storingOf (model (type3 (now (number .entry))) (now (image .entry)) (now (command .entry)))) ⌝ }
     ensures stored { λ _. ⌜ now (image .exit) ≡ imageAfter (now (image .entry)) (model (type3 (now (number .entry))) (now (image .entry)) (now (command .entry))) ⌝ }
 {
-    let answer = type3_model::model::model(image, number, command);
+    let answer = type3::model::model(image, number, command);
     answers::storing(answer)
 }
 

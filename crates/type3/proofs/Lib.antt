@@ -10,3 +10,5 @@ pub mod Encoding
 pub mod Decoding
 pub mod Answers
 pub mod Refusing
+pub mod Storing
+pub mod Giving

@@ -8,3 +8,4 @@ pub mod InPlace
 pub mod CodecViews
 pub mod Views
 pub mod Space
+pub mod Model

@@ -181,7 +181,7 @@ fn blocks_fit(bytes: &[u8], nmaxb: usize) -> bool
 }
 
 // Whether the bytes are a well-formed command.
-pub fn is_command(bytes: &[u8], number: &[u8; 8], nbw: usize, nmaxb: usize) -> bool
+pub(crate) fn is_command(bytes: &[u8], number: &[u8; 8], nbw: usize, nmaxb: usize) -> bool
     ensures { λ r. ⌜ r ≡ isCommand (decode (now (number .entry)) nbw nmaxb (now (bytes .entry))) ⌝ }
 {
     if is_framed(bytes, number, nbw) {

@@ -8,10 +8,10 @@ use lib.ListN.{length, take, drop}
 use lib.Seq.{length-sets}
 use Rattle.tag.specs.Bytes.{byte}
 use Rattle.tag.specs.Stores.{puts}
-use Rattle.type3_model.specs.Views.{storesFrom}
-use Rattle.type3_model.proofs.Storing.{puts-next, puts-end}
-use Rattle.type3_model.proofs.stores.store_blocks.Statement.{statement}
-use Rattle.type3_model.proofs.stores.store_blocks.Tie as tie
+use Rattle.type3.specs.Model.{storesFrom}
+use Rattle.type3.proofs.Storing.{puts-next, puts-end}
+use Rattle.type3.proofs.stores.store_blocks.Statement.{statement}
+use Rattle.type3.proofs.stores.store_blocks.Tie as tie
 
 abbrev Inv-loop : tie.InvT-loop
 Inv-loop command image₀ count k₀ image k =
@@ -46,11 +46,9 @@ returns : tie.Need-returns Inv-loop μ-loop
 returns c =
     let l = c .before .loop in
     let a = c .before .before .before .before .before .before .args in
-    let w = c .before .before .wide in (
-      sym (l .inv .2 ∙ puts-end (l .image) (a .command .now) (w .result) (l .k) (omega arith))
-          ∙ ap (λ b. puts (a .image .now) (storesFrom (a .command .now) b 0)) (w .ensures .0),
-      l .inv .1,
-    )
+    let w = c .before .before .wide in
+    sym (l .inv .2 ∙ puts-end (l .image) (a .command .now) (w .result) (l .k) (omega arith))
+    ∙ ap (λ b. puts (a .image .now) (storesFrom (a .command .now) b 0)) (w .ensures .0)
 
 pub store-blocks-spec : {M : Type 1} → statement M
 store-blocks-spec =

@@ -1,14 +1,15 @@
--- What a command's bytes store, taken in place, and a command given to a tag that reads.
+-- The tag as a model: what a command's bytes store, taken in place, and when an image takes them.
 -- Assumes nothing.
+use mathlib.Core.Bool.{cond}
 use mathlib.Core.List.{List}
-use Prim.Native.Nat.{ℕ, _+_, _-_, _*_, _<_, _≤_}
+use Prim.Native.Nat.{ℕ, _+_, _-_, _*_, _/_, _<_, _≤_}
+use lib.Dec.{ltb}
 use lib.ListN.{length, drop}
 use Rattle.tag.specs.Bytes.{byte}
 use Rattle.tag.specs.Refusals.{not-well-formed}
-use Rattle.tag.specs.Stores.{Store, Command, ill, stores, puts}
-use Rattle.tag.specs.Model.{Modelled, unstored, stored}
-use Rattle.type3.specs.Codec.{storesOf}
+use Rattle.tag.specs.Stores.{Store}
+use Rattle.type3.specs.Codec.{Decoded, undecoded, decode, storesOf}
 use Rattle.type3.specs.InPlace.{numbers}
 
 -- what the blocks from place k on store, of a command that names b blocks
 abbrev pub storesFrom : List ℕ → ℕ → ℕ → List Store
@@ -20,7 +21,6 @@ pub record Storable (bytes : List ℕ) (n : ℕ) : Type 0 where
   pub whole : 13 + 18 * byte bytes 12 ≤ length bytes
   pub inside : (k : ℕ) → k < byte bytes 12 → 16 * byte bytes (14 + 2 * k) + 16 ≤ n
 
--- a command given to a tag that reads
-abbrev pub given : List ℕ → Command → Modelled
-given i ill = unstored not-well-formed
-given i (stores ss) = stored (puts i ss)
+-- a command for an image of n bytes: blocks 0 to Nmaxb lie in it
+abbrev pub decodeFor : ℕ → List ℕ → ℕ → ℕ → List ℕ → Decoded
+decodeFor n number nbw nmaxb bytes = cond (ltb nmaxb (n / 16)) (decode number nbw nmaxb bytes) (undecoded not-well-formed)

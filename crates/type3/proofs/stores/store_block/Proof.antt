@@ -6,8 +6,8 @@ use lib.ListN.{take, drop}
 use lib.Seq.{sets}
 use Rattle.tag.specs.Bytes.{byte}
 use borrow.Author.Needs.{needs}
-use Rattle.type3_model.proofs.stores.store_block.Statement.{statement}
-use Rattle.type3_model.proofs.stores.store_block.Tie as tie
+use Rattle.type3.proofs.stores.store_block.Statement.{statement}
+use Rattle.type3.proofs.stores.store_block.Tie as tie
 
 returns : tie.Need-returns
 returns c =

@@ -9,7 +9,7 @@ ghost use lib.ListN.{length, take, drop};
 ghost use lib.Seq.{sets};
 ghost use Rattle.tag.specs.Bytes.{byte};
 ghost use Rattle.tag.specs.Stores.{puts};
-ghost use Rattle.type3_model.specs.Views.{Storable, storesFrom};
+ghost use Rattle.type3.specs.Model.{Storable, storesFrom};
 
 // Stores block `k` of the `count` blocks that the command names.
 fn store_block(command: &[u8], count: usize, k: usize, image: &mut [u8])
@@ -24,10 +24,9 @@ fn store_block(command: &[u8], count: usize, k: usize, image: &mut [u8])
 }
 
 // Stores every block that the command names, protected or not.
-pub fn store_blocks(command: &[u8], image: &mut [u8])
+pub(crate) fn store_blocks(command: &[u8], image: &mut [u8])
     requires { ⌜ Storable (now command) (length (now image)) ⌝ }
-    ensures is { λ _. ⌜ now (image .exit) ≡ puts (now (image .entry)) (storesFrom (now (command .entry)) (byte (now (command .entry)) 12) 0) ⌝ }
-    ensures size { λ _. ⌜ length (now (image .exit)) ≡ length (now (image .entry)) ⌝ }
+    ensures { λ _. ⌜ now (image .exit) ≡ puts (now (image .entry)) (storesFrom (now (command .entry)) (byte (now (command .entry)) 12) 0) ⌝ }
 {
     let count = numbers::wide(command[12]);
     let mut k = 0usize;
