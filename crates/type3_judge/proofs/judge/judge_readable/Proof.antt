@@ -1,7 +1,10 @@
 -- `judge::judge_readable` meets its contract. Assumes nothing.
-use mathlib.Core.Path.{sym, ap, _∙_}
+use mathlib.Core.Path.{_≡_, sym, ap, _∙_}
 use borrow.Author.Needs.{needs}
+use Rattle.tag.specs.TagType.{written, writing}
 use Rattle.tag.specs.Judge.{judgeBy}
+use Rattle.tag.proofs.Laws.{written-ready, ready-reads}
+use Rattle.type3.specs.Update.{plan}
 use Rattle.type3.specs.Type3.{type3}
 use Rattle.type3.proofs.Refusing.{writing-refused, writing-planned}
 use Rattle.type3_judge.proofs.judge.judge_readable.Statement.{statement}
@@ -15,14 +18,34 @@ returns c =
     sym (ap (judgeBy (type3 (a .number .now)) (a .image .now) (a .message .now) (a .list .now))
     (writing-refused (a .number .now) (a .image .now) (a .message .now) (a .a) (s .pre) (refusal .result) (refusal .ensures) (c .if1 .taken)))
 
+-- the tag may be written
+planned : (c : tie.Else1) → writing (type3 (c .before .before .before .before .before .args .number .now)) (c .before .before .before .before .before .args .image .now) (c .before .before .before .before .before .args .message .now) ≡ written (plan (c .before .before .before .before .before .args .image .now) (c .before .before .before .before .before .args .message .now))
+planned c =
+    let s = c .before .before .before .before .before in
+    let a = s .args in
+    let refusal = c .before .refusal in
+    writing-planned (a .number .now) (a .image .now) (a .message .now) (a .a) (s .pre) (refusal .result) (refusal .ensures) (c .if1 .left)
+
+judge-marked-requires : tie.Need-judge-marked-requires
+judge-marked-requires c κs =
+    let s = c .before .before .before .before .before .before in
+    let a = s .args in
+    let k = s .pre .known in
+    let ready = written-ready (type3 (a .number .now)) (a .image .now) (a .message .now) (plan (a .image .now) (a .message .now)) (planned (c .before)) .0 in (
+      record {
+        reads = ready-reads (type3 (a .number .now)) (a .image .now) (a .message .now) ready;
+        nbw-is = k .nbw-is;
+        nmaxb-is = k .nmaxb-is;
+        reach = k .reach;
+        most = k .whole .most;
+      },
+      search needs,
+    )
+
 returns-2 : tie.Need-returns-2
 returns-2 c =
-    let s = c .before .before .before .before .before .before .before .before in
-    let a = s .args in
-    let refusal = c .before .before .before .before .refusal in
-    c .before .judge-marked .ensures
-    ∙ sym (ap (judgeBy (type3 (a .number .now)) (a .image .now) (a .message .now) (a .list .now))
-    (writing-planned (a .number .now) (a .image .now) (a .message .now) (a .a) (s .pre) (refusal .result) (refusal .ensures) (c .before .before .before .if1 .left)))
+    let a = c .before .before .before .before .before .before .before .before .args in
+    c .before .judge-marked .ensures ∙ sym (ap (judgeBy (type3 (a .number .now)) (a .image .now) (a .message .now) (a .list .now)) (planned (c .before .before .before)))
 
 pub judge-readable-spec : {M : Type 1} → statement M
 judge-readable-spec = tie.close
@@ -30,5 +53,5 @@ judge-readable-spec = tie.close
     (λ c κs. search needs)
     returns
     (λ c. search needs)
-    (λ c κs. search needs)
+    judge-marked-requires
     returns-2)
