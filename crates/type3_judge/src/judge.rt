@@ -11,7 +11,6 @@ use type3::read::Checked;
 use type3::space;
 ghost use mathlib.Core.Path.{_≡_};
 ghost use mathlib.Core.List.{map};
-ghost use Prim.Native.Nat.{_*_};
 ghost use lib.ListN.{length};
 ghost use Rattle.tag.specs.Judge.{judge, judged, task};
 ghost use Rattle.tag.specs.TagType.{cutUp};

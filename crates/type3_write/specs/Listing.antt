@@ -1,6 +1,5 @@
 -- The list as the code lays it: its blocks, its commands, and what laying them asks.
 -- Assumes nothing.
-use mathlib.Core.Path.{_≡_}
 use mathlib.Core.List.{List, [], _∷_, _++_}
 use Prim.Native.Nat.{ℕ, zero, suc, _+_, _-_, _*_, _/_, _%_, _<_, _≤_, min}
 use lib.ListN.{length, take, drop, replicate}
