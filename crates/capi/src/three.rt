@@ -38,7 +38,7 @@ pub extern "C" fn zan_type3_write(
     ensures answer { λ r. ⌜ r ≡ packedCount (countOf (write (type3 (now (number .entry))) (length (now (list .entry))) (now (image .entry)) (now (message .entry)))) ⌝ }
     ensures buffer { λ _. ⌜ now (list .exit) ≡ outputInto (now (list .entry)) (write (type3 (now (number .entry))) (length (now (list .entry))) (now (image .entry)) (now (message .entry))) ⌝ }
 {
-    let answer = type3::write::write(image, message, number, list);
+    let answer = type3_write::write::write(image, message, number, list);
     answers::count(answer)
 }
 
@@ -60,7 +60,7 @@ pub extern "C" fn zan_type3_model(image: &mut [u8], number: &[u8; 8], command: &
     ensures answer { λ r. ⌜ r ≡ packedStoring (storingOf (model (type3 (now (number .entry))) (now (image .entry)) (now (command .entry)))) ⌝ }
     ensures stored { λ _. ⌜ now (image .exit) ≡ imageAfter (now (image .entry)) (model (type3 (now (number .entry))) (now (image .entry)) (now (command .entry))) ⌝ }
 {
-    let answer = type3_model::model::model(image, number, command);
+    let answer = type3::model::model(image, number, command);
     answers::storing(answer)
 }
 

@@ -17,7 +17,7 @@ pub fn write(name: &[u8], attributes: &[u8], message: &[u8]) {
     lay(attributes, &mut image);
     print::name(name);
     let mut list = [0u8; 1024];
-    print::count(type3::write::write(&image, message, &NUMBER, &mut list));
+    print::count(type3_write::write::write(&image, message, &NUMBER, &mut list));
 }
 
 pub fn judge(name: &[u8], attributes: &[u8], message: &[u8], list: &[u8]) {

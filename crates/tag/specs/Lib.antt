@@ -12,3 +12,4 @@ pub mod Model
 pub mod Cuts
 pub mod Answers
 pub mod Contracts
+pub mod Numbers

@@ -12,10 +12,14 @@ pub data Modelled : Type 0 where
   unstored : ℕ → Modelled
   stored : List ℕ → Modelled
 
+-- a command given to a tag that reads
+abbrev pub given : List ℕ → Command → Modelled
+given i ill = unstored not-well-formed
+given i (stores ss) = stored (puts i ss)
+
 abbrev pub modelBy : List ℕ → Reading → Command → Modelled
 modelBy i (unreadable r) c = unstored r
-modelBy i (reads p) ill = unstored not-well-formed
-modelBy i (reads p) (stores ss) = stored (puts i ss)
+modelBy i (reads p) c = given i c
 
 -- one call, on the bytes of one command
 abbrev pub model : TagType → List ℕ → List ℕ → Modelled

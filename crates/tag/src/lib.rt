@@ -2,6 +2,7 @@
 
 pub mod holding;
 pub mod kept;
+pub mod numbers;
 pub mod slices;
 
 ghost use mathlib.Core.Path.{_≡_};

@@ -17,9 +17,8 @@ use Rattle.tag.proofs.Logic.{and-both, or-l, or-r}
 use Rattle.tag.proofs.Counts.{counted-run, length-list}
 use Rattle.type3.specs.Update.{blocksFor, blocksPerCommand, addresses, body, values, plan}
 use Rattle.type3.specs.Type3.{type3}
-use Rattle.type3.proofs.Update.{HasRoom, inside}
+use Rattle.type3.proofs.Update.{length-body, HasRoom, inside}
 use Rattle.type3.proofs.Laws.{ready-room, touched-most}
-use Rattle.type3.proofs.Body.{length-body}
 
 -- a run of addresses touches every block that it has the first address of
 run-touches : (z n s b : ℕ) (vs : List ℕ) → 0 < z → n ≤ length vs → s ≤ z * b → z * b < s + n → touches z (run s n) vs b ≡ true
@@ -50,7 +49,7 @@ module _ (i m : List ℕ) where
       go false q = rw (ne-eqb b 0 (λ e. omega arith), q)
 
 -- the blocks written between block 0's two commands are k
-pub between-count : (i m : List ℕ) → HasRoom i m → counted (between (plan i m)) 0 (length i / 16) ≡ blocksFor (length m)
+between-count : (i m : List ℕ) → HasRoom i m → counted (between (plan i m)) 0 (length i / 16) ≡ blocksFor (length m)
 between-count i m r =
     counted-run (between (plan i m)) 1 (blocksFor (length m)) (length i / 16) (omega (arith, inside i m r))
     (between-guard i m) (between-on i m) (λ b l u. between-past i m b l)

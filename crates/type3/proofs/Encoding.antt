@@ -69,17 +69,14 @@ well-named-by nbw nmaxb n bs h = go (leb n (length bs)) refl
 -- ---- a command written: the opening with the count, the names, the blocks' bytes
 
 pub command-stored : (l number bs bytes : List ℕ) → length number ≡ 8 → length bytes ≡ 16 * length bs → 13 + 18 * length bs ≤ length l
-    → sets (sets ((opening number ++ (length bs ∷ [])) ++ drop 13 l) 13 (namesBytes bs)) (13 + 2 * length bs) bytes
+    → sets (sets (sets l 0 (opening number ++ (length bs ∷ []))) 13 (namesBytes bs)) (13 + 2 * length bs) bytes
     ≡ overwrite (commandBytes number bs bytes) l
 command-stored l number bs bytes n s h =
     let o = opening number ++ length bs ∷ [] in
-    let thirteen : length o ≡ 13 = omega (arith, length-append (opening number) (length bs ∷ []), length-opening number) in
-    let names-from : 0 + length o ≡ 13 = omega arith in
-    let stored : o ++ drop 13 l ≡ sets l 0 o = ap (λ n. o ++ drop n l) (sym thirteen) ∙ sym (sets-front o l (omega arith)) in
+    let names-from : 0 + length o ≡ 13 = omega (arith, length-append (opening number) (length bs ∷ []), length-opening number) in
     let front : o ++ namesBytes bs ≡ opening number ++ length bs ∷ namesBytes bs = append-assoc (opening number) (length bs ∷ []) (namesBytes bs) in
     let bytes-from : 0 + length (o ++ namesBytes bs) ≡ 13 + 2 * length bs = omega (arith, length-append o (namesBytes bs), length-names bs) in
-    ap (λ t. sets (sets t 13 (namesBytes bs)) (13 + 2 * length bs) bytes) stored
-    ∙ ap (λ at. sets (sets (sets l 0 o) at (namesBytes bs)) (13 + 2 * length bs) bytes) (sym names-from)
+    ap (λ at. sets (sets (sets l 0 o) at (namesBytes bs)) (13 + 2 * length bs) bytes) (sym names-from)
     ∙ ap (λ t. sets t (13 + 2 * length bs) bytes) (sym (sets-append o (namesBytes bs) l 0))
     ∙ ap (λ at. sets (sets l 0 (o ++ namesBytes bs)) at bytes) (sym bytes-from)
     ∙ sym (sets-append (o ++ namesBytes bs) bytes l 0)

@@ -42,7 +42,7 @@ module _ (number i m : List ℕ) (r : Ready (type3 number) i m) where
   ready-writable : mayWrite i ≡ true
   ready-writable = sym (reads-writable i (r .report) (r .reads-as)) ∙ r .writable
 
-  some-width : 0 < blocksPerCommand (byte i 2)
+  pub some-width : 0 < blocksPerCommand (byte i 2)
   some-width = omega (arith, leb-true 1 (byte i 2) (and-r (eqb (byte i 10) 0x01) (leb 1 (byte i 2)) ready-writable))
 
   plan-sound : Sound (type3 number) i m (plan i m)

@@ -10,7 +10,7 @@ use Prim.Native.Nat.{ℕ, _+_, _-_, _*_, _/_, _%_, _<_, _≤_}
 use native.Mathlib.Omega.{arith}
 use borrow.Author.Tests.{eqb-true, ne-eqb, leb-true, ltb-true, le-leb, lt-ltb}
 use lib.Dec.{leb, eqb}
-use lib.ListN.{length, take, replicate}
+use lib.ListN.{length, take, replicate, length-append, length-replicate}
 use Rattle.tag.specs.Bytes.{byte, run, isSet}
 use Rattle.tag.specs.Reading.{nothing, holds, heldOf}
 use Rattle.tag.specs.Plan.{newImage, protected, inBlock}
@@ -99,6 +99,11 @@ quiet i j n c b = held-closed j (checks-of i j (b .0) agrees c flag sum ln) e9
 pub above-addresses : (m : List ℕ) (hi : ℕ) → 16 * (1 + blocksFor (length m)) ≤ hi → Above hi 8 (addresses m)
 above-addresses m hi l =
     (omega arith, (omega arith, (omega arith, (omega arith, (omega arith, (omega arith, above-run (16 * blocksFor (length m)) 15 hi (omega arith)))))))
+
+pub length-body : (m : List ℕ) → length (body m) ≡ 16 * blocksFor (length m)
+length-body m =
+    let rest = 16 * blocksFor (length m) - length m in
+    omega (arith, length-append m (replicate rest 0x00), length-replicate {A = ℕ} rest 0x00)
 
 -- of six tests and a rest that all fail, the three that closing sets
 closing : (b9 b11 b12 b13 b14 b15 b : Bool) → not (b9 || (b11 || (b12 || (b13 || (b14 || (b15 || b)))))) ≡ true → not (b9 || (b14 || (b15 || false))) ≡ true

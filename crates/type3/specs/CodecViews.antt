@@ -37,9 +37,8 @@ pub record Framed (bytes : List ℕ) : Type 0 where
   pub few : byte bytes 12 ≤ 8
   pub whole : length bytes ≡ 13 + 18 * byte bytes 12
 
--- what writing a command's bytes asks: sixteen bytes for each block, a number of eight, block numbers that are bytes, and room
-pub record PutAsked (number blocks carried bytes : List ℕ) : Type 0 where
-  pub eight : length number ≡ 8
+-- what writing a command's bytes asks: sixteen bytes for each block, block numbers that are bytes, and room
+pub record PutAsked (blocks carried bytes : List ℕ) : Type 0 where
   pub few : length blocks ≤ 8
   pub each-byte : (i : ℕ) → i < length blocks → getD blocks i 0 ≤ 255
   pub sixteens : length carried ≡ 16 * length blocks

@@ -7,4 +7,5 @@ pub mod Type3
 pub mod InPlace
 pub mod CodecViews
 pub mod Views
-pub mod Listing
+pub mod Space
+pub mod Model

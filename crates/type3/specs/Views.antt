@@ -3,7 +3,7 @@
 use mathlib.Core.Path.{_≡_}
 use mathlib.Core.Bool.{false, cond}
 use mathlib.Core.List.{List}
-use Prim.Native.Nat.{ℕ, zero, suc, _+_, _*_, _%_, _≤_}
+use Prim.Native.Nat.{ℕ, _+_, _*_, _%_, _≤_}
 use lib.Dec.{eqb}
 use lib.ListN.{length}
 use Rattle.tag.specs.declared.Report.{Report}
@@ -17,11 +17,6 @@ use Rattle.type3.specs.declared.read.Checked.the-variants as checked
 use Rattle.type3.specs.Attributes.{nmaxbOf, attributes, attributeChecks, mayWrite}
 
 -- ---- the attributes
-
--- the sum of the first n bytes
-unfoldable pub sumTo : List ℕ → ℕ → ℕ
-sumTo i zero = 0
-sumTo i (suc n) = sumTo i n + byte i n
 
 abbrev pub checkedAs : code.Checked → Checked
 checkedAs (checked.Fault r) = fault r

@@ -8,7 +8,7 @@ use tag::slices;
 ghost use mathlib.Core.Path.{_≡_};
 ghost use mathlib.Core.Bool.{_&&_};
 ghost use mathlib.Core.List.{_++_, _∷_, []};
-ghost use Prim.Native.Nat.{_<_, _≤_};
+ghost use Prim.Native.Nat.{_≤_};
 ghost use lib.Dec.{leb};
 ghost use lib.ListN.{length, take, drop};
 ghost use Rattle.tag.specs.Answers.{countOf, countAs};
@@ -41,12 +41,11 @@ fn countable(count: usize, nbw: usize) -> bool
     true
 }
 
-// Writes the bytes up to the block count, and the count.
-pub(crate) fn put_opening(number: &[u8], count: usize, out: &mut [u8])
-    requires { ⌜ (length (now number) ≡ 8) × (count < 256) × (13 ≤ length (now out)) ⌝ }
-    ensures { λ _. ⌜ now (out .exit) ≡ (opening (now (number .entry)) ++ (count ∷ [])) ++ drop 13 (now (out .entry)) ⌝ }
+// The bytes up to the block count, and the count.
+pub fn opening(number: [u8; 8], count: u8) -> [u8; 13]
+    ensures { λ r. ⌜ r ≡ opening number ++ (count ∷ []) ⌝ }
 {
-    let front = [
+    [
         0x08,
         number[0],
         number[1],
@@ -59,18 +58,18 @@ pub(crate) fn put_opening(number: &[u8], count: usize, out: &mut [u8])
         0x01,
         0x09,
         0x00,
-        count as u8,
-    ];
-    bytes::copy(&front, out);
+        count,
+    ]
 }
 
 // Writes a command whose blocks may be named.
-fn put(number: &[u8], blocks: &[usize], sixteens: &[u8], bytes: &mut [u8])
-    requires { ⌜ PutAsked (now number) (now blocks) (now sixteens) (now bytes) ⌝ }
-    ensures { λ _. ⌜ now (bytes .exit) ≡ overwrite (commandBytes (now (number .entry)) (now (blocks .entry)) (now (sixteens .entry))) (now (bytes .entry)) ⌝ }
+fn put(number: [u8; 8], blocks: &[usize], sixteens: &[u8], bytes: &mut [u8])
+    requires { ⌜ PutAsked (now blocks) (now sixteens) (now bytes) ⌝ }
+    ensures { λ _. ⌜ now (bytes .exit) ≡ overwrite (commandBytes number (now (blocks .entry)) (now (sixteens .entry))) (now (bytes .entry)) ⌝ }
 {
     let count = blocks.len();
-    put_opening(number, count, bytes);
+    let front = opening(number, count as u8);
+    slices::store(&front, 0, bytes);
     names::put(blocks, bytes);
     slices::store(sixteens, 13 + 2 * count, bytes);
 }
@@ -91,14 +90,14 @@ fn encode_parts(
     count: usize,
     blocks: &[usize],
     sixteens: &[u8],
-    number: &[u8],
+    number: [u8; 8],
     nbw: usize,
     nmaxb: usize,
     bytes: &mut [u8],
 ) -> CountAnswer
-    requires { ⌜ (length (now blocks) ≡ 8) × (length (now sixteens) ≡ 128) × (length (now number) ≡ 8) ⌝ }
-    ensures answer { λ r. ⌜ countAs r ≡ countOf (encode (now (number .entry)) nbw nmaxb count (now (blocks .entry)) (now (sixteens .entry)) (length (now (bytes .entry)))) ⌝ }
-    ensures written { λ _. ⌜ now (bytes .exit) ≡ outputInto (now (bytes .entry)) (encode (now (number .entry)) nbw nmaxb count (now (blocks .entry)) (now (sixteens .entry)) (length (now (bytes .entry)))) ⌝ }
+    requires { ⌜ (length (now blocks) ≡ 8) × (length (now sixteens) ≡ 128) ⌝ }
+    ensures answer { λ r. ⌜ countAs r ≡ countOf (encode number nbw nmaxb count (now (blocks .entry)) (now (sixteens .entry)) (length (now (bytes .entry)))) ⌝ }
+    ensures written { λ _. ⌜ now (bytes .exit) ≡ outputInto (now (bytes .entry)) (encode number nbw nmaxb count (now (blocks .entry)) (now (sixteens .entry)) (length (now (bytes .entry)))) ⌝ }
 {
     if !well_named(count, blocks, nbw, nmaxb) {
         return CountAnswer::Refused(20);
@@ -126,7 +125,7 @@ pub fn encode(
     let count = command.count;
     let blocks = command.blocks;
     let sixteens = command.bytes;
-    encode_parts(count, &blocks, &sixteens, number, nbw, nmaxb, bytes)
+    encode_parts(count, &blocks, &sixteens, *number, nbw, nmaxb, bytes)
 }
 
 // Whether the first twelve bytes are those of our commands.
@@ -182,7 +181,7 @@ fn blocks_fit(bytes: &[u8], nmaxb: usize) -> bool
 }
 
 // Whether the bytes are a well-formed command.
-pub fn is_command(bytes: &[u8], number: &[u8; 8], nbw: usize, nmaxb: usize) -> bool
+pub(crate) fn is_command(bytes: &[u8], number: &[u8; 8], nbw: usize, nmaxb: usize) -> bool
     ensures { λ r. ⌜ r ≡ isCommand (decode (now (number .entry)) nbw nmaxb (now (bytes .entry))) ⌝ }
 {
     if is_framed(bytes, number, nbw) {

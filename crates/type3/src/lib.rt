@@ -1,9 +1,11 @@
 // Type 3 tags.
 
 pub mod commands;
+pub mod model;
 mod names;
 pub mod read;
-pub mod write;
+pub mod space;
+mod stores;
 
 // A write command: the numbers of its blocks, of which the first `count` are used, and sixteen bytes for each of them.
 pub struct Command {

@@ -5,20 +5,20 @@ use tag::Block;
 use tag::ReadAnswer;
 use tag::Report;
 use tag::What;
+use tag::numbers;
 use tag::slices;
 ghost use mathlib.Core.Path.{_≡_};
 ghost use mathlib.Core.Bool.{false, _||_};
 ghost use mathlib.Core.List.{[]};
-ghost use Prim.Native.Nat.{_+_, _*_, _≤_, _<_};
+ghost use Prim.Native.Nat.{_≤_};
 ghost use lib.Dec.{eqb};
 ghost use lib.ListN.{length, drop};
-ghost use Rattle.tag.specs.Bytes.{byte};
 ghost use Rattle.tag.specs.Checks.{firstOf};
 ghost use Rattle.tag.specs.Reading.{answer, answerOf, shown};
 ghost use Rattle.tag.specs.Answers.{whatOf, readAs};
 ghost use Rattle.type3.specs.Attributes.{attributes, flagsDefined, attributeChecks, mayWrite};
 ghost use Rattle.type3.specs.Message.{reading};
-ghost use Rattle.type3.specs.Views.{WholeBlocks, sumTo, checkedAs, Known, reportAs, answerFor};
+ghost use Rattle.type3.specs.Views.{WholeBlocks, checkedAs, Known, reportAs, answerFor};
 
 // What block 0 says of a tag that passes the tests.
 pub struct Attributes {
@@ -35,37 +35,6 @@ pub struct Attributes {
 pub enum Checked {
     Fault(u8),
     Fine(Attributes),
-}
-
-// A byte as a number to compute with.
-pub fn wide(x: u8) -> usize
-    ensures { λ r. ⌜ (r ≡ x) × (r < 256) ⌝ }
-{
-    x as usize
-}
-
-// The number that two bytes give, high byte first.
-fn word(image: &[u8], at: usize) -> usize
-    requires { ⌜ at + 1 < length (now image) ⌝ }
-    ensures is { λ r. ⌜ r ≡ 256 * byte (now (image .entry)) at + byte (now (image .entry)) (at + 1) ⌝ }
-    ensures small { λ r. ⌜ r < 65536 ⌝ }
-{
-    256 * wide(image[at]) + wide(image[at + 1])
-}
-
-// The sum of the first `n` bytes.
-pub(crate) fn sum(image: &[u8], n: usize) -> usize
-    requires { ⌜ (n ≤ length (now image)) × (n ≤ 16) ⌝ }
-    ensures is { λ r. ⌜ r ≡ sumTo (now (image .entry)) n ⌝ }
-    ensures small { λ r. ⌜ r ≤ 255 * n ⌝ }
-{
-    let mut total = 0usize;
-    let mut k = 0usize;
-    while k < n {
-        total += wide(image[k]);
-        k += 1;
-    }
-    total
 }
 
 // Is the byte one of two values?
@@ -109,15 +78,15 @@ fn sized(image: &[u8]) -> Checked
     ensures is { λ r. ⌜ checkedAs r ≡ firstOf (drop 4 (attributeChecks (length (now (image .entry))) (attributes (now (image .entry))))) ⌝ }
     ensures known { λ r. ⌜ Known (now (image .entry)) r ⌝ }
 {
-    let nmaxb = word(image, 3);
+    let nmaxb = numbers::word(image, 3);
     if image.len() < 16 * (1 + nmaxb) {
         return Checked::Fault(5);
     }
-    let ln = 65536 * wide(image[11]) + word(image, 12);
+    let ln = 65536 * numbers::wide(image[11]) + numbers::word(image, 12);
     if 16 * nmaxb < ln {
         return Checked::Fault(7);
     }
-    let nbw = wide(image[2]);
+    let nbw = numbers::wide(image[2]);
     let busy = image[9] == 0x0F;
     let writable = may_write(image);
     Checked::Fine(Attributes {
@@ -135,7 +104,7 @@ fn defined(image: &[u8]) -> Checked
     ensures is { λ r. ⌜ checkedAs r ≡ firstOf (drop 1 (attributeChecks (length (now (image .entry))) (attributes (now (image .entry))))) ⌝ }
     ensures known { λ r. ⌜ Known (now (image .entry)) r ⌝ }
 {
-    if sum(image, 14) != word(image, 14) {
+    if numbers::sum(image, 14) != numbers::word(image, 14) {
         return Checked::Fault(2);
     }
     if image[0] != 0x10 {

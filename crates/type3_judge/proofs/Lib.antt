@@ -2,4 +2,3 @@
 pub mod Marking
 pub mod Stepping
 pub mod Holding
-pub mod Refusing

@@ -12,7 +12,7 @@ use lib.ListN.{length, drop, set}
 use lib.Seq.{getD-set-same, getD-set-other}
 use Rattle.tag.specs.Bytes.{byte, run, isSet}
 use Rattle.type3.specs.Update.{blocksFor, addresses, values}
-use Rattle.type3.proofs.Body.{length-body}
+use Rattle.type3.proofs.Update.{length-body}
 use Rattle.type3_judge.specs.Views.{markAt}
 
 -- a run of addresses sets each of them, and nothing else

@@ -8,13 +8,13 @@ use native.Mathlib.Omega.{arith}
 use lib.ListN.{length, take, drop, length-drop, drop-of-length-le}
 use lib.Seq.{take-all, drop-drop, getD-drop}
 use Rattle.tag.specs.Bytes.{byte}
-use Rattle.tag.specs.Stores.{ill, stores}
+use Rattle.tag.specs.Stores.{Store, ill, stores, done}
+use Rattle.type3.specs.Attributes.{nmaxbOf}
 use Rattle.type3.specs.Codec.{decode, commandOf, span}
 use Rattle.type3.specs.Type3.{type3}
 use Rattle.type3.specs.CodecViews.{isCommand}
-use Rattle.type3.proofs.Decoding.{decode-refused}
-use Rattle.type3_model.specs.Views.{Storable, storesFrom}
-use Rattle.type3_model.proofs.Storing.{command-storable, command-stores}
+use Rattle.type3.specs.Model.{decodeFor}
+use Rattle.type3.proofs.Giving.{decode-by, ill-command, some-command}
 use Rattle.type3_judge.specs.Views.{Piece, Judging}
 
 -- ---- the bytes of a command
@@ -53,19 +53,19 @@ short-span list at = omega arith
 pub span-is : (list : List ℕ) (at b : ℕ) → b ≡ byte list (at + 12) → 13 + 18 * b ≡ span (drop at list)
 span-is list at b e = ap (λ x. 13 + 18 * x) e ∙ sym (span-at list at)
 
--- ---- what it is, by the tests with the Nbw and the Nmaxb that the code has
+-- ---- what the tag takes them for, by the Nbw and the Nmaxb that the code has
 
-module _ {number i m old : List ℕ} {had : Bool} {nbw nmaxb : ℕ} {set : List ℕ} {size : ℕ} (k : Judging number i m old had nbw nmaxb set size) where
-  command-by : (bytes : List ℕ) → (type3 number .command) i bytes ≡ commandOf (decode number nbw nmaxb bytes)
-  command-by bytes =
-      sym (ap (λ n. commandOf (decode number n nmaxb bytes)) (k .marked .admitted .nbw-is) ∙ ap (λ n. commandOf (decode number (byte i 2) n bytes)) (k .marked .admitted .nmaxb-is))
+module _ {number i m old : List ℕ} {had : Bool} {nbw nmaxb : ℕ} {set : List ℕ} {size : ℕ} (k : Judging number i m old had nbw nmaxb set size) (bytes : List ℕ) where
+  taken-by : decodeFor size number nbw nmaxb bytes ≡ decode number (byte i 2) (nmaxbOf i) bytes
+  taken-by =
+      decode-by size number nbw nmaxb bytes i (k .marked .admitted .nbw-is) (k .marked .admitted .nmaxb-is)
+      (omega (arith, k .marked .same-size, k .marked .admitted .reach))
 
-  pub command-ill : (bytes : List ℕ) → isCommand (decode number nbw nmaxb bytes) ≡ false → (type3 number .command) i bytes ≡ ill
-  command-ill bytes q = command-by bytes ∙ ap commandOf (decode-refused number nbw nmaxb bytes q)
+  pub command-ill : isCommand (decodeFor size number nbw nmaxb bytes) ≡ false → (type3 number .command) i bytes ≡ ill
+  command-ill q = ill-command (decode number (byte i 2) (nmaxbOf i) bytes) (ap isCommand (sym taken-by) ∙ q)
 
-  pub command-stored : (bytes : List ℕ) → isCommand (decode number nbw nmaxb bytes) ≡ true
-      → (type3 number .command) i bytes ≡ stores (storesFrom bytes (byte bytes 12) 0)
-  command-stored bytes q = command-by bytes ∙ command-stores number nbw nmaxb bytes q
+  pub command-stored : isCommand (decodeFor size number nbw nmaxb bytes) ≡ true → (ss : List Store) × ((type3 number .command) i bytes ≡ stores ss)
+  command-stored q = some-command (decode number (byte i 2) (nmaxbOf i) bytes) (ap isCommand (sym taken-by) ∙ q)
 
-  pub command-inside : (bytes : List ℕ) → isCommand (decode number nbw nmaxb bytes) ≡ true → Storable bytes size
-  command-inside bytes q = command-storable number nbw nmaxb bytes q size (omega (arith, k .marked .same-size, k .marked .admitted .reach))
+  pub command-left : (j j′ : List ℕ) → j′ ≡ done j (commandOf (decodeFor size number nbw nmaxb bytes)) → j′ ≡ done j ((type3 number .command) i bytes)
+  command-left j j′ e = e ∙ ap (λ d. done j (commandOf d)) taken-by

@@ -7,11 +7,10 @@ use Prim.Native.Nat.{ℕ, _+_, _*_, _<_, _≤_}
 use lib.Dec.{leb, ltb, eqb}
 use lib.ListN.{length, take, drop}
 use Rattle.tag.specs.Bytes.{byte}
-use Rattle.tag.specs.Checks.{fine, firstOf}
-use Rattle.tag.specs.Reading.{heldOf}
+use Rattle.tag.specs.Reading.{broken, heldOf}
 use Rattle.tag.specs.Plan.{protected}
 use Rattle.tag.specs.Answers.{oldHeld}
-use Rattle.type3.specs.Attributes.{nmaxbOf, attributes, attributeChecks}
+use Rattle.type3.specs.Attributes.{nmaxbOf}
 use Rattle.type3.specs.Message.{reading}
 use Rattle.type3.specs.Update.{plan}
 use Rattle.type3.specs.Codec.{span}
@@ -29,7 +28,7 @@ pub record Piece (list : List ℕ) (at size : ℕ) : Type 0 where
 
 -- a tag that reads, with its Nbw and Nmaxb
 pub record Admitted (i : List ℕ) (nbw nmaxb : ℕ) : Type 0 where
-  pub passes : firstOf (attributeChecks (length i) (attributes i)) ≡ fine
+  pub reads : heldOf (reading i) ≡ broken → ⊥
   pub nbw-is : nbw ≡ byte i 2
   pub nmaxb-is : nmaxb ≡ nmaxbOf i
   pub reach : 16 * (1 + nmaxb) ≤ length i

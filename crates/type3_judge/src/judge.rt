@@ -8,9 +8,9 @@ use tag::slices;
 use type3::read;
 use type3::read::Attributes;
 use type3::read::Checked;
+use type3::space;
 ghost use mathlib.Core.Path.{_≡_};
 ghost use mathlib.Core.List.{map};
-ghost use Prim.Native.Nat.{_*_};
 ghost use lib.ListN.{length};
 ghost use Rattle.tag.specs.Judge.{judge, judged, task};
 ghost use Rattle.tag.specs.TagType.{cutUp};
@@ -109,7 +109,7 @@ fn judge_marked(
     requires { ⌜ Admitted (now image) nbw nmaxb × (length (now set) ≡ 4096) ⌝ }
     ensures { λ r. ⌜ verdictAs r ≡ judge (task (type3 (now (number .entry))) (now (image .entry)) (now (message .entry))) 0 (now (image .entry)) (map ((type3 (now (number .entry)) .command) (now (image .entry))) (cutUp span (length (now (list .entry))) (now (list .entry)))) ⌝ }
 {
-    let blocks = (message.len() + 15) / 16;
+    let blocks = space::blocks_for(message.len());
     marks::mark(16 + 16 * blocks, set);
     let size = image.len();
     let mut work = [0u8; 4096];
@@ -136,17 +136,12 @@ fn judge_readable(
     requires { ⌜ Readable (now image) a ⌝ }
     ensures { λ r. ⌜ verdictAs r ≡ judged (type3 (now (number .entry))) (now (image .entry)) (now (message .entry)) (now (list .entry)) ⌝ }
 {
-    if message.len() == 0 {
-        return JudgeAnswer::Refused(9, 0);
-    }
-    if !a.writable {
-        return JudgeAnswer::Refused(10, 0);
+    let refusal = space::refusal(a, message.len());
+    if refusal != 0 {
+        return JudgeAnswer::Refused(refusal, 0);
     }
     let nbw = a.nbw;
     let nmaxb = a.nmaxb;
-    if 16 * nmaxb < message.len() {
-        return JudgeAnswer::Refused(11, 0);
-    }
     let mut set = [0u8; 4096];
     judge_marked(list, image, message, number, nbw, nmaxb, &mut set)
 }

@@ -2,9 +2,9 @@
 
 use tag::holding;
 use tag::kept;
-use type3::commands;
+use tag::numbers;
+use type3::model;
 use type3::read;
-use type3_model::stores;
 ghost use mathlib.Core.Path.{_≡_};
 ghost use Prim.Native.Nat.{_<_};
 ghost use lib.ListN.{length};
@@ -25,7 +25,7 @@ pub(crate) fn piece_size(list: &[u8], at: usize) -> usize
     if rest < 13 {
         return rest;
     }
-    let size = 13 + 18 * read::wide(list[at + 12]);
+    let size = 13 + 18 * numbers::wide(list[at + 12]);
     if rest < size {
         return rest;
     }
@@ -66,12 +66,10 @@ pub(crate) fn step(
     requires { ⌜ Judging (now number) (now image) (now message) (now old) had nbw nmaxb (now set) (length (now work)) ⌝ }
     ensures is { λ r. ⌜ r ≡ fault (task (type3 (now (number .entry))) (now (image .entry)) (now (message .entry))) (now (work .entry)) ((type3 (now (number .entry)) .command) (now (image .entry)) (now (command .entry))) ⌝ }
     ensures leaves { λ _. ⌜ now (work .exit) ≡ done (now (work .entry)) ((type3 (now (number .entry)) .command) (now (image .entry)) (now (command .entry))) ⌝ }
-    ensures size { λ _. ⌜ length (now (work .exit)) ≡ length (now (work .entry)) ⌝ }
 {
-    if !commands::is_command(command, number, nbw, nmaxb) {
+    if !model::take_command(work, number, command, nbw, nmaxb) {
         return 20;
     }
-    stores::store_blocks(command, work);
     if !kept::is_kept(image, work, set) {
         return 21;
     }

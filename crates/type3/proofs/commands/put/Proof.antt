@@ -11,18 +11,22 @@ use Rattle.type3.proofs.commands.put.Tie as tie
 
 returns : tie.Need-returns
 returns c =
-    let a = c .before .before .before .before .before .before .before .before .before .before .before .before .before .before .before .before .args in
-    let asked = c .before .before .before .before .before .before .before .before .before .before .before .before .before .before .before .before .pre in
+    let s = c .before .before .before .before .before .before .before .before .before .before .before .before .before .before .before .before .before in
+    let a = s .args in
     let bs = a .blocks .now in
-    c .before .before .store .ensures
+    c .before .before .store2 .ensures
     ∙ ap (λ t. sets t (13 + 2 * length bs) (a .sixteens .now)) (c .before .before .before .before .before .before .put .ensures)
-    ∙ ap (λ t. sets (sets t 13 (namesBytes bs)) (13 + 2 * length bs) (a .sixteens .now)) (c .before .before .before .before .before .before .before .before .before .before .put-opening .ensures)
-    ∙ command-stored (a .bytes .now) (a .number .now) bs (a .sixteens .now) (asked .eight) (asked .sixteens) (asked .room)
+    ∙ ap (λ t. sets (sets t 13 (namesBytes bs)) (13 + 2 * length bs) (a .sixteens .now)) (c .before .before .before .before .before .before .before .before .before .before .store .ensures)
+    ∙ ap (λ o. sets (sets (sets (a .bytes .now) 0 o) 13 (namesBytes bs)) (13 + 2 * length bs) (a .sixteens .now)) (c .before .before .before .before .before .before .before .before .before .before .before .before .before .opening .ensures)
+    ∙ command-stored (a .bytes .now) (a .number) bs (a .sixteens .now) (search needs) (s .pre .sixteens) (s .pre .room)
 
 pub put-spec : {M : Type 1} → statement M
 put-spec =
     tie.close
     (tie.spec
+    (λ c. search needs)
+    (λ c κs. search needs)
+    (λ c. search needs)
     (λ c κs. search needs)
     (λ c κs. search needs)
     (λ c. search needs)

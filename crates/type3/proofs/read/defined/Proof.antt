@@ -1,11 +1,19 @@
 -- `read::defined` meets its contract. Assumes nothing.
 use mathlib.Core.Path.{_≡_, sym, _∙_}
+use mathlib.Core.List.{List}
+use Prim.Native.Nat.{ℕ}
+use native.Mathlib.Omega.{arith}
 use borrow.Author.Needs.{needs}
 use borrow.Author.Tests.{eq-eqb, ne-eqb, not-true, not-false}
+use Rattle.tag.specs.Numbers.{sumTo}
 use Rattle.type3.specs.Attributes.{attributes}
-use Rattle.type3.proofs.Attributes.{sum-is}
 use Rattle.type3.proofs.read.defined.Statement.{statement}
 use Rattle.type3.proofs.read.defined.Tie as tie
+
+-- the sum that the checksum is compared with
+sum-is : (i : List ℕ) → sumTo i 14 ≡ attributes i .sum
+unfolding sumTo
+sum-is i = omega arith
 
 returns : tie.Need-returns
 returns c =

@@ -1,7 +1,9 @@
 -- `judge::judge` meets its contract. Assumes nothing.
 use mathlib.Core.Path.{sym, ap, subst, _∙_}
+use Rattle.tag.specs.Judge.{judgeBy}
+use Rattle.type3.specs.Type3.{type3}
 use Rattle.type3.specs.Views.{checkedAs, Known}
-use Rattle.type3_judge.proofs.Refusing.{judged-unread}
+use Rattle.type3.proofs.Refusing.{writing-unread}
 use borrow.Author.Needs.{needs}
 use Rattle.type3_judge.proofs.judge.judge.Statement.{statement}
 use Rattle.type3_judge.proofs.judge.judge.Tie as tie
@@ -17,7 +19,8 @@ returns : tie.Need-returns
 returns c =
     let a = c .before .before .before .before .before .before .before .args in
     let r = c .before .checked .given in
-    judged-unread (a .number .now) (a .image .now) (a .message .now) (a .list .now) (r .0 .0) (sym (c .before .before .before .attributes-of .ensures .0) ∙ ap checkedAs (r .1))
+    sym (ap (judgeBy (type3 (a .number .now)) (a .image .now) (a .message .now) (a .list .now))
+    (writing-unread (a .number .now) (a .image .now) (a .message .now) (r .0 .0) (sym (c .before .before .before .attributes-of .ensures .0) ∙ ap checkedAs (r .1))))
 
 pub judge-spec : {M : Type 1} → statement M
 judge-spec =

@@ -20,7 +20,7 @@ judge-list-requires c κs =
     let same = c .before .before .before .before .before .before .store .ensures ∙ copied (a .image .now) (a .work .now) (k .same-size) in
     record {
       marked = subst (Marked (a .image .now) (a .message .now) (a .nbw) (a .nmaxb) (a .set .now)) (k .same-size ∙ sym (ap length same)) k;
-      old-is = old-read (a .image .now) (k .admitted .passes) _ _ _ (c .before .before .before .read .ensures) (c .before .before .is-message .ensures) (c .before .shown .ensures);
+      old-is = old-read (a .image .now) (k .admitted .reads) _ _ _ (c .before .before .before .read .ensures) (c .before .before .is-message .ensures) (c .before .shown .ensures);
     }
 
 returns : tie.Need-returns

@@ -52,10 +52,10 @@ loop-again c =
     let s = c .before .before .before .step in (
       omega (arith, p .ensures .inside),
       omega (arith, p .ensures .some-bytes),
-      s .ensures .1 .1 ∙ l .inv .2,
+      search needs,
       l .inv .3
           ∙ turn-next (type3 (a .number .now)) (a .image .now) (a .list .now) (λ b. omega arith) (l .at) (p .result) (omega arith) (p .ensures .cut-is) (p .ensures .rest-is) _
-          (ap (λ n. take n (drop (l .at) (a .list .now))) size) (a .message .now) (l .count) (l .work) (s .result) (s .ensures .0) _ (c .if1 .left) (s .ensures .1 .0),
+          (ap (λ n. take n (drop (l .at) (a .list .now))) size) (a .message .now) (l .count) (l .work) (s .result) (s .ensures .0) _ (c .if1 .left) (s .ensures .1),
     )
 
 returns-2 : tie.Need-returns-2 Inv-loop μ-loop

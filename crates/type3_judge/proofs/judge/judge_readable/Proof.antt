@@ -1,44 +1,57 @@
 -- `judge::judge_readable` meets its contract. Assumes nothing.
-use mathlib.Core.Path.{sym, _∙_}
-use native.Mathlib.Omega.{arith}
-use borrow.Author.Tests.{not-true, not-false}
-use Rattle.type3_judge.proofs.Refusing.{judged-empty, judged-fixed, judged-long, judged-list}
+use mathlib.Core.Path.{_≡_, sym, ap, _∙_}
 use borrow.Author.Needs.{needs}
+use Rattle.tag.specs.TagType.{written, writing}
+use Rattle.tag.specs.Judge.{judgeBy}
+use Rattle.tag.proofs.Laws.{written-ready, ready-reads}
+use Rattle.type3.specs.Update.{plan}
+use Rattle.type3.specs.Type3.{type3}
+use Rattle.type3.proofs.Refusing.{writing-refused, writing-planned}
 use Rattle.type3_judge.proofs.judge.judge_readable.Statement.{statement}
 use Rattle.type3_judge.proofs.judge.judge_readable.Tie as tie
 
 returns : tie.Need-returns
 returns c =
-    let a = c .before .before .before .before .args in
-    judged-empty (a .number .now) (a .image .now) (a .message .now) (a .list .now) (c .before .before .before .before .pre .passes) (c .if1 .taken)
+    let s = c .before .before .before .before .before in
+    let a = s .args in
+    let refusal = c .before .refusal in
+    sym (ap (judgeBy (type3 (a .number .now)) (a .image .now) (a .message .now) (a .list .now))
+    (writing-refused (a .number .now) (a .image .now) (a .message .now) (a .a) (s .pre) (refusal .result) (refusal .ensures) (c .if1 .taken)))
+
+-- the tag may be written
+planned : (c : tie.Else1) → writing (type3 (c .before .before .before .before .before .args .number .now)) (c .before .before .before .before .before .args .image .now) (c .before .before .before .before .before .args .message .now) ≡ written (plan (c .before .before .before .before .before .args .image .now) (c .before .before .before .before .before .args .message .now))
+planned c =
+    let s = c .before .before .before .before .before in
+    let a = s .args in
+    let refusal = c .before .refusal in
+    writing-planned (a .number .now) (a .image .now) (a .message .now) (a .a) (s .pre) (refusal .result) (refusal .ensures) (c .if1 .left)
+
+judge-marked-requires : tie.Need-judge-marked-requires
+judge-marked-requires c κs =
+    let s = c .before .before .before .before .before .before in
+    let a = s .args in
+    let k = s .pre .known in
+    let ready = written-ready (type3 (a .number .now)) (a .image .now) (a .message .now) (plan (a .image .now) (a .message .now)) (planned (c .before)) .0 in (
+      record {
+        reads = ready-reads (type3 (a .number .now)) (a .image .now) (a .message .now) ready;
+        nbw-is = k .nbw-is;
+        nmaxb-is = k .nmaxb-is;
+        reach = k .reach;
+        most = k .whole .most;
+      },
+      search needs,
+    )
 
 returns-2 : tie.Need-returns-2
 returns-2 c =
-    let a = c .before .before .before .before .before .before .args in
-    let k = c .before .before .before .before .before .before .pre in
-    judged-fixed (a .number .now) (a .image .now) (a .message .now) (a .list .now) (k .passes) (c .before .before .if1 .left) (sym (k .known .writable-is) ∙ not-true _ (c .if2 .taken))
-
-returns-3 : tie.Need-returns-3
-returns-3 c =
-    let a = c .before .before .before .before .before .before .before .args in
-    let k = c .before .before .before .before .before .before .before .pre in
-    judged-long (a .number .now) (a .image .now) (a .message .now) (a .list .now) (k .passes) (c .before .before .before .if1 .left) (sym (k .known .writable-is) ∙ not-false _ (c .before .if2 .left)) (omega (arith, k .known .nmaxb-is))
-
-returns-4 : tie.Need-returns-4
-returns-4 c =
-    let a = c .before .before .before .before .before .before .before .before .before .before .args in
-    let k = c .before .before .before .before .before .before .before .before .before .before .pre in
-    c .before .judge-marked .ensures
-    ∙ judged-list (a .number .now) (a .image .now) (a .message .now) (a .list .now) (k .passes) (c .before .before .before .before .before .before .if1 .left) (sym (k .known .writable-is) ∙ not-false _ (c .before .before .before .before .if2 .left)) (omega (arith, k .known .nmaxb-is))
+    let a = c .before .before .before .before .before .before .before .before .args in
+    c .before .judge-marked .ensures ∙ sym (ap (judgeBy (type3 (a .number .now)) (a .image .now) (a .message .now) (a .list .now)) (planned (c .before .before .before)))
 
 pub judge-readable-spec : {M : Type 1} → statement M
-judge-readable-spec =
-    tie.close
+judge-readable-spec = tie.close
     (tie.spec
-    returns
-    returns-2
-    (λ c. search needs)
-    returns-3
-    (λ c. search needs)
     (λ c κs. search needs)
-    returns-4)
+    returns
+    (λ c. search needs)
+    judge-marked-requires
+    returns-2)

@@ -1,0 +1,45 @@
+// Numbers from bytes, and small arithmetic.
+
+ghost use mathlib.Core.Path.{_≡_};
+ghost use Prim.Native.Nat.{_+_, _*_, _<_, _≤_, min};
+ghost use lib.ListN.{length};
+ghost use Rattle.tag.specs.Bytes.{byte};
+ghost use Rattle.tag.specs.Numbers.{sumTo};
+
+// A byte as a number to compute with.
+pub fn wide(x: u8) -> usize
+    ensures { λ r. ⌜ (r ≡ x) × (r < 256) ⌝ }
+{
+    x as usize
+}
+
+// The number that two bytes give, high byte first.
+pub fn word(bytes: &[u8], at: usize) -> usize
+    requires { ⌜ at + 1 < length (now bytes) ⌝ }
+    ensures is { λ r. ⌜ r ≡ 256 * byte (now (bytes .entry)) at + byte (now (bytes .entry)) (at + 1) ⌝ }
+    ensures small { λ r. ⌜ r < 65536 ⌝ }
+{
+    256 * wide(bytes[at]) + wide(bytes[at + 1])
+}
+
+// The sum of the first `n` bytes.
+pub fn sum(bytes: &[u8], n: usize) -> usize
+    requires { ⌜ (n ≤ length (now bytes)) × (n ≤ 16) ⌝ }
+    ensures is { λ r. ⌜ r ≡ sumTo (now (bytes .entry)) n ⌝ }
+    ensures small { λ r. ⌜ r ≤ 255 * n ⌝ }
+{
+    let mut total = 0usize;
+    let mut k = 0usize;
+    while k < n {
+        total += wide(bytes[k]);
+        k += 1;
+    }
+    total
+}
+
+// The smaller of two numbers.
+pub fn smaller(a: usize, b: usize) -> usize
+    ensures { λ r. ⌜ r ≡ min a b ⌝ }
+{
+    if a < b { a } else { b }
+}

@@ -1,0 +1,74 @@
+-- Commands given to a tag: which the code takes, and what the model answers.
+-- Assumes nothing.
+use mathlib.Core.Path.{_≡_, refl, ap, _∙_}
+use mathlib.Core.Bool.{Bool, true, false, cond}
+use mathlib.Core.List.{List}
+use Prim.Native.Nat.{ℕ, zero, suc, _+_, _*_, _/_, _<_, _≤_}
+use native.Mathlib.Omega.{arith}
+use borrow.Author.Tests.{lt-ltb, le-ltb}
+use lib.Dec.{eqb}
+use lib.ListN.{length}
+use Rattle.tag.specs.Bytes.{byte}
+use Rattle.tag.specs.Refusals.{not-well-formed}
+use Rattle.tag.specs.Checks.{fine, fault, firstOf}
+use Rattle.tag.specs.Stores.{Store, ill, stores, done}
+use Rattle.tag.specs.Model.{unstored, stored, given, modelBy, model}
+use Rattle.tag.proofs.Logic.{true-false}
+use Rattle.type3.specs.Attributes.{nmaxbOf, attributes, attributeChecks, mayWrite}
+use Rattle.type3.specs.Message.{busy, view, viewBy, readingOf, reading}
+use Rattle.type3.specs.Codec.{Decoded, undecoded, decoded, decode, storesOf, commandOf}
+use Rattle.type3.specs.Type3.{type3}
+use Rattle.type3.specs.CodecViews.{isCommand}
+use Rattle.type3.specs.Model.{decodeFor}
+
+-- ---- which commands are taken
+
+module _ (n : ℕ) (number : List ℕ) (nbw nmaxb : ℕ) (bytes : List ℕ) where
+  pub decode-past : n / 16 ≤ nmaxb → decodeFor n number nbw nmaxb bytes ≡ undecoded not-well-formed
+  decode-past l = rw (le-ltb nmaxb (n / 16) l)
+
+  pub decode-inside : nmaxb < n / 16 → decodeFor n number nbw nmaxb bytes ≡ decode number nbw nmaxb bytes
+  decode-inside l = rw (lt-ltb nmaxb (n / 16) l)
+
+  -- by the Nbw and the Nmaxb of a tag, which reach no further than the image
+  pub decode-by : (i : List ℕ) → nbw ≡ byte i 2 → nmaxb ≡ nmaxbOf i → 16 * (1 + nmaxb) ≤ n
+      → decodeFor n number nbw nmaxb bytes ≡ decode number (byte i 2) (nmaxbOf i) bytes
+  decode-by i p q l =
+      decode-inside (omega arith) ∙ ap (λ x. decode number x nmaxb bytes) p ∙ ap (λ x. decode number (byte i 2) x bytes) q
+
+-- ---- a command by whether it decodes
+
+pub ill-command : (d : Decoded) → isCommand d ≡ false → commandOf d ≡ ill
+ill-command (undecoded r) q = refl
+ill-command (decoded bs bytes) q = absurd (true-false refl q)
+
+pub some-command : (d : Decoded) → isCommand d ≡ true → (ss : List Store) × (commandOf d ≡ stores ss)
+some-command (undecoded r) q = absurd (true-false q refl)
+some-command (decoded bs bytes) q = (storesOf bs bytes, refl)
+
+-- ---- the three answers of the model
+
+module _ (number i bytes : List ℕ) where
+  abbrev d : Decoded
+  d = decode number (byte i 2) (nmaxbOf i) bytes
+
+  pub model-refused : (r : ℕ) → firstOf (attributeChecks (length i) (attributes i)) ≡ fault r → model (type3 number) i bytes ≡ unstored r
+  unfolding reading viewBy
+  model-refused r e = rw e
+
+  model-given : firstOf (attributeChecks (length i) (attributes i)) ≡ fine → model (type3 number) i bytes ≡ given i (commandOf d)
+  unfolding reading viewBy
+  model-given e = rw e (go (eqb (byte i 9) 0x0F) (attributes i .ln))
+    where
+      go : (b : Bool) (n : ℕ) → modelBy i (readingOf (mayWrite i) i (cond b busy (view n))) (commandOf d) ≡ given i (commandOf d)
+      go true n = refl
+      go false zero = refl
+      go false (suc n) = refl
+
+  pub model-ill : firstOf (attributeChecks (length i) (attributes i)) ≡ fine → isCommand d ≡ false → model (type3 number) i bytes ≡ unstored not-well-formed
+  model-ill e q = model-given e ∙ ap (given i) (ill-command d q)
+
+  pub model-stored : firstOf (attributeChecks (length i) (attributes i)) ≡ fine → isCommand d ≡ true → model (type3 number) i bytes ≡ stored (done i (commandOf d))
+  model-stored e q =
+      let (ss, p) = some-command d q in
+      model-given e ∙ rw p

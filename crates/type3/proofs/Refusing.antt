@@ -1,0 +1,64 @@
+-- What writing answers before the list is laid: reading's refusal, then 9 to 11 by the attributes, else the plan.
+-- Assumes nothing.
+use mathlib.Core.Path.{_≡_, refl, sym, ap, _∙_}
+use mathlib.Core.Bool.{Bool, true, false, not, cond}
+use mathlib.Core.List.{List, [], _∷_}
+use Prim.Native.Nat.{ℕ, zero, suc}
+use lib.Dec.{eqb}
+use lib.ListN.{length}
+use Rattle.tag.specs.Bytes.{byte}
+use Rattle.tag.specs.Refusals.{nothing-to-write, not-writable, too-long}
+use Rattle.tag.specs.Checks.{Checked, check, fine, fault, firstOf}
+use Rattle.tag.specs.TagType.{unwritten, written, planned, writingBy, writing}
+use Rattle.type3.specs.declared.read.Attributes.{Attributes}
+use Rattle.type3.specs.Attributes.{attributes, attributeChecks, mayWrite}
+use Rattle.type3.specs.Message.{busy, view, viewBy, readingOf, reading}
+use Rattle.type3.specs.Update.{fits, plan}
+use Rattle.type3.specs.Type3.{type3}
+use Rattle.type3.specs.Views.{Readable}
+use Rattle.type3.specs.Space.{refusalFor}
+
+-- a refusal as the checks have it; 0 is none
+abbrev checked : ℕ → Checked
+checked zero = fine
+checked (suc r) = fault (suc r)
+
+module _ (number i m : List ℕ) where
+  pub writing-unread : (r : ℕ) → firstOf (attributeChecks (length i) (attributes i)) ≡ fault r → writing (type3 number) i m ≡ unwritten r
+  unfolding writing reading viewBy
+  writing-unread r e = rw e
+
+  -- the tests that are left for a tag that reads
+  abbrev left : Checked
+  left = firstOf (check (not (eqb (length m) 0)) nothing-to-write ∷ check (mayWrite i) not-writable ∷ check (fits i (length m)) too-long ∷ [])
+
+  writing-left : firstOf (attributeChecks (length i) (attributes i)) ≡ fine → writing (type3 number) i m ≡ planned (plan i m) left
+  unfolding writing reading viewBy
+  writing-left e = rw e (go (eqb (byte i 9) 0x0F) (attributes i .ln))
+    where
+      go : (b : Bool) (n : ℕ) → writingBy (type3 number) i m (readingOf (mayWrite i) i (cond b busy (view n))) ≡ planned (plan i m) left
+      go true n = refl
+      go false zero = refl
+      go false (suc n) = refl
+
+  module _ (a : Attributes) (known : Readable i a) where
+    left-is : left ≡ checked (refusalFor a (length m))
+    left-is = rw (known .known .writable-is, known .known .nmaxb-is) (go (eqb (length m) 0) (mayWrite i) (fits i (length m)))
+      where
+        go : (none may room : Bool)
+            → firstOf (check (not none) nothing-to-write ∷ check may not-writable ∷ check room too-long ∷ [])
+            ≡ checked (cond none nothing-to-write (cond may (cond room 0 too-long) not-writable))
+        go true may room = refl
+        go false false room = refl
+        go false true false = refl
+        go false true true = refl
+
+    pub writing-refused : (r : ℕ) → r ≡ refusalFor a (length m) → (r ≡ 0 → ⊥) → writing (type3 number) i m ≡ unwritten r
+    writing-refused r e n = writing-left (known .passes) ∙ ap (planned (plan i m)) (left-is ∙ ap checked (sym e)) ∙ go r n
+      where
+        go : (r : ℕ) → (r ≡ 0 → ⊥) → planned (plan i m) (checked r) ≡ unwritten r
+        go zero h = absurd (h refl)
+        go (suc r) h = refl
+
+    pub writing-planned : (r : ℕ) → r ≡ refusalFor a (length m) → r ≡ 0 → writing (type3 number) i m ≡ written (plan i m)
+    writing-planned r e z = writing-left (known .passes) ∙ ap (planned (plan i m)) (left-is ∙ ap checked (sym e ∙ z))

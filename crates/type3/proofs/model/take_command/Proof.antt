@@ -1,0 +1,56 @@
+-- `model::take_command` meets its contract. Assumes nothing.
+use mathlib.Core.Path.{sym, ap, _∙_}
+use native.Mathlib.Omega.{arith}
+use borrow.Author.Needs.{needs}
+use borrow.Author.Tests.{not-true, not-false}
+use lib.ListN.{length}
+use Rattle.tag.specs.Stores.{done}
+use Rattle.type3.specs.Codec.{commandOf}
+use Rattle.type3.specs.CodecViews.{isCommand}
+use Rattle.type3.proofs.Decoding.{decode-refused}
+use Rattle.type3.proofs.Storing.{command-storable, command-stores}
+use Rattle.type3.proofs.Giving.{decode-past, decode-inside}
+use Rattle.type3.proofs.model.take_command.Statement.{statement}
+use Rattle.type3.proofs.model.take_command.Tie as tie
+
+returns : tie.Need-returns
+returns c =
+    let a = c .before .before .before .args in
+    let e = decode-past (length (a .image .now)) (a .number .now) (a .nbw) (a .nmaxb) (a .command .now) (c .if1 .taken) in
+    (sym (ap isCommand e), sym (ap (λ d. done (a .image .now) (commandOf d)) e))
+
+returns-2 : tie.Need-returns-2
+returns-2 c =
+    let a = c .before .before .before .before .before .args in
+    let q = sym (c .before .is-command .ensures) ∙ not-true _ (c .if2 .taken) in
+    let e = decode-inside (length (a .image .now)) (a .number .now) (a .nbw) (a .nmaxb) (a .command .now) (c .before .before .if1 .left)
+    ∙ decode-refused (a .number .now) (a .nbw) (a .nmaxb) (a .command .now) q in
+    (sym (ap isCommand e), sym (ap (λ d. done (a .image .now) (commandOf d)) e))
+
+store-blocks-requires : tie.Need-store-blocks-requires
+store-blocks-requires c κs =
+    let a = c .before .before .before .before .before .before .args in
+    let q = sym (c .before .before .is-command .ensures) ∙ not-false _ (c .before .if2 .left) in
+    command-storable (a .number .now) (a .nbw) (a .nmaxb) (a .command .now) q (length (a .image .now)) (omega arith)
+
+returns-3 : tie.Need-returns-3
+returns-3 c =
+    let a = c .before .before .before .before .before .before .before .before .before .args in
+    let i = a .image .now in
+    let q = sym (c .before .before .before .before .before .is-command .ensures) ∙ not-false _ (c .before .before .before .before .if2 .left) in
+    let e = decode-inside (length i) (a .number .now) (a .nbw) (a .nmaxb) (a .command .now) (c .before .before .before .before .before .before .if1 .left) in (
+      sym (ap isCommand e ∙ q),
+      c .before .before .store-blocks .ensures
+          ∙ sym (ap (λ d. done i (commandOf d)) e ∙ ap (done i) (command-stores (a .number .now) (a .nbw) (a .nmaxb) (a .command .now) q)),
+    )
+
+pub take-command-spec : {M : Type 1} → statement M
+take-command-spec =
+    tie.close
+    (tie.spec
+    returns
+    (λ c κs. search needs)
+    returns-2
+    store-blocks-requires
+    (λ c. search needs)
+    returns-3)

@@ -1,0 +1,57 @@
+// A Type 3 tag as a model that takes one command a call.
+
+use crate::commands;
+use crate::read;
+use crate::read::Checked;
+use crate::stores;
+use tag::ModelAnswer;
+ghost use mathlib.Core.Path.{_≡_};
+ghost use lib.ListN.{length};
+ghost use Rattle.tag.specs.Stores.{done};
+ghost use Rattle.tag.specs.Answers.{modelAs, storingOf};
+ghost use Rattle.tag.specs.Model.{model, imageAfter};
+ghost use Rattle.type3.specs.Codec.{commandOf};
+ghost use Rattle.type3.specs.CodecViews.{isCommand};
+ghost use Rattle.type3.specs.Type3.{type3};
+ghost use Rattle.type3.specs.Model.{decodeFor};
+
+// Stores what the command says, and answers whether it is well formed for this Nbw and this Nmaxb and blocks 0 to Nmaxb lie in
+// the image; nothing is stored if not.
+pub fn take_command(
+    image: &mut [u8],
+    number: &[u8; 8],
+    command: &[u8],
+    nbw: usize,
+    nmaxb: usize,
+) -> bool
+    ensures is { λ r. ⌜ r ≡ isCommand (decodeFor (length (now (image .entry))) (now (number .entry)) nbw nmaxb (now (command .entry))) ⌝ }
+    ensures stored { λ _. ⌜ now (image .exit) ≡ done (now (image .entry)) (commandOf (decodeFor (length (now (image .entry))) (now (number .entry)) nbw nmaxb (now (command .entry)))) ⌝ }
+{
+    if image.len() / 16 <= nmaxb {
+        return false;
+    }
+    if !commands::is_command(command, number, nbw, nmaxb) {
+        return false;
+    }
+    stores::store_blocks(command, image);
+    true
+}
+
+// Reading's refusals, then 20; else the blocks that the command names are stored, protected or not.
+pub fn model(image: &mut [u8], number: &[u8; 8], command: &[u8]) -> ModelAnswer
+    ensures answer { λ r. ⌜ modelAs r ≡ storingOf (model (type3 (now (number .entry))) (now (image .entry)) (now (command .entry))) ⌝ }
+    ensures stored { λ _. ⌜ now (image .exit) ≡ imageAfter (now (image .entry)) (model (type3 (now (number .entry))) (now (image .entry)) (now (command .entry))) ⌝ }
+{
+    let checked = read::attributes_of(image);
+    match checked {
+        Checked::Fault(n) => ModelAnswer::Refused(n),
+        Checked::Fine(a) => {
+            let nbw = a.nbw;
+            let nmaxb = a.nmaxb;
+            if take_command(image, number, command, nbw, nmaxb) {
+                return ModelAnswer::Stored;
+            }
+            ModelAnswer::Refused(20)
+        }
+    }
+}

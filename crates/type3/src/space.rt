@@ -1,0 +1,32 @@
+// Where a message goes on a Type 3 tag: refusals 9 to 11, and how many blocks it takes.
+
+use crate::read::Attributes;
+ghost use mathlib.Core.Path.{_≡_};
+ghost use Rattle.type3.specs.Update.{blocksFor};
+ghost use Rattle.type3.specs.Space.{refusalFor};
+
+// How many blocks a message of `n` bytes takes; the last may be filled in part.
+pub fn blocks_for(n: usize) -> usize
+    ensures { λ r. ⌜ r ≡ blocksFor n ⌝ }
+{
+    if n % 16 == 0 {
+        return n / 16;
+    }
+    n / 16 + 1
+}
+
+// Refusals 9, 10 and 11, in this order, for a message of `n` bytes; 0 where it goes to blocks 1 and on.
+pub fn refusal(a: Attributes, n: usize) -> u8
+    ensures { λ r. ⌜ r ≡ refusalFor a n ⌝ }
+{
+    if n == 0 {
+        return 9;
+    }
+    if !a.writable {
+        return 10;
+    }
+    if a.nmaxb < blocks_for(n) {
+        return 11;
+    }
+    0
+}

@@ -1,0 +1,37 @@
+// What a well-formed command stores, taken from its bytes in place: block k's name at 13 + 2k, its data behind the names.
+
+use tag::Block;
+use tag::numbers;
+use tag::slices;
+ghost use mathlib.Core.Path.{_≡_};
+ghost use Prim.Native.Nat.{_+_, _*_, _<_, _≤_};
+ghost use lib.ListN.{length, take, drop};
+ghost use lib.Seq.{sets};
+ghost use Rattle.tag.specs.Bytes.{byte};
+ghost use Rattle.tag.specs.Stores.{puts};
+ghost use Rattle.type3.specs.Model.{Storable, storesFrom};
+
+// Stores block `k` of the `count` blocks that the command names.
+fn store_block(command: &[u8], count: usize, k: usize, image: &mut [u8])
+    requires { ⌜ (count ≤ 8) × (k < count) × (13 + 18 * count ≤ length (now command)) × (16 * byte (now command) (14 + 2 * k) + 16 ≤ length (now image)) ⌝ }
+    ensures { λ _. ⌜ now (image .exit) ≡ sets (now (image .entry)) (16 * byte (now (command .entry)) (14 + 2 * k)) (take 16 (drop (13 + 2 * count + 16 * k) (now (command .entry)))) ⌝ }
+{
+    let block = numbers::wide(command[14 + 2 * k]);
+    let at = Block(block).address(16);
+    let start = at.0;
+    let from = 13 + 2 * count + 16 * k;
+    slices::store(&command[from..from + 16], start, image);
+}
+
+// Stores every block that the command names, protected or not.
+pub(crate) fn store_blocks(command: &[u8], image: &mut [u8])
+    requires { ⌜ Storable (now command) (length (now image)) ⌝ }
+    ensures { λ _. ⌜ now (image .exit) ≡ puts (now (image .entry)) (storesFrom (now (command .entry)) (byte (now (command .entry)) 12) 0) ⌝ }
+{
+    let count = numbers::wide(command[12]);
+    let mut k = 0usize;
+    while k < count {
+        store_block(command, count, k, image);
+        k += 1;
+    }
+}

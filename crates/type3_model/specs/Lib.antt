@@ -1,2 +1,0 @@
--- What the code of the tag as a model goes by.
-pub mod Views

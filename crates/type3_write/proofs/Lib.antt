@@ -1,0 +1,8 @@
+-- Laws that the code of the Type 3 writer needs.
+pub mod Body
+pub mod Attributes
+pub mod Laying
+pub mod Dealing
+pub mod Sixteen
+pub mod ListBytes
+pub mod Writing

@@ -1,0 +1,3 @@
+// The writer of Type 3 tags.
+
+pub mod write;

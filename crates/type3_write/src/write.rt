@@ -1,0 +1,214 @@
+// Writing to a Type 3 tag: the list of commands for a message, laid straight into the caller's buffer.
+
+use tag::Block;
+use tag::CountAnswer;
+use tag::numbers;
+use type3::commands;
+use type3::read;
+use type3::read::Attributes;
+use type3::read::Checked;
+use type3::space;
+ghost use mathlib.Core.Path.{_≡_};
+ghost use mathlib.Core.List.{[], _∷_, _++_};
+ghost use Prim.Native.Nat.{_+_, _-_, _*_, _/_, _<_, _≤_};
+ghost use lib.ListN.{length, drop};
+ghost use Rattle.tag.specs.Bytes.{run};
+ghost use Rattle.tag.specs.TagType.{write, outputInto};
+ghost use Rattle.tag.specs.Answers.{countOf, countAs};
+ghost use Rattle.type3.specs.Update.{blocksFor};
+ghost use Rattle.type3.specs.Codec.{namesBytes, opening};
+ghost use Rattle.type3.specs.Type3.{type3};
+ghost use Rattle.type3.specs.Views.{Readable};
+ghost use Rattle.type3_write.specs.Listing.{filled, attributeBlock, attributeCommand, messageCommand, messageCommands, listAs, Fills, Dealt, Listing};
+
+// ---- the parts of a command
+
+// The bytes up to the block count, and the count.
+fn put_opening(number: [u8; 8], count: usize, out: &mut [u8])
+    requires { ⌜ (count < 256) × (13 ≤ length (now out)) ⌝ }
+    ensures { λ _. ⌜ now (out .exit) ≡ (opening number ++ (count ∷ [])) ++ drop 13 (now (out .entry)) ⌝ }
+{
+    let front = commands::opening(number, count as u8);
+    bytes::copy(&front, out);
+}
+
+// The names of `count` blocks from `first` on: 80h and the number.
+fn put_names(first: Block, count: usize, out: &mut [u8])
+    requires { ⌜ (first .0 + count ≤ 256) × (2 * count ≤ length (now out)) ⌝ }
+    ensures { λ _. ⌜ now (out .exit) ≡ namesBytes (run (first .0) count) ++ drop (2 * count) (now (out .entry)) ⌝ }
+{
+    let b = first.0;
+    let mut j = 0usize;
+    while j < count {
+        out[2 * j] = 0x80;
+        out[2 * j + 1] = (b + j) as u8;
+        j += 1;
+    }
+}
+
+// Blocks of the message: the first `size` bytes of the part, 00h past its end. Only the last block of a message is short.
+fn fill_blocks(part: &[u8], size: usize, out: &mut [u8])
+    requires { ⌜ (size ≤ length (now out)) × (size ≤ length (now part) + 15) ⌝ }
+    ensures { λ _. ⌜ now (out .exit) ≡ filled size (now (part .entry)) ++ drop size (now (out .entry)) ⌝ }
+{
+    let n = part.len();
+    if size <= n {
+        bytes::copy(&part[..size], out);
+        return;
+    }
+    let zeros = [0u8; 15];
+    let rest = size - n;
+    bytes::copy(part, out);
+    bytes::copy(&zeros[..rest], &mut out[n..]);
+}
+
+// Block 0 with this WriteFlag and this Ln, and its checksum; all else as the image has it.
+fn put_attribute_block(image: &[u8], flag: u8, ln: usize, out: &mut [u8])
+    requires { ⌜ (16 ≤ length (now image)) × (ln < 65536) × (16 ≤ length (now out)) ⌝ }
+    ensures { λ _. ⌜ now (out .exit) ≡ attributeBlock (now (image .entry)) flag ln ++ drop 16 (now (out .entry)) ⌝ }
+{
+    let high = ln / 65536;
+    let mid = ln / 256 % 256;
+    let low = ln % 256;
+    let sum = numbers::sum(image, 9)
+        + numbers::wide(image[10])
+        + numbers::wide(flag)
+        + high
+        + mid
+        + low;
+    let block = [
+        image[0],
+        image[1],
+        image[2],
+        image[3],
+        image[4],
+        image[5],
+        image[6],
+        image[7],
+        image[8],
+        flag,
+        image[10],
+        high as u8,
+        mid as u8,
+        low as u8,
+        (sum / 256) as u8,
+        (sum % 256) as u8,
+    ];
+    bytes::copy(&block, out);
+}
+
+// ---- the commands
+
+// Writes block 0 with this WriteFlag and this Ln.
+fn put_attributes(image: &[u8], number: [u8; 8], flag: u8, ln: usize, out: &mut [u8])
+    requires { ⌜ (16 ≤ length (now image)) × (ln < 65536) × (31 ≤ length (now out)) ⌝ }
+    ensures { λ _. ⌜ now (out .exit) ≡ attributeCommand number (now (image .entry)) flag ln ++ drop 31 (now (out .entry)) ⌝ }
+{
+    put_opening(number, 1, out);
+    put_names(Block(0), 1, &mut out[13..]);
+    put_attribute_block(image, flag, ln, &mut out[15..]);
+}
+
+// Writes `count` blocks of the message, past its first `skip`; the message starts at block 1.
+fn put_command(message: &[u8], number: [u8; 8], skip: usize, count: usize, out: &mut [u8])
+    requires { ⌜ Fills (now message) skip count × (13 + 18 * count ≤ length (now out)) ⌝ }
+    ensures { λ _. ⌜ now (out .exit) ≡ messageCommand number (now (message .entry)) skip count ++ drop (13 + 18 * count) (now (out .entry)) ⌝ }
+{
+    let first = Block(1 + skip);
+    let at = 13 + 2 * count;
+    let size = 16 * count;
+    put_opening(number, count, out);
+    put_names(first, count, &mut out[13..]);
+    fill_blocks(&message[16 * skip..], size, &mut out[at..]);
+}
+
+// Writes all blocks of the message, `w` to a command, in `turns` commands.
+fn put_message(message: &[u8], number: [u8; 8], w: usize, turns: usize, out: &mut [u8])
+    requires { ⌜ Dealt (blocksFor (length (now message))) w turns × (13 * turns + 18 * blocksFor (length (now message)) ≤ length (now out)) ⌝ }
+    ensures { λ _. ⌜ now (out .exit) ≡ messageCommands number (now (message .entry)) w turns ++ drop (13 * turns + 18 * blocksFor (length (now (message .entry)))) (now (out .entry)) ⌝ }
+{
+    let k = space::blocks_for(message.len());
+    let mut at = 0usize;
+    let mut skip = 0usize;
+    let mut t = 0usize;
+    while t < turns {
+        let count = numbers::smaller(w, k - skip);
+        put_command(message, number, skip, count, &mut out[at..]);
+        at += 13 + 18 * count;
+        skip += w;
+        t += 1;
+    }
+}
+
+// ---- the list
+
+// Lays the list: block 0 with WriteFlag 0Fh and Ln as it was, the message's blocks, block 0 with WriteFlag 00h and the new Ln.
+fn put_list(
+    image: &[u8],
+    message: &[u8],
+    number: [u8; 8],
+    ln: usize,
+    w: usize,
+    turns: usize,
+    list: &mut [u8],
+)
+    requires { ⌜ Listing (now image) (now message) ln w turns (length (now list)) ⌝ }
+    ensures { λ _. ⌜ now (list .exit) ≡ listAs number (now (image .entry)) (now (message .entry)) ln w turns ++ drop (62 + 13 * turns + 18 * blocksFor (length (now (message .entry)))) (now (list .entry)) ⌝ }
+{
+    let n = message.len();
+    let k = space::blocks_for(n);
+    let last = 31 + 13 * turns + 18 * k;
+    put_attributes(image, number, 0x0F, ln, list);
+    put_message(message, number, w, turns, &mut list[31..]);
+    put_attributes(image, number, 0x00, n, &mut list[last..]);
+}
+
+// How many commands `k` blocks take, `w` to a command.
+fn turns_for(k: usize, w: usize) -> usize
+    requires { ⌜ (k ≤ 255) × (0 < w) × (w ≤ 8) ⌝ }
+    ensures is { λ r. ⌜ r ≡ (k + (w - 1)) / w ⌝ }
+    ensures dealt { λ r. ⌜ Dealt k w r ⌝ }
+{
+    (k + (w - 1)) / w
+}
+
+// Refusals 9 to 12, or the list, for a tag that reads.
+fn write_to(
+    image: &[u8],
+    message: &[u8],
+    number: [u8; 8],
+    a: Attributes,
+    list: &mut [u8],
+) -> CountAnswer
+    requires { ⌜ Readable (now image) a ⌝ }
+    ensures answer { λ r. ⌜ countAs r ≡ countOf (write (type3 number) (length (now (list .entry))) (now (image .entry)) (now (message .entry))) ⌝ }
+    ensures buffer { λ _. ⌜ now (list .exit) ≡ outputInto (now (list .entry)) (write (type3 number) (length (now (list .entry))) (now (image .entry)) (now (message .entry))) ⌝ }
+{
+    let n = message.len();
+    let refusal = space::refusal(a, n);
+    if refusal != 0 {
+        return CountAnswer::Refused(refusal);
+    }
+    let k = space::blocks_for(n);
+    let w = numbers::smaller(a.nbw, 8);
+    let turns = turns_for(k, w);
+    if list.len() < 62 + 13 * turns + 18 * k {
+        return CountAnswer::Refused(12);
+    }
+    let ln = a.ln;
+    put_list(image, message, number, ln, w, turns, list);
+    let count = 2 + turns;
+    CountAnswer::Count(count)
+}
+
+// Writes the list for the message to the front of `list`, and answers with the number of its commands.
+pub fn write(image: &[u8], message: &[u8], number: &[u8; 8], list: &mut [u8]) -> CountAnswer
+    ensures answer { λ r. ⌜ countAs r ≡ countOf (write (type3 (now (number .entry))) (length (now (list .entry))) (now (image .entry)) (now (message .entry))) ⌝ }
+    ensures buffer { λ _. ⌜ now (list .exit) ≡ outputInto (now (list .entry)) (write (type3 (now (number .entry))) (length (now (list .entry))) (now (image .entry)) (now (message .entry))) ⌝ }
+{
+    let checked = read::attributes_of(image);
+    match checked {
+        Checked::Fault(n) => CountAnswer::Refused(n),
+        Checked::Fine(a) => write_to(image, message, *number, a, list),
+    }
+}
