@@ -8,8 +8,7 @@ use tag::ModelAnswer;
 ghost use mathlib.Core.Path.{_≡_};
 ghost use lib.ListN.{length};
 ghost use Rattle.tag.specs.Stores.{done};
-ghost use Rattle.tag.specs.Answers.{modelAs, storingOf};
-ghost use Rattle.tag.specs.Model.{model, imageAfter};
+ghost use Rattle.tag.specs.Contracts.{Took};
 ghost use Rattle.type3.specs.Codec.{commandOf};
 ghost use Rattle.type3.specs.CodecViews.{isCommand};
 ghost use Rattle.type3.specs.Type3.{type3};
@@ -39,8 +38,7 @@ pub fn take_command(
 
 // Reading's refusals, then 20; else the blocks that the command names are stored, protected or not.
 pub fn model(image: &mut [u8], number: &[u8; 8], command: &[u8]) -> ModelAnswer
-    ensures answer { λ r. ⌜ modelAs r ≡ storingOf (model (type3 (now (number .entry))) (now (image .entry)) (now (command .entry))) ⌝ }
-    ensures stored { λ _. ⌜ now (image .exit) ≡ imageAfter (now (image .entry)) (model (type3 (now (number .entry))) (now (image .entry)) (now (command .entry))) ⌝ }
+    ensures { λ r. ⌜ Took (type3 (now (number .entry))) (now (image .entry)) (now (command .entry)) r (now (image .exit)) ⌝ }
 {
     let checked = read::attributes_of(image);
     match checked {

@@ -79,7 +79,8 @@ fn sized(image: &[u8]) -> Checked
     ensures known { λ r. ⌜ Known (now (image .entry)) r ⌝ }
 {
     let nmaxb = numbers::word(image, 3);
-    if image.len() < 16 * (1 + nmaxb) {
+    let end = Block(1 + nmaxb).address(16);
+    if image.len() < end.0 {
         return Checked::Fault(5);
     }
     let ln = 65536 * numbers::wide(image[11]) + numbers::word(image, 12);

@@ -55,7 +55,7 @@ span-is list at b e = ap (λ x. 13 + 18 * x) e ∙ sym (span-at list at)
 
 -- ---- what the tag takes them for, by the Nbw and the Nmaxb that the code has
 
-module _ {number i m old : List ℕ} {had : Bool} {nbw nmaxb : ℕ} {set : List ℕ} {size : ℕ} (k : Judging number i m old had nbw nmaxb set size) (bytes : List ℕ) where
+module _ (number : List ℕ) {i m old : List ℕ} {had : Bool} {nbw nmaxb : ℕ} {set : List ℕ} {size : ℕ} (k : Judging i m old had nbw nmaxb set size) (bytes : List ℕ) where
   taken-by : decodeFor size number nbw nmaxb bytes ≡ decode number (byte i 2) (nmaxbOf i) bytes
   taken-by =
       decode-by size number nbw nmaxb bytes i (k .marked .admitted .nbw-is) (k .marked .admitted .nmaxb-is)

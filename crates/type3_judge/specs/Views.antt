@@ -42,6 +42,6 @@ pub record Marked (i m : List ℕ) (nbw nmaxb : ℕ) (set : List ℕ) (size : �
   pub marks : (a : ℕ) → a < length i → eqb (byte set a) 0 ≡ protected (plan i m) a
 
 -- and the old message is known
-pub record Judging (number i m old : List ℕ) (had : Bool) (nbw nmaxb : ℕ) (set : List ℕ) (size : ℕ) : Type 0 where
+pub record Judging (i m old : List ℕ) (had : Bool) (nbw nmaxb : ℕ) (set : List ℕ) (size : ℕ) : Type 0 where
   pub marked : Marked i m nbw nmaxb set size
   pub old-is : oldHeld had old ≡ heldOf (reading i)

@@ -2,6 +2,7 @@
 
 use crate::marks;
 use crate::steps;
+use tag::Block;
 use tag::JudgeAnswer;
 use tag::holding;
 use tag::slices;
@@ -11,8 +12,10 @@ use type3::read::Checked;
 use type3::space;
 ghost use mathlib.Core.Path.{_≡_};
 ghost use mathlib.Core.List.{map};
+ghost use Prim.Native.Nat.{_*_, _≤_};
 ghost use lib.ListN.{length};
-ghost use Rattle.tag.specs.Judge.{judge, judged, task};
+ghost use Rattle.tag.specs.Judge.{judge, task};
+ghost use Rattle.tag.specs.Contracts.{Judged};
 ghost use Rattle.tag.specs.TagType.{cutUp};
 ghost use Rattle.tag.specs.Answers.{verdictAs};
 ghost use Rattle.type3.specs.Codec.{span};
@@ -33,7 +36,7 @@ fn judge_list(
     set: &[u8],
     work: &mut [u8],
 ) -> JudgeAnswer
-    requires { ⌜ Judging (now number) (now image) (now message) (now old) had nbw nmaxb (now set) (length (now work)) ⌝ }
+    requires { ⌜ Judging (now image) (now message) (now old) had nbw nmaxb (now set) (length (now work)) ⌝ }
     ensures { λ r. ⌜ verdictAs r ≡ judge (task (type3 (now (number .entry))) (now (image .entry)) (now (message .entry))) 0 (now (work .entry)) (map ((type3 (now (number .entry)) .command) (now (image .entry))) (cutUp span (length (now (list .entry))) (now (list .entry)))) ⌝ }
 {
     let mut at = 0usize;
@@ -106,11 +109,12 @@ fn judge_marked(
     nmaxb: usize,
     set: &mut [u8],
 ) -> JudgeAnswer
-    requires { ⌜ Admitted (now image) nbw nmaxb × (length (now set) ≡ 4096) ⌝ }
+    requires { ⌜ Admitted (now image) nbw nmaxb × (length (now message) ≤ 16 * nmaxb) × (length (now set) ≡ 4096) ⌝ }
     ensures { λ r. ⌜ verdictAs r ≡ judge (task (type3 (now (number .entry))) (now (image .entry)) (now (message .entry))) 0 (now (image .entry)) (map ((type3 (now (number .entry)) .command) (now (image .entry))) (cutUp span (length (now (list .entry))) (now (list .entry)))) ⌝ }
 {
     let blocks = space::blocks_for(message.len());
-    marks::mark(16 + 16 * blocks, set);
+    let end = Block(1 + blocks).address(16);
+    marks::mark(end, set);
     let size = image.len();
     let mut work = [0u8; 4096];
     judge_copy(
@@ -134,7 +138,7 @@ fn judge_readable(
     a: Attributes,
 ) -> JudgeAnswer
     requires { ⌜ Readable (now image) a ⌝ }
-    ensures { λ r. ⌜ verdictAs r ≡ judged (type3 (now (number .entry))) (now (image .entry)) (now (message .entry)) (now (list .entry)) ⌝ }
+    ensures { λ r. ⌜ Judged (type3 (now (number .entry))) (now (image .entry)) (now (message .entry)) (now (list .entry)) r ⌝ }
 {
     let refusal = space::refusal(a, message.len());
     if refusal != 0 {
@@ -148,7 +152,7 @@ fn judge_readable(
 
 // Judges a list of commands for the tag and the new message.
 pub fn judge(image: &[u8], message: &[u8], number: &[u8; 8], list: &[u8]) -> JudgeAnswer
-    ensures { λ r. ⌜ verdictAs r ≡ judged (type3 (now (number .entry))) (now (image .entry)) (now (message .entry)) (now (list .entry)) ⌝ }
+    ensures { λ r. ⌜ Judged (type3 (now (number .entry))) (now (image .entry)) (now (message .entry)) (now (list .entry)) r ⌝ }
 {
     let checked = read::attributes_of(image);
     match checked {

@@ -1,5 +1,6 @@
 // The addresses that writing a message sets: 9, and 11 up to the end of the message's last block.
 
+use tag::Address;
 ghost use mathlib.Core.Path.{_≡_};
 ghost use Prim.Native.Nat.{ℕ, _<_};
 ghost use lib.ListN.{length};
@@ -23,13 +24,14 @@ fn mark_of(a: usize, end: usize) -> u8
 }
 
 // Gives every entry of `set` the mark of its address.
-pub(crate) fn mark(end: usize, set: &mut [u8])
+pub(crate) fn mark(end: Address, set: &mut [u8])
     ensures size { λ _. ⌜ length (now (set .exit)) ≡ length (now (set .entry)) ⌝ }
-    ensures marked { λ _. ⌜ ((a : ℕ) → a < length (now (set .entry)) → byte (now (set .exit)) a ≡ markAt end a) ⌝ }
+    ensures marked { λ _. ⌜ ((a : ℕ) → a < length (now (set .entry)) → byte (now (set .exit)) a ≡ markAt (end .0) a) ⌝ }
 {
+    let stop = end.0;
     let mut a = 0usize;
     while a < set.len() {
-        set[a] = mark_of(a, end);
+        set[a] = mark_of(a, stop);
         a += 1;
     }
 }

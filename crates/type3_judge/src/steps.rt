@@ -63,7 +63,7 @@ pub(crate) fn step(
     set: &[u8],
     work: &mut [u8],
 ) -> u8
-    requires { ⌜ Judging (now number) (now image) (now message) (now old) had nbw nmaxb (now set) (length (now work)) ⌝ }
+    requires { ⌜ Judging (now image) (now message) (now old) had nbw nmaxb (now set) (length (now work)) ⌝ }
     ensures is { λ r. ⌜ r ≡ fault (task (type3 (now (number .entry))) (now (image .entry)) (now (message .entry))) (now (work .entry)) ((type3 (now (number .entry)) .command) (now (image .entry)) (now (command .entry))) ⌝ }
     ensures leaves { λ _. ⌜ now (work .exit) ≡ done (now (work .entry)) ((type3 (now (number .entry)) .command) (now (image .entry)) (now (command .entry))) ⌝ }
 {

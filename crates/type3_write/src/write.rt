@@ -13,8 +13,7 @@ ghost use mathlib.Core.List.{[], _∷_, _++_};
 ghost use Prim.Native.Nat.{_+_, _-_, _*_, _/_, _<_, _≤_};
 ghost use lib.ListN.{length, drop};
 ghost use Rattle.tag.specs.Bytes.{run};
-ghost use Rattle.tag.specs.TagType.{write, outputInto};
-ghost use Rattle.tag.specs.Answers.{countOf, countAs};
+ghost use Rattle.tag.specs.Contracts.{Wrote};
 ghost use Rattle.type3.specs.Update.{blocksFor};
 ghost use Rattle.type3.specs.Codec.{namesBytes, opening};
 ghost use Rattle.type3.specs.Type3.{type3};
@@ -181,8 +180,7 @@ fn write_to(
     list: &mut [u8],
 ) -> CountAnswer
     requires { ⌜ Readable (now image) a ⌝ }
-    ensures answer { λ r. ⌜ countAs r ≡ countOf (write (type3 number) (length (now (list .entry))) (now (image .entry)) (now (message .entry))) ⌝ }
-    ensures buffer { λ _. ⌜ now (list .exit) ≡ outputInto (now (list .entry)) (write (type3 number) (length (now (list .entry))) (now (image .entry)) (now (message .entry))) ⌝ }
+    ensures { λ r. ⌜ Wrote (type3 number) (now (image .entry)) (now (message .entry)) (now (list .entry)) r (now (list .exit)) ⌝ }
 {
     let n = message.len();
     let refusal = space::refusal(a, n);
@@ -203,8 +201,7 @@ fn write_to(
 
 // Writes the list for the message to the front of `list`, and answers with the number of its commands.
 pub fn write(image: &[u8], message: &[u8], number: &[u8; 8], list: &mut [u8]) -> CountAnswer
-    ensures answer { λ r. ⌜ countAs r ≡ countOf (write (type3 (now (number .entry))) (length (now (list .entry))) (now (image .entry)) (now (message .entry))) ⌝ }
-    ensures buffer { λ _. ⌜ now (list .exit) ≡ outputInto (now (list .entry)) (write (type3 (now (number .entry))) (length (now (list .entry))) (now (image .entry)) (now (message .entry))) ⌝ }
+    ensures { λ r. ⌜ Wrote (type3 (now (number .entry))) (now (image .entry)) (now (message .entry)) (now (list .entry)) r (now (list .exit)) ⌝ }
 {
     let checked = read::attributes_of(image);
     match checked {

@@ -11,20 +11,20 @@ use Rattle.type3.proofs.read.sized.Tie as tie
 
 returns : tie.Need-returns
 returns c =
-    let i = c .before .before .before .args .image .now in
+    let i = c .before .before .before .before .before .args .image .now in
     let past : length i < 16 * (1 + nmaxbOf i) = omega arith in
     (rw (lt-leb _ _ past), tt)
 
 returns-2 : tie.Need-returns-2
 returns-2 c =
-    let i = c .before .before .before .before .before .before .before .args .image .now in
+    let i = c .before .before .before .before .before .before .before .before .before .args .image .now in
     let reach : 16 * (1 + nmaxbOf i) ≤ length i = omega arith in
     let long : 16 * nmaxbOf i < attributes i .ln = omega arith in
     (rw (le-leb _ _ reach, lt-leb _ _ long), tt)
 
 returns-3 : tie.Need-returns-3
 returns-3 c =
-    let i = c .before .before .before .before .before .before .before .before .before .before .before .args .image .now in
+    let i = c .before .before .before .before .before .before .before .before .before .before .before .before .before .args .image .now in
     let reach : 16 * (1 + nmaxbOf i) ≤ length i = omega arith in
     let short : attributes i .ln ≤ 16 * nmaxbOf i = omega arith in (
       rw (le-leb _ _ reach, le-leb _ _ short),
@@ -34,7 +34,7 @@ returns-3 c =
         ln-is = omega arith;
         busy-is = refl;
         writable-is = c .may-write .ensures;
-        whole = c .before .before .before .before .before .before .before .before .before .before .before .pre;
+        whole = c .before .before .before .before .before .before .before .before .before .before .before .before .before .pre;
         reach = search needs;
         ln-fits = omega arith;
       },
@@ -46,7 +46,7 @@ sized-spec =
     (tie.spec
     (λ c κs. search needs)
     (λ c. search needs)
-    (λ c. search needs)
+    (λ c κs. search needs)
     returns
     (λ c. search needs)
     (λ c κs. search needs)

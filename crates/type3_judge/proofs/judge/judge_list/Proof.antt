@@ -29,7 +29,7 @@ step-requires : tie.Need-step-requires Inv-loop μ-loop
 step-requires c κs =
     let a = c .before .before .before .before .before .before .before .before .before .before .before .args in
     let l = c .before .before .before .before .loop in
-    subst (Judging (a .number .now) (a .image .now) (a .message .now) (a .old .now) (a .had) (a .nbw) (a .nmaxb) (a .set .now)) (sym (l .inv .2)) (c .before .before .before .before .before .before .before .before .before .before .before .pre)
+    subst (Judging (a .image .now) (a .message .now) (a .old .now) (a .had) (a .nbw) (a .nmaxb) (a .set .now)) (sym (l .inv .2)) (c .before .before .before .before .before .before .before .before .before .before .before .pre)
 
 returns : tie.Need-returns Inv-loop μ-loop
 returns c =

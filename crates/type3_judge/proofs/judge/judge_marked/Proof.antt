@@ -1,9 +1,10 @@
 -- `judge::judge_marked` meets its contract. Assumes nothing.
-use mathlib.Core.Path.{ap, _∙_}
+use mathlib.Core.Path.{_≡_, ap, _∙_}
 use Prim.Native.Nat.{_+_, _*_}
 use native.Mathlib.Omega.{arith}
 use lib.Dec.{eqb}
-use lib.ListN.{length-take}
+use lib.ListN.{length, length-take}
+use Rattle.type3.specs.Update.{blocksFor}
 use Rattle.type3_judge.specs.Views.{markAt}
 use Rattle.type3_judge.proofs.Marking.{marks-are}
 use borrow.Author.Needs.{needs}
@@ -15,15 +16,18 @@ slice-aggregate-judge-copy c = simp length-take (omega arith)
 
 judge-copy-requires : tie.Need-judge-copy-requires
 judge-copy-requires c κs =
-    let a = c .before .before .before .before .before .before .before .before .before .before .before .args in
-    let p = c .before .before .before .before .before .before .before .before .before .before .before .pre in
-    let blocks = c .before .before .before .before .before .before .blocks-for .ensures in
+    let s = c .before .before .before .before .before .before .before .before .before .before .before .before in
+    let a = s .args in
+    let p = s .pre in
     let m = c .before .before .before .before .mark .ensures in
+    let end = c .before .before .before .before .before .before .address in
+    let blocks = c .before .before .before .before .before .before .before .blocks-for .ensures in
+    let past : end .result .0 ≡ 16 + 16 * blocksFor (length (a .message .now)) = omega (arith, end .ensures, blocks) in
     record {
       admitted = p .0;
       same-size = simp length-take (omega arith);
       marks-size = omega (arith, m .0, p .0 .most);
-      marks = λ x u. ap (λ v. eqb v 0) (m .1 x (omega (arith, p .0 .most)) ∙ ap (λ k. markAt (16 + 16 * k) x) blocks) ∙ marks-are (a .image .now) (a .message .now) x;
+      marks = λ x u. ap (λ v. eqb v 0) (m .1 x (omega (arith, p .0 .most)) ∙ ap (λ z. markAt z x) past) ∙ marks-are (a .image .now) (a .message .now) x;
     }
 
 pub judge-marked-spec : {M : Type 1} → statement M

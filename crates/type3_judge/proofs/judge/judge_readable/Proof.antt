@@ -1,9 +1,14 @@
 -- `judge::judge_readable` meets its contract. Assumes nothing.
 use mathlib.Core.Path.{_≡_, sym, ap, _∙_}
+use Prim.Native.Nat.{_*_}
+use native.Mathlib.Omega.{arith}
 use borrow.Author.Needs.{needs}
+use borrow.Author.Tests.{leb-true}
+use lib.ListN.{length}
 use Rattle.tag.specs.TagType.{written, writing}
 use Rattle.tag.specs.Judge.{judgeBy}
 use Rattle.tag.proofs.Laws.{written-ready, ready-reads}
+use Rattle.type3.specs.Attributes.{nmaxbOf}
 use Rattle.type3.specs.Update.{plan}
 use Rattle.type3.specs.Type3.{type3}
 use Rattle.type3.proofs.Refusing.{writing-refused, writing-planned}
@@ -39,6 +44,7 @@ judge-marked-requires c κs =
         reach = k .reach;
         most = k .whole .most;
       },
+      omega (arith, k .nmaxb-is, leb-true (length (a .message .now)) (16 * nmaxbOf (a .image .now)) (ready .room)),
       search needs,
     )
 

@@ -11,11 +11,11 @@ use Rattle.type3_judge.proofs.marks.mark.Statement.{statement}
 use Rattle.type3_judge.proofs.marks.mark.Tie as tie
 
 abbrev Inv-loop : tie.InvT-loop
-Inv-loop end set₀ a₀ set a =
-    (a ≤ length set₀) × (length set ≡ length set₀) × ((b : ℕ) → b < a → byte set b ≡ markAt end b)
+Inv-loop set₀ stop a₀ set a =
+    (a ≤ length set₀) × (length set ≡ length set₀) × ((b : ℕ) → b < a → byte set b ≡ markAt stop b)
 
 abbrev μ-loop : tie.MeasureT-loop
-μ-loop end set₀ a₀ set a = length set₀ - a
+μ-loop set₀ stop a₀ set a = length set₀ - a
 
 loop-holds : tie.Need-loop-holds Inv-loop μ-loop
 loop-holds c = (search needs, refl, λ b u. absurd (omega arith))
@@ -23,7 +23,7 @@ loop-holds c = (search needs, refl, λ b u. absurd (omega arith))
 loop-again : tie.Need-loop-again Inv-loop μ-loop
 loop-again c =
     let l = c .before .before .loop in
-    let end = c .before .before .before .before .args .end in
+    let end = c .before .before .before .before .args .end .0 in
     let e = c .mark-of .ensures in (
       search needs,
       length-set (l .set) (l .a) (c .mark-of .result) ∙ l .inv .1,
