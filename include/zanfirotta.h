@@ -129,9 +129,9 @@ uint64_t zan_type2_decode(const uint8_t *bytes, size_t bytes_len, uint64_t block
 uint64_t zan_type3_read(const uint8_t *image, size_t image_len, uint64_t out[5]);
 
 /*
- * Puts the commands that write the message on a Type 3 tag end to end into list; number is the
- * manufacturer number that they carry, and byte 12 of a command its block count b, by which it
- * has 13 + 18 * b bytes. Gives the number of commands. Refusals: 1 to 5, 7, 9 to 12.
+ * Puts the commands (Update) that write the message on a Type 3 tag end to end into list; number is
+ * the manufacturer number (IDm) that they carry, and byte 12 of a command its block count b, by
+ * which it has 13 + 18 * b bytes. Gives the number of commands. Refusals: 1 to 5, 7, 9 to 12.
  */
 uint64_t zan_type3_write(const uint8_t *image, size_t image_len, const uint8_t *message,
                          size_t message_len, const uint8_t number[8], uint8_t *list,

@@ -6,7 +6,6 @@ use mathlib.Core.List.{List}
 use Prim.Native.Nat.{ℕ, _/_}
 use native.Mathlib.Omega.{arith}
 use lib.ListN.{length}
-use Rattle.tag.specs.Stores.{Command}
 use Rattle.tag.specs.Cuts.{Ready}
 use Rattle.tag.proofs.Blocks.{block-of}
 use Rattle.tag.proofs.Counts.{length-single}
@@ -17,8 +16,8 @@ use Rattle.tlv.specs.Update.{usable, content, lengthAt}
 use Rattle.tlv.proofs.Field.{first-set}
 use Rattle.tlv.proofs.Writes as writes
 use Rattle.type2.specs.Memory.{memory}
-use Rattle.type2.specs.Codec.{decode, commandOf, encoded}
-use Rattle.type2.specs.Type2.{type2}
+use Rattle.type2.specs.Codec.{encoded}
+use Rattle.type2.specs.Type2.{command, span, type2}
 use Rattle.type2.proofs.Memory.{memory-laws}
 use Rattle.type2.proofs.Laws.{type2-laws}
 use Rattle.type3.specs.Type3.{type3}
@@ -34,12 +33,6 @@ use Rattle.demands.proofs.ByContract.{by-contract}
 use Rattle.demands.proofs.Codecs.{codec-2, codec-3}
 
 -- ---- Type 2
-
-abbrev command : List ℕ → List ℕ → Command
-command i bs = commandOf (decode (length i / 4) bs)
-
-abbrev span : List ℕ → ℕ
-span bs = 6
 
 pub type2-demand2 : Demand2 type2
 type2-demand2 = demand2.claim type2 type2-laws

@@ -4,6 +4,7 @@ pub mod holding;
 pub mod kept;
 pub mod numbers;
 pub mod slices;
+pub mod version;
 
 ghost use mathlib.Core.Path.{_≡_};
 ghost use Prim.Native.Nat.{_*_, _/_, _^_, _<_};

@@ -6,7 +6,7 @@ ghost use lib.ListN.{length};
 ghost use Rattle.tag.specs.Bytes.{byte};
 ghost use Rattle.tag.specs.Numbers.{sumTo};
 
-// A byte as a number to compute with.
+// A byte as a number to compute with. The contract brings the bound with it, which `as` leaves to each proof.
 pub fn wide(x: u8) -> usize
     ensures { λ r. ⌜ (r ≡ x) × (r < 256) ⌝ }
 {

@@ -4,7 +4,7 @@
 use mathlib.Core.Path.{_≡_, sym, ap, _∙_, subst}
 use mathlib.Core.Bool.{Bool}
 use mathlib.Core.List.{List}
-use Prim.Native.Nat.{ℕ, _-_, _*_, _/_}
+use Prim.Native.Nat.{ℕ, _-_, _*_}
 use native.Mathlib.Omega.{arith}
 use lib.ListN.{length}
 use Rattle.tag.specs.declared.Address.{Address}
@@ -21,14 +21,14 @@ use Rattle.tlv_tag.specs.Reading.{areaView}
 use Rattle.type2.specs.declared.container.DataArea as code
 use Rattle.type2.specs.declared.container.DataArea.the-variants as answer
 use Rattle.type2.specs.Memory.{memory}
-use Rattle.type2.specs.Codec.{decode, commandOf, encoded}
-use Rattle.type2.specs.Type2.{type2}
+use Rattle.type2.specs.Codec.{encoded}
+use Rattle.type2.specs.Type2.{command, span, type2}
 use Rattle.type2.specs.Views.{checkedAs, Inside, Known}
 
 by-view : (i m : List ℕ) (v : View) → viewed memory i ≡ v
     → writing type2 i m ≡ writingIn 4 i m (spaceOf ((memory .writable) i) (length m) v)
 by-view i m v e =
-    writing-space memory (λ j bs. commandOf (decode (length j / 4) bs)) (λ bs. 6) encoded i m
+    writing-space memory command span encoded i m
     ∙ ap (λ x. writingIn 4 i m (spaceOf ((memory .writable) i) (length m) x)) e
 
 -- the capability container is sound

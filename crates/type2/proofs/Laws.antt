@@ -8,7 +8,7 @@ use native.Mathlib.Omega.{arith}
 use borrow.Author.Tests.{leb-true, ltb-true, le-leb, lt-ltb}
 use lib.Dec.{leb, ltb}
 use lib.ListN.{length}
-use Rattle.tag.specs.Stores.{Store, Command}
+use Rattle.tag.specs.Stores.{Store}
 use Rattle.tag.specs.Plan.{inBlock, list}
 use Rattle.tag.specs.Cuts.{Ready}
 use Rattle.tag.proofs.Logic.{and-l, and-r, and-both}
@@ -24,15 +24,9 @@ use Rattle.tlv.proofs.Writes as writes
 use Rattle.tlv.proofs.Shown.{wordless, in-place}
 use Rattle.type2.specs.Memory.{memory}
 use Rattle.type2.specs.Codec.{nameable, decode, commandOf, encoded}
-use Rattle.type2.specs.Type2.{type2}
+use Rattle.type2.specs.Type2.{command, span, type2}
 use Rattle.type2.proofs.Memory.{memory-laws, before-is, short-image}
 use Rattle.type2.proofs.Codec.{Sendable, sent, length-sent}
-
-abbrev command : List ℕ → List ℕ → Command
-command i bs = commandOf (decode (length i / 4) bs)
-
-abbrev span : List ℕ → ℕ
-span bs = 6
 
 module _ (i m : List ℕ) (r : Ready type2 i m) where
   -- the usable addresses after the type byte, and what is known of the message TLV

@@ -1,6 +1,7 @@
 // The capability container: refusals 1 to 5, and the data area.
 
 use tag::Address;
+use tag::version;
 ghost use mathlib.Core.Path.{_≡_};
 ghost use lib.ListN.{length, drop};
 ghost use Prim.Native.Nat.{_≤_};
@@ -8,7 +9,10 @@ ghost use Rattle.tag.specs.Checks.{firstOf};
 ghost use Rattle.type2.specs.Memory.{memory};
 ghost use Rattle.type2.specs.Views.{checkedAs, Known};
 
-// A refusal; or the end of the data area, which begins at 16, and whether the tag is writable.
+// The data area's first address.
+pub const FIRST: usize = 16;
+
+// A refusal; or the end of the data area, and whether the tag is writable.
 pub enum DataArea {
     Refused(u8),
     Inside(Address, bool),
@@ -21,7 +25,7 @@ fn area(image: &[u8], writable: bool) -> DataArea
     ensures known { λ r. ⌜ Known (now (image .entry)) writable r ⌝ }
 {
     let size = image[14] as usize;
-    let end = 16 + 8 * size;
+    let end = FIRST + 8 * size;
     if image.len() < end {
         return DataArea::Refused(5);
     }
@@ -46,7 +50,7 @@ pub fn data_area(image: &[u8]) -> DataArea
     if image[12] != 0xE1 {
         return DataArea::Refused(2);
     }
-    if image[13] != 0x10 {
+    if !version::is_known(image[13]) {
         return DataArea::Refused(3);
     }
     if image[15] == 0x00 {

@@ -23,7 +23,14 @@ fn read_with(image: &[u8], gathered: &mut [u8], table: &mut [u16]) -> ReadAnswer
     match container::data_area(image) {
         DataArea::Refused(r) => ReadAnswer::Refused(r),
         DataArea::Inside(end, writable) => {
-            tlv_tag::read::read_area(image, gathered, table, Address(16), end, writable)
+            tlv_tag::read::read_area(
+                image,
+                gathered,
+                table,
+                Address(container::FIRST),
+                end,
+                writable,
+            )
         }
     }
 }
@@ -52,7 +59,12 @@ fn refusal_with(image: &[u8], table: &mut [u16]) -> u8
 {
     match container::data_area(image) {
         DataArea::Refused(r) => r,
-        DataArea::Inside(end, _) => tlv_tag::read::area_refusal(image, table, Address(16), end),
+        DataArea::Inside(end, _) => tlv_tag::read::area_refusal(
+            image,
+            table,
+            Address(container::FIRST),
+            end,
+        ),
     }
 }
 

@@ -131,7 +131,14 @@ fn judge_area(
     requires { ⌜ Clear (now table) × Inside (now image) (end .0) writable ⌝ }
     ensures { λ r. ⌜ Judged type2 (now (image .entry)) (now (message .entry)) (now (list .entry)) r ⌝ }
 {
-    match space::find_space(image, message.len(), table, Address(16), end, writable) {
+    match space::find_space(
+        image,
+        message.len(),
+        table,
+        Address(container::FIRST),
+        end,
+        writable,
+    ) {
         Space::Refused(r) => JudgeAnswer::Refused(r, 0),
         Space::At(w) => judge_space(image, message, list, w, table),
     }

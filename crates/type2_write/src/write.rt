@@ -84,7 +84,14 @@ fn write_inside(
     requires { ⌜ Inside (now image) (end .0) writable × Work (now table) (now marks) × (length (now new) ≡ length (now image)) ⌝ }
     ensures { λ r. ⌜ Wrote type2 (now (image .entry)) (now (message .entry)) (now (list .entry)) r (now (list .exit)) ⌝ }
 {
-    match space::find_space(image, message.len(), table, Address(16), end, writable) {
+    match space::find_space(
+        image,
+        message.len(),
+        table,
+        Address(container::FIRST),
+        end,
+        writable,
+    ) {
         Space::Refused(r) => CountAnswer::Refused(r),
         Space::At(w) => write_at(w, image, message, table, new, marks, list),
     }

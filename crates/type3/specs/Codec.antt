@@ -1,5 +1,6 @@
--- Type 3's write command as bytes: 08h, the eight-byte manufacturer number, 01h, 09h 00h, the block count b, b block names,
--- 16·b bytes. The codec is told our number, Nbw and Nmaxb.
+-- Type 3's write command, called Update in the NFC Forum's paper, as bytes: its code 08h; the eight-byte manufacturer number
+-- (IDm); 01h, the number of services; 09h 00h, the service's code, low byte first; the block count b; b block names (block list
+-- elements); 16·b bytes. The codec is told our number, Nbw and Nmaxb.
 -- Assumes nothing.
 use mathlib.Core.Bool.{Bool, true, not, _&&_, cond}
 use mathlib.Core.List.{List, [], _∷_, _++_, map}

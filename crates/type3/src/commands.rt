@@ -1,5 +1,5 @@
-// The codec of Type 3's write command: 08h, our manufacturer number, 01h, 09h 00h, the block count, a name for each block
-// and its sixteen bytes. It is told our number, Nbw and Nmaxb.
+// The codec of Type 3's write command (Update): 08h, our manufacturer number (IDm), one service and its code, the block count, a
+// name for each block and its sixteen bytes. It is told our number, Nbw and Nmaxb.
 
 use crate::Command;
 use crate::names;

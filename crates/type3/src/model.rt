@@ -4,6 +4,7 @@ use crate::commands;
 use crate::read;
 use crate::read::Checked;
 use crate::stores;
+use tag::Address;
 use tag::ModelAnswer;
 ghost use mathlib.Core.Path.{_≡_};
 ghost use lib.ListN.{length};
@@ -26,7 +27,8 @@ pub fn take_command(
     ensures is { λ r. ⌜ r ≡ isCommand (decodeFor (length (now (image .entry))) (now (number .entry)) nbw nmaxb (now (command .entry))) ⌝ }
     ensures stored { λ _. ⌜ now (image .exit) ≡ done (now (image .entry)) (commandOf (decodeFor (length (now (image .entry))) (now (number .entry)) nbw nmaxb (now (command .entry)))) ⌝ }
 {
-    if image.len() / 16 <= nmaxb {
+    let end = Address(image.len()).block(16);
+    if end.0 <= nmaxb {
         return false;
     }
     if !commands::is_command(command, number, nbw, nmaxb) {

@@ -1,4 +1,4 @@
-// How a command names its blocks: 80h and the block's number, a byte.
+// How a command names its blocks (a block list element each): 80h and the block's number, a byte.
 
 ghost use mathlib.Core.Path.{_≡_};
 ghost use Prim.Native.Nat.{ℕ, _+_, _*_, _<_, _≤_};

@@ -7,6 +7,7 @@ use tag::Report;
 use tag::What;
 use tag::numbers;
 use tag::slices;
+use tag::version;
 ghost use mathlib.Core.Path.{_≡_};
 ghost use mathlib.Core.Bool.{false, _||_};
 ghost use mathlib.Core.List.{[]};
@@ -108,7 +109,7 @@ fn defined(image: &[u8]) -> Checked
     if numbers::sum(image, 14) != numbers::word(image, 14) {
         return Checked::Fault(2);
     }
-    if image[0] != 0x10 {
+    if !version::is_known(image[0]) {
         return Checked::Fault(3);
     }
     if !flags_defined(image) {

@@ -61,7 +61,7 @@ fn judge_list(
         at = next;
         count += 1;
     }
-    if steps::reads_as(work, message) {
+    if steps::holds(work, message) {
         return JudgeAnswer::Accepted(count);
     }
     JudgeAnswer::Refused(23, count)

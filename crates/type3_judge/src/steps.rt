@@ -33,7 +33,7 @@ pub(crate) fn piece_size(list: &[u8], at: usize) -> usize
 }
 
 // Does the tag read as none, as the new message, or as the old one?
-fn reads_safely(work: &[u8], message: &[u8], old: &[u8], had: bool) -> bool
+fn is_safe(work: &[u8], message: &[u8], old: &[u8], had: bool) -> bool
     ensures { λ r. ⌜ r ≡ readsAs (now (message .entry)) (oldHeld had (now (old .entry))) (heldOf (reading (now (work .entry)))) ⌝ }
 {
     let answer = read::read(work);
@@ -42,7 +42,7 @@ fn reads_safely(work: &[u8], message: &[u8], old: &[u8], had: bool) -> bool
 }
 
 // Does the tag read as the message?
-pub(crate) fn reads_as(work: &[u8], message: &[u8]) -> bool
+pub(crate) fn holds(work: &[u8], message: &[u8]) -> bool
     ensures { λ r. ⌜ r ≡ holdsAs (heldOf (reading (now (work .entry)))) (now (message .entry)) ⌝ }
 {
     let answer = read::read(work);
@@ -73,7 +73,7 @@ pub(crate) fn step(
     if !kept::is_kept(image, work, set) {
         return 21;
     }
-    if !reads_safely(work, message, old, had) {
+    if !is_safe(work, message, old, had) {
         return 22;
     }
     0

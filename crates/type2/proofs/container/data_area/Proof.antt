@@ -1,15 +1,30 @@
 -- `container::data_area` meets its contract: the tests that led to each answer pick its case. Assumes nothing.
+use mathlib.Core.Path.{sym, _∙_}
 use borrow.Author.Needs.{needs}
-use borrow.Author.Tests.{eq-eqb, ne-eqb}
+use borrow.Author.Tests.{eq-eqb, ne-eqb, not-true, not-false}
 use Rattle.type2.proofs.Refusing.{not-blocks, too-short, too-long, no-mark, bad-version, bad-access, writable, read-only}
 use Rattle.type2.proofs.container.data_area.Statement.{statement}
 use Rattle.type2.proofs.container.data_area.Tie as tie
 
+returns-5 : tie.Need-returns-5
+returns-5 c =
+    let v = sym (c .before .is-known .ensures) ∙ not-true _ (c .if5 .taken) in
+    (search (bad-version, v), tt)
+
 returns-6 : tie.Need-returns-6
-returns-6 c = (search writable, rw (eq-eqb _ _ (c .before .if6 .taken)) (c .area .ensures .1))
+returns-6 c =
+    let v = sym (c .before .before .before .before .is-known .ensures) ∙ not-false _ (c .before .before .before .if5 .left) in
+    (search (writable, v), rw (eq-eqb _ _ (c .before .if6 .taken)) (c .area .ensures .1))
 
 returns-7 : tie.Need-returns-7
-returns-7 c = (search read-only, rw (ne-eqb _ _ (c .before .before .before .if6 .left)) (c .area2 .ensures .1))
+returns-7 c =
+    let v = sym (c .before .before .before .before .before .before .is-known .ensures) ∙ not-false _ (c .before .before .before .before .before .if5 .left) in
+    (search (read-only, v), rw (ne-eqb _ _ (c .before .before .before .if6 .left)) (c .area2 .ensures .1))
+
+returns-8 : tie.Need-returns-8
+returns-8 c =
+    let v = sym (c .before .before .before .before .before .is-known .ensures) ∙ not-false _ (c .before .before .before .before .if5 .left) in
+    (search (bad-access, v), tt)
 
 pub data-area-spec : {M : Type 1} → statement M
 data-area-spec =
@@ -21,11 +36,12 @@ data-area-spec =
     (λ c. search needs)
     (λ c. (search no-mark, tt))
     (λ c. search needs)
-    (λ c. (search bad-version, tt))
+    (λ c κs. search needs)
+    returns-5
     (λ c. search needs)
     (λ c κs. search needs)
     returns-6
     (λ c. search needs)
     (λ c κs. search needs)
     returns-7
-    (λ c. (search bad-access, tt)))
+    returns-8)

@@ -24,30 +24,32 @@ returns c =
 
 returns-2 : tie.Need-returns-2
 returns-2 c =
-    let i = c .before .before .before .before .before .before .args .image .now in
+    let i = c .before .before .before .before .before .before .before .args .image .now in
     let right : attributes i .sum ≡ attributes i .checksum
-    = sym (sum-is i) ∙ sym (c .before .before .before .before .sum .ensures .0) ∙ c .before .before .if1 .left ∙ c .before .before .before .word .ensures .0 in
-    (rw (eq-eqb _ _ right, ne-eqb _ _ (c .if2 .taken)), tt)
+    = sym (sum-is i) ∙ sym (c .before .before .before .before .before .sum .ensures .0) ∙ c .before .before .before .if1 .left ∙ c .before .before .before .before .word .ensures .0 in
+    (rw (eq-eqb _ _ right, sym (c .before .is-known .ensures) ∙ not-true _ (c .if2 .taken)), tt)
 
 returns-3 : tie.Need-returns-3
 returns-3 c =
-    let i = c .before .before .before .before .before .before .before .before .args .image .now in
-    let right : attributes i .sum ≡ attributes i .checksum
-    = sym (sum-is i)
-    ∙ sym (c .before .before .before .before .before .before .sum .ensures .0)
-    ∙ c .before .before .before .before .if1 .left
-    ∙ c .before .before .before .before .before .word .ensures .0 in
-    (rw (eq-eqb _ _ right, eq-eqb _ _ (c .before .before .if2 .left), sym (c .before .flags-defined .ensures) ∙ not-true _ (c .if3 .taken)), tt)
-
-returns-4 : tie.Need-returns-4
-returns-4 c =
     let i = c .before .before .before .before .before .before .before .before .before .args .image .now in
     let right : attributes i .sum ≡ attributes i .checksum
     = sym (sum-is i)
     ∙ sym (c .before .before .before .before .before .before .before .sum .ensures .0)
     ∙ c .before .before .before .before .before .if1 .left
-    ∙ c .before .before .before .before .before .before .word .ensures .0 in (
-      rw (eq-eqb _ _ right, eq-eqb _ _ (c .before .before .before .if2 .left), sym (c .before .before .flags-defined .ensures) ∙ not-false _ (c .before .if3 .left))
+    ∙ c .before .before .before .before .before .before .word .ensures .0 in
+    let known = sym (c .before .before .before .is-known .ensures) ∙ not-false _ (c .before .before .if2 .left) in
+    (rw (eq-eqb _ _ right, known, sym (c .before .flags-defined .ensures) ∙ not-true _ (c .if3 .taken)), tt)
+
+returns-4 : tie.Need-returns-4
+returns-4 c =
+    let i = c .before .before .before .before .before .before .before .before .before .before .args .image .now in
+    let right : attributes i .sum ≡ attributes i .checksum
+    = sym (sum-is i)
+    ∙ sym (c .before .before .before .before .before .before .before .before .sum .ensures .0)
+    ∙ c .before .before .before .before .before .before .if1 .left
+    ∙ c .before .before .before .before .before .before .before .word .ensures .0 in
+    let known = sym (c .before .before .before .before .is-known .ensures) ∙ not-false _ (c .before .before .before .if2 .left) in (
+      rw (eq-eqb _ _ right, known, sym (c .before .before .flags-defined .ensures) ∙ not-false _ (c .before .if3 .left))
           (c .sized .ensures .0),
       c .sized .ensures .1,
     )
@@ -60,6 +62,7 @@ defined-spec =
     (λ c κs. search needs)
     returns
     (λ c. search needs)
+    (λ c κs. search needs)
     returns-2
     (λ c κs. search needs)
     returns-3

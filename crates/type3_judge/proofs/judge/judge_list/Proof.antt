@@ -65,7 +65,7 @@ returns-2 c =
     sym (
     l .inv .3
     ∙ ap (judge (task (type3 (a .number .now)) (a .image .now) (a .message .now)) (l .count) (l .work)) (from-end (type3 (a .number .now)) (a .image .now) (a .list .now) (l .at) (omega arith))
-    ∙ judge-good (task (type3 (a .number .now)) (a .image .now) (a .message .now)) (l .count) (l .work) (sym (c .before .reads-as .ensures) ∙ c .if2 .taken)
+    ∙ judge-good (task (type3 (a .number .now)) (a .image .now) (a .message .now)) (l .count) (l .work) (sym (c .before .holds .ensures) ∙ c .if2 .taken)
     )
 
 returns-3 : tie.Need-returns-3 Inv-loop μ-loop
@@ -75,7 +75,7 @@ returns-3 c =
     sym (
     l .inv .3
     ∙ ap (judge (task (type3 (a .number .now)) (a .image .now) (a .message .now)) (l .count) (l .work)) (from-end (type3 (a .number .now)) (a .image .now) (a .list .now) (l .at) (omega arith))
-    ∙ judge-bad (task (type3 (a .number .now)) (a .image .now) (a .message .now)) (l .count) (l .work) (sym (c .before .reads-as .ensures) ∙ c .if2 .left)
+    ∙ judge-bad (task (type3 (a .number .now)) (a .image .now) (a .message .now)) (l .count) (l .work) (sym (c .before .holds .ensures) ∙ c .if2 .left)
     )
 
 pub judge-list-spec : {M : Type 1} → statement M

@@ -32,7 +32,7 @@ returns-3 c =
     let t = c .before .before .before .before .before .before .before .before .before .take-command .ensures in
     let (ss, e) = command-stored (a .number .now) (s .pre) (a .command .now) (sym (t .0) ∙ not-false _ (c .before .before .before .before .before .before .if1 .left)) in
     let left = command-left (a .number .now) (s .pre) (a .command .now) (a .work .now) _ (t .1) in
-    (step-misread (type3 (a .number .now)) (a .image .now) (a .message .now) (a .set .now) (a .old .now) (a .had) (s .pre .marked .marks) (s .pre .old-is) (a .work .now) _ _ _ e left (sym (c .before .before .before .before .is-kept .ensures) ∙ not-false _ (c .before .before .before .if2 .left)) (sym (c .before .reads-safely .ensures) ∙ not-true _ (c .if3 .taken)), left)
+    (step-misread (type3 (a .number .now)) (a .image .now) (a .message .now) (a .set .now) (a .old .now) (a .had) (s .pre .marked .marks) (s .pre .old-is) (a .work .now) _ _ _ e left (sym (c .before .before .before .before .is-kept .ensures) ∙ not-false _ (c .before .before .before .if2 .left)) (sym (c .before .is-safe .ensures) ∙ not-true _ (c .if3 .taken)), left)
 
 returns-4 : tie.Need-returns-4
 returns-4 c =
@@ -41,7 +41,7 @@ returns-4 c =
     let t = c .before .before .before .before .before .before .before .before .before .take-command .ensures in
     let (ss, e) = command-stored (a .number .now) (s .pre) (a .command .now) (sym (t .0) ∙ not-false _ (c .before .before .before .before .before .before .if1 .left)) in
     let left = command-left (a .number .now) (s .pre) (a .command .now) (a .work .now) _ (t .1) in
-    (step-none (type3 (a .number .now)) (a .image .now) (a .message .now) (a .set .now) (a .old .now) (a .had) (s .pre .marked .marks) (s .pre .old-is) (a .work .now) _ _ _ e left (sym (c .before .before .before .before .is-kept .ensures) ∙ not-false _ (c .before .before .before .if2 .left)) (sym (c .before .reads-safely .ensures) ∙ not-false _ (c .if3 .left)), left)
+    (step-none (type3 (a .number .now)) (a .image .now) (a .message .now) (a .set .now) (a .old .now) (a .had) (s .pre .marked .marks) (s .pre .old-is) (a .work .now) _ _ _ e left (sym (c .before .before .before .before .is-kept .ensures) ∙ not-false _ (c .before .before .before .if2 .left)) (sym (c .before .is-safe .ensures) ∙ not-false _ (c .if3 .left)), left)
 
 pub step-spec : {M : Type 1} → statement M
 step-spec =

@@ -1,18 +1,18 @@
--- `steps::reads_as` meets its contract. Assumes nothing.
+-- `steps::holds` meets its contract. Assumes nothing.
 use mathlib.Core.Path.{ap, _∙_}
 use Rattle.tag.specs.Judge.{holdsAs}
 use Rattle.type3_judge.proofs.Holding.{held-read}
 use borrow.Author.Needs.{needs}
-use Rattle.type3_judge.proofs.steps.reads_as.Statement.{statement}
-use Rattle.type3_judge.proofs.steps.reads_as.Tie as tie
+use Rattle.type3_judge.proofs.steps.holds.Statement.{statement}
+use Rattle.type3_judge.proofs.steps.holds.Tie as tie
 
 returns : tie.Need-returns
 returns c =
     let a = c .before .before .before .before .before .args in
     c .holds .ensures ∙ ap (λ h. holdsAs h (a .message .now)) (held-read (a .work .now) _ _ (c .before .before .read .ensures) (c .before .shown .ensures))
 
-pub reads-as-spec : {M : Type 1} → statement M
-reads-as-spec = tie.close
+pub holds-spec : {M : Type 1} → statement M
+holds-spec = tie.close
     (tie.spec
     (λ c κs. search needs)
     (λ c κs. search needs)
