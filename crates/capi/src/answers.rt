@@ -7,10 +7,11 @@ use tag::ReadAnswer;
 use tag::Report;
 use tag::What;
 ghost use mathlib.Core.Path.{_≡_};
+ghost use mathlib.Core.List.{[]};
 ghost use Rattle.tag.specs.Answers.{whatOf, readAs, countAs, verdictAs, modelAs};
 ghost use Rattle.capi.specs.Packed.{above, packedCount, packedVerdict, packedStoring, packedRead, kindOf, flagOf, reportInto};
 
-// 2^56, the counts that fit above the low byte.
+// 2^56: a count below it fits above the low byte.
 const COUNTS: usize = 72057594037927936;
 
 // A count or a position, above the low byte.
@@ -65,7 +66,7 @@ fn flag(b: bool) -> u64
 
 // What a tag that reads says of itself, as five numbers.
 fn report(p: Report) -> [u64; 5]
-    ensures { λ r. ⌜ r ≡ reportInto r (readAs (ReadAnswer.Reads p)) ⌝ }
+    ensures { λ r. ⌜ r ≡ reportInto [] (readAs (ReadAnswer.Reads p)) ⌝ }
 {
     let what = p.what;
     let interrupted = p.interrupted;
