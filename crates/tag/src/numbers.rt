@@ -6,7 +6,7 @@ ghost use lib.ListN.{length};
 ghost use Rattle.tag.specs.Bytes.{byte};
 ghost use Rattle.tag.specs.Numbers.{sumTo};
 
-// A byte as a number to compute with. The contract brings the bound with it, which `as` leaves to each proof.
+// A byte as a number to compute with. Unlike `as usize`, it brings its bound with it, and no caller has to show that the byte fits.
 pub fn wide(x: u8) -> usize
     ensures { λ r. ⌜ (r ≡ x) × (r < 256) ⌝ }
 {
@@ -22,7 +22,7 @@ pub fn word(bytes: &[u8], at: usize) -> usize
     256 * wide(bytes[at]) + wide(bytes[at + 1])
 }
 
-// The sum of the first `n` bytes.
+// The sum of the first `n` bytes; of few enough that no caller has to think of overflow.
 pub fn sum(bytes: &[u8], n: usize) -> usize
     requires { ⌜ (n ≤ length (now bytes)) × (n ≤ 16) ⌝ }
     ensures is { λ r. ⌜ r ≡ sumTo (now (bytes .entry)) n ⌝ }

@@ -7,7 +7,8 @@ use Rattle.tag.specs.TagType.{TagType}
 use Rattle.tlv.specs.Message.{TlvTag, reading}
 use Rattle.tlv.specs.Update.{fits, plan}
 
--- by what the tag handed in takes a command's bytes for, how many bytes of a list a command takes, and the bytes of a command
+-- by its TLV area and its commands: what the tag handed in takes a command's bytes for, how many bytes of a list one takes, and a
+-- command's bytes
 abbrev pub tagOf : TlvTag → (List ℕ → List ℕ → Command) → (List ℕ → ℕ) → (List Store → List ℕ) → TagType
 tagOf K command span encoded = record {
   reading = reading K;

@@ -1,4 +1,4 @@
-// Control TLVs: each declares an area, whose addresses whatever comes after the TLV skips.
+// Control TLVs: each declares an area, and everything after the TLV skips the area's addresses.
 
 use crate::area;
 use crate::area::Area;

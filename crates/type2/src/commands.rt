@@ -20,7 +20,7 @@ pub struct Decoded {
     pub command: Command,
 }
 
-// May a command name the block.
+// Whether a command may name the block.
 fn nameable(block: usize, blocks: usize) -> bool
     ensures { λ r. ⌜ r ≡ nameable blocks block ⌝ }
 {

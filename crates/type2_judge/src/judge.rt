@@ -1,5 +1,5 @@
 // Judging: refusals 1 to 11 as writing gives them, then the list. Each array is made by a function that does little else and lends
-// it to the next: a proof about the function that makes an array has all its elements before it, one about a slice has not.
+// it on: where an array is made, a proof carries all its elements; where a slice is lent, it does not.
 
 use crate::steps;
 use tag::Address;

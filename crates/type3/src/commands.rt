@@ -25,7 +25,7 @@ pub struct Decoded {
     pub command: Command,
 }
 
-// May a command name so many blocks.
+// Whether a command may name so many blocks.
 fn countable(count: usize, nbw: usize) -> bool
     ensures { λ r. ⌜ r ≡ leb 1 count && leb count (blocksPerCommand nbw) ⌝ }
 {
@@ -74,7 +74,7 @@ fn put(number: [u8; 8], blocks: &[usize], sixteens: &[u8], bytes: &mut [u8])
     slices::store(sixteens, 13 + 2 * count, bytes);
 }
 
-// May a command name the first `count` of the blocks.
+// Whether a command may name the first `count` of the blocks.
 fn well_named(count: usize, blocks: &[usize], nbw: usize, nmaxb: usize) -> bool
     requires { ⌜ length (now blocks) ≡ 8 ⌝ }
     ensures { λ r. ⌜ r ≡ leb count (length (now (blocks .entry))) && wellNamed nbw nmaxb (take count (now (blocks .entry))) ⌝ }

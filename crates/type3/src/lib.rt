@@ -1,4 +1,5 @@
-// Type 3 tags.
+// Type 3 tags: the attributes, reading, the commands, the model, the refusals of writing. Writing and judging are crates of their
+// own.
 
 pub mod commands;
 pub mod model;

@@ -8,7 +8,7 @@ ghost use Rattle.tag.specs.Bytes.{has};
 ghost use Rattle.type3.specs.Codec.{namesBytes, nameable};
 ghost use Rattle.type3.specs.InPlace.{marked, numbers};
 
-// Whether the block is among them.
+// Whether the block is among `blocks`.
 fn has(blocks: &[usize], block: usize) -> bool
     ensures { λ r. ⌜ r ≡ has block (now (blocks .entry)) ⌝ }
 {

@@ -182,7 +182,8 @@ pub fn read(image: &[u8]) -> ReadAnswer
     }
 }
 
-// The message as a part of the image; empty without one, after a refusal, and where the answer's numbers do not fit or it claims to be interrupted.
+// The message as a part of the image; empty without one, after a refusal, and where the answer's numbers do not fit or it claims
+// to be interrupted.
 pub fn shown(image: &[u8], answer: ReadAnswer) -> &[u8]
     ensures { λ r. ⌜ now r ≡ shown (now (image .entry)) [] (readAs answer) ⌝ }
 {

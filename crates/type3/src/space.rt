@@ -15,7 +15,7 @@ pub fn blocks_for(n: usize) -> usize
     n / 16 + 1
 }
 
-// Refusals 9, 10 and 11, in this order, for a message of `n` bytes; 0 where it goes to blocks 1 and on.
+// Refusals 9, 10 and 11, in this order, for a message of `n` bytes; 0 where it fits, in blocks 1 and on.
 pub fn refusal(a: Attributes, n: usize) -> u8
     ensures { λ r. ⌜ r ≡ refusalFor a n ⌝ }
 {

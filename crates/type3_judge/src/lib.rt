@@ -1,4 +1,4 @@
-// The judge of Type 3 command lists made by anyone.
+// The judge of command lists for Type 3 tags, whoever made them.
 
 pub mod judge;
 mod marks;

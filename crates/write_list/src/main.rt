@@ -12,6 +12,7 @@ fn print_list(list: &[u8], count: usize) {
     let mut at = 0usize;
     let mut left = count;
     while 0 < left {
+        // `write` counts no command that the list does not hold; no contract here says so, and so it is tested
         if list.len() - at < 6 {
             return;
         }
