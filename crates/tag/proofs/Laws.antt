@@ -43,8 +43,6 @@ pub record Laws (T : TagType) : Type 0 where
   pub wordless : (i : List ℕ) (p : Report) → (T .reading) i ≡ reads p → (p .what ≡ message → ⊥) → p .bytes ≡ []
   pub in-place : (i : List ℕ) (p : Report) → (T .reading) i ≡ reads p → p .what ≡ message → p .interrupted ≡ false
       → part (p .address) (length (p .bytes)) i ≡ p .bytes
-  -- a command takes a byte of a list at least
-  pub some-span : (bytes : List ℕ) → 0 < (T .span) bytes
   -- our commands are taken for what they store
   pub sent : (i m : List ℕ) → Ready T i m → Each (Sent T i) (list ((T .plan) i m) i)
 

@@ -83,6 +83,5 @@ type2-laws = record {
   same-command = λ i m j r n bs. ap (λ k. commandOf (decode (k / 4) bs)) (n .same-length);
   wordless = wordless memory memory-laws;
   in-place = in-place memory memory-laws;
-  some-span = λ bs. omega arith;
   sent = all-sent;
 }

@@ -139,6 +139,5 @@ type3-laws number eight = record {
   same-command = λ i m j r n. near-command number i m j r n;
   wordless = wordless;
   in-place = in-place;
-  some-span = λ bytes. omega arith;
   sent = λ i m r. list-sent number i m eight r;
 }
