@@ -18,6 +18,7 @@ use Rattle.tag.specs.Plan.{Plan, blockOf, inBlock, picks, chunk, chunks}
 use Rattle.tag.specs.Judge.{Task}
 use Rattle.tag.proofs.Logic.{and-l, and-r, and-both}
 use Rattle.tag.proofs.Each.{Each, each-take, each-drop}
+use Rattle.tag.proofs.Chunks.{rounded-up}
 use Rattle.tag.proofs.Guarded.{In, Piece, Eaches, Some, Somes, Guard, Beside, Shuts, Tail}
 
 -- a plan over whole blocks of the tag, with a guard block among them
@@ -46,10 +47,7 @@ chunk-some a w (suc c) ss l h =
     ⊎-elim inl (λ x. inr (chunk-some a w c (drop w ss) k x)) (some-split a w ss h)
 
 chunks-some : (a w : ℕ) (ss : List Store) → 0 < w → Some a ss → Somes a (chunks w ss)
-chunks-some a w ss p h =
-    let e : w * ((length ss + (w - 1)) / w) + (length ss + (w - 1)) % w ≡ length ss + (w - 1) = div-add-mod (length ss + (w - 1)) w in
-    let l : (length ss + (w - 1)) % w < w = mod-lt (length ss + (w - 1)) p in
-    chunk-some a w ((length ss + (w - 1)) / w) ss (omega arith) h
+chunks-some a w ss p h = chunk-some a w ((length ss + (w - 1)) / w) ss (rounded-up w (length ss) p .0) h
 
 module _ (z : ℕ) (n : List ℕ) where
   block-length : (b : ℕ) → z * b + z ≤ length n → length (blockOf z n b .bytes) ≡ z

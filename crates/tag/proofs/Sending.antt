@@ -5,8 +5,8 @@ use mathlib.Core.Path.{_≡_, refl}
 use mathlib.Core.Bool.{Bool, true, false, not, false≢true}
 use mathlib.Core.Logic.{⊎-elim}
 use mathlib.Core.List.{List, [], _∷_, map}
-use Prim.Native.Nat.{ℕ, zero, suc, _+_, _-_, _*_, _/_, _%_, _<_, _≤_}
-use native.Mathlib.Nat.{div-add-mod, mul-le-mul-left, mul-div-cancel-left}
+use Prim.Native.Nat.{ℕ, zero, suc, _+_, _-_, _*_, _/_, _<_, _≤_}
+use native.Mathlib.Nat.{mul-le-mul-left, mul-div-cancel-left}
 use native.Mathlib.Omega.{arith}
 use borrow.Author.Tests.{eqb-false, not-true}
 use lib.Dec.{eqb}
@@ -19,6 +19,7 @@ use Rattle.tag.proofs.Each.{Each, each-append, each-both}
 use Rattle.tag.proofs.Images.{length-overlay}
 use Rattle.tag.proofs.Addresses.{Above, Rising, above-less, above-hi, above-rising, above-take, rising-drop}
 use Rattle.tag.proofs.Runs.{map-take, map-drop}
+use Rattle.tag.proofs.Chunks.{rounded-up}
 use Rattle.tag.proofs.Blocks.{Blockwise, chunk-each}
 
 -- ---- whole blocks
@@ -104,9 +105,7 @@ chunk-sized z w hi (suc c) ss p l r = (
 )
 
 pub chunks-sized : (z w hi : ℕ) (ss : List Store) → 0 < w → Rising hi (map (blockNumber z) ss) → Each (Sized z w hi) (chunks w ss)
-chunks-sized z w hi ss p r =
-    let e : w * ((length ss + (w - 1)) / w) + (length ss + (w - 1)) % w ≡ length ss + (w - 1) = div-add-mod (length ss + (w - 1)) w in
-    chunk-sized z w hi ((length ss + (w - 1)) / w) ss p (omega arith) r
+chunks-sized z w hi ss p r = chunk-sized z w hi ((length ss + (w - 1)) / w) ss p (rounded-up w (length ss) p .1) r
 
 -- ---- the blocks that a plan touches
 
