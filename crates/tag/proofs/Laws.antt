@@ -1,4 +1,5 @@
--- What each type of tag shows of itself, and no more: from these laws demands 2 and 3 follow for every type alike.
+-- What each type of tag shows of itself, and no more: from these laws demands 2 and 3 follow for every type alike. And: ready
+-- is just what writing does not refuse.
 -- Assumes nothing.
 use mathlib.Core.Path.{_≡_, refl, sym, ap, _∙_}
 use mathlib.Core.Bool.{false}
