@@ -11,7 +11,6 @@ use native.Mathlib.Omega.{arith}
 use borrow.Author.Tests.{eqb-false, not-true}
 use lib.Dec.{eqb}
 use lib.ListN.{length, take, drop, length-take, length-drop}
-use lib.Seq.{length-take-le}
 use Rattle.tag.specs.Stores.{Store}
 use Rattle.tag.specs.Plan.{Plan, newImage, blockOf, inBlock, touches, between, picks, chunk, chunks, middle, list}
 use Rattle.tag.proofs.Logic.{and-l, and-r, or-cases}
@@ -20,7 +19,7 @@ use Rattle.tag.proofs.Images.{length-overlay}
 use Rattle.tag.proofs.Addresses.{Above, Rising, above-less, above-hi, above-rising, above-take, rising-drop}
 use Rattle.tag.proofs.Runs.{map-take, map-drop}
 use Rattle.tag.proofs.Chunks.{rounded-up}
-use Rattle.tag.proofs.Blocks.{Blockwise, chunk-each}
+use Rattle.tag.proofs.Blocks.{Blockwise, chunk-each, block-length}
 
 -- ---- whole blocks
 
@@ -42,7 +41,7 @@ pub record Named (z : ℕ) (Q : ℕ → Type 0) (s : Store) : Type 0 where
 module _ (z : ℕ) (n : List ℕ) (Q : ℕ → Type 0) where
   block-named : (b : ℕ) → z * b + z ≤ length n → Q b → Named z Q (blockOf z n b)
   block-named b h q = record {
-    whole = record { block = b; at-block = refl; full = length-take-le z (drop (z * b) n) (rw length-drop (omega arith)) };
+    whole = record { block = b; at-block = refl; full = block-length z n b h };
     good = q;
   }
 

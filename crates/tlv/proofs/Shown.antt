@@ -13,7 +13,8 @@ use Rattle.tag.specs.Bytes.{byte, run, consecutive}
 use Rattle.tag.specs.Refusals.{bad-length}
 use Rattle.tag.specs.Reading.{What, message, Report, Reading, unreadable, reads, part}
 use Rattle.tag.proofs.Logic.{and-l, and-r, nope}
-use Rattle.tag.proofs.Addresses.{Above, above-length, above-take, map-run}
+use Rattle.tag.proofs.Addresses.{Above, above-length, above-take}
+use Rattle.tag.proofs.Runs.{map-run}
 use Rattle.tlv.specs.Walk.{Length, bad, len, lengthOf}
 use Rattle.tlv.specs.Message.{TlvTag, View, refuse, view, viewBy, viewed, reportOf, reading}
 use Rattle.tlv.proofs.Locality.{length-above}

@@ -9,7 +9,7 @@ use native.Mathlib.Omega.{arith}
 use native.Mathlib.Decide.{decLt}
 use lib.ListN.{length, length-append}
 use Rattle.tag.specs.Bytes.{run}
-use Rattle.tag.proofs.Addresses.{length-run}
+use Rattle.tag.proofs.Runs.{length-run}
 use Rattle.tag.proofs.Chunks.{rounded-up}
 use Rattle.type3.specs.Update.{blocksFor}
 use Rattle.type3_write.specs.Listing.{messageCommand, messageCommands, Dealt}
