@@ -1,4 +1,4 @@
--- Laws about the definitions of `tlv`. Nothing here states a rule.
+-- Laws about the definitions of `tlv`, and what the code needs of them. Nothing here states a rule.
 pub mod Locality
 pub mod Field
 pub mod Fuel
