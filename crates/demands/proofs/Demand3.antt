@@ -20,7 +20,7 @@ use Rattle.tag.proofs.Each.{Each, each-map, each-of}
 use Rattle.tag.proofs.Images.{restart, length-cut}
 use Rattle.tag.proofs.Judge.{accepts-exactly, refused-first, cut-done}
 use Rattle.tag.proofs.Writes.{list-accepted, list-ends}
-use Rattle.tag.proofs.Pieces.{Piece, pieces-joined}
+use Rattle.tag.proofs.Pieces.{SelfDelimiting, pieces-joined}
 use Rattle.tag.proofs.Laws.{Laws, Sent, Near, ready-written, ready-reads}
 use Rattle.demands.specs.Demand3.{cutOf, ourBytes, ourImage, Calls, end, give, refuse, imageOf, Demand3}
 
@@ -53,8 +53,8 @@ module _ (T : TagType) (L : Laws T) where
   our-pieces : (i m : List ℕ) → Ready T i m → pieces T (ourBytes T i m) ≡ map (T .encoded) (list ((T .plan) i m) i)
   our-pieces i m r =
       pieces-joined (T .span) (map (T .encoded) (list ((T .plan) i m) i)) _
-      (each-map (Piece (T .span)) (T .encoded) (list ((T .plan) i m) i)
-      (each-of (Sent T i) (λ ss. Piece (T .span) ((T .encoded) ss)) (list ((T .plan) i m) i) (λ ss s. (s .whole, s .some-bytes)) (L .sent i m r)))
+      (each-map (SelfDelimiting (T .span)) (T .encoded) (list ((T .plan) i m) i)
+      (each-of (Sent T i) (λ ss. SelfDelimiting (T .span) ((T .encoded) ss)) (list ((T .plan) i m) i) (λ ss s. (s .whole, s .some-bytes)) (L .sent i m r)))
       (le-refl _)
 
   taken : (i : List ℕ) (sss : List (List Store)) → Each (Sent T i) sss → map ((T .command) i) (map (T .encoded) sss) ≡ map stores sss

@@ -26,8 +26,7 @@ use Rattle.tlv.proofs.Field.{fits-is}
 use Rattle.tlv.proofs.Tag as tlv
 use Rattle.tlv.proofs.Writes.{placed}
 use Rattle.type2.specs.Memory.{layout, memory}
-use Rattle.type2.specs.Codec.{encoded}
-use Rattle.type2.specs.Type2.{command, span, type2}
+use Rattle.type2.specs.Type2.{type2}
 use Rattle.type2.proofs.Memory.{memory-laws}
 use Rattle.type3.specs.Attributes.{steadySum, nmaxbOf}
 use Rattle.type3.specs.Update.{fits, blocksFor, addresses, lnSum, values, plan}
@@ -87,7 +86,7 @@ content-octets m l h = go (leb (length m) 254) refl
 
 module _ (i m : List ℕ) (a : Asked type2 i m) (t : ℕ) (us : List ℕ) (e : messageTlv layout i ≡ found t us) (end : ℕ) where
   at-tlv : tlv.Placed memory i (usable (viewed memory i))
-  at-tlv = placed memory memory-laws command span encoded i (a .report) (a .reads-as) .0
+  at-tlv = placed memory i (a .report) (a .reads-as) .0
 
   same-us : usable (viewed memory i) ≡ us
   same-us = let z : found (at-tlv .at) (usable (viewed memory i)) ≡ found t us = sym (at-tlv .tlv-at) ∙ e in cc

@@ -1,7 +1,7 @@
 -- Lists of addresses that rise: one predicate gives their order, that none stands twice, and their bounds. With it, what an
 -- overlay at such addresses reads back as.
 -- Assumes nothing.
-use mathlib.Core.Path.{_≡_, refl, ap}
+use mathlib.Core.Path.{_≡_, refl}
 use mathlib.Core.Bool.{true, false, not}
 use mathlib.Core.List.{List, [], _∷_, _++_, map}
 use Prim.Native.Nat.{ℕ, zero, suc, _+_, _<_, _≤_}
@@ -10,7 +10,7 @@ use native.Mathlib.Omega.{arith}
 use borrow.Author.Tests.{ne-eqb}
 use lib.Dec.{eqb}
 use lib.ListN.{length, set, take, drop}
-use lib.Seq.{getD-set-same, getD-set-other, drop-cons}
+use lib.Seq.{getD-set-same, getD-set-other}
 use Rattle.tag.specs.Bytes.{byte, run, overlay, isSet}
 use Rattle.tag.proofs.Images.{length-overlay}
 
@@ -86,16 +86,3 @@ module _ (hi : ℕ) where
 pub above-run : (n a hi : ℕ) → a + n < hi → Above hi a (run (suc a) n)
 above-run zero a hi h = omega arith
 above-run (suc n) a hi h = (omega arith, above-run n (suc a) hi (omega arith))
-
-pub length-run : (n s : ℕ) → length (run s n) ≡ n
-length-run zero s = refl
-length-run (suc n) s = ap suc (length-run n (suc s))
-
-pub take-run : (n k s : ℕ) → n ≤ k → take n (run s k) ≡ run s n
-take-run zero k s l = refl
-take-run (suc n) zero s l = absurd (not-suc-le-zero l)
-take-run (suc n) (suc k) s l = ap (λ r. s ∷ r) (take-run n k (suc s) (omega arith))
-
-pub map-run : (n s : ℕ) (j : List ℕ) → s + n ≤ length j → map (byte j) (run s n) ≡ take n (drop s j)
-map-run zero s j l = refl
-map-run (suc n) s j l = rw (drop-cons j s 0 (omega arith)) (ap (λ r. byte j s ∷ r) (map-run n (suc s) j (omega arith)))

@@ -1,4 +1,5 @@
--- Lists of whole blocks, for every block size and any number of blocks a command: the blocks that a guarded list stores.
+-- Lists of whole blocks, for every block size and any number of blocks a command: what a plan over whole blocks is (`Blockwise`),
+-- and the blocks that a guarded list stores.
 -- Assumes nothing.
 use mathlib.Core.Path.{_≡_, refl, sym, _∙_}
 use mathlib.Core.Bool.{Bool, true, false, true≢false}
@@ -18,6 +19,7 @@ use Rattle.tag.specs.Plan.{Plan, blockOf, inBlock, picks, chunk, chunks}
 use Rattle.tag.specs.Judge.{Task}
 use Rattle.tag.proofs.Logic.{and-l, and-r, and-both}
 use Rattle.tag.proofs.Each.{Each, each-take, each-drop}
+use Rattle.tag.proofs.Chunks.{rounded-up}
 use Rattle.tag.proofs.Guarded.{In, Piece, Eaches, Some, Somes, Guard, Beside, Shuts, Tail}
 
 -- a plan over whole blocks of the tag, with a guard block among them
@@ -46,26 +48,27 @@ chunk-some a w (suc c) ss l h =
     ⊎-elim inl (λ x. inr (chunk-some a w c (drop w ss) k x)) (some-split a w ss h)
 
 chunks-some : (a w : ℕ) (ss : List Store) → 0 < w → Some a ss → Somes a (chunks w ss)
-chunks-some a w ss p h =
-    let e : w * ((length ss + (w - 1)) / w) + (length ss + (w - 1)) % w ≡ length ss + (w - 1) = div-add-mod (length ss + (w - 1)) w in
-    let l : (length ss + (w - 1)) % w < w = mod-lt (length ss + (w - 1)) p in
-    chunk-some a w ((length ss + (w - 1)) / w) ss (omega arith) h
+chunks-some a w ss p h = chunk-some a w ((length ss + (w - 1)) / w) ss (rounded-up w (length ss) p .0) h
+
+-- the addresses of a block
+pub in-block : (z b a : ℕ) → (inBlock z b a ≡ true) ↔ ((z * b ≤ a) × (a < z * b + z))
+in-block z b a = (
+  (λ e. (leb-true (z * b) a (and-l _ (ltb a (z * b + z)) e), ltb-true a (z * b + z) (and-r (leb (z * b) a) _ e))),
+  (λ h. and-both (le-leb (z * b) a (h .0)) (lt-ltb a (z * b + z) (h .1))),
+)
 
 module _ (z : ℕ) (n : List ℕ) where
-  block-length : (b : ℕ) → z * b + z ≤ length n → length (blockOf z n b .bytes) ≡ z
+  pub block-length : (b : ℕ) → z * b + z ≤ length n → length (blockOf z n b .bytes) ≡ z
   block-length b h = length-take-le z (drop (z * b) n) (rw length-drop (omega arith))
 
-  pub block-piece : (b : ℕ) → z * b + z ≤ length n → Piece n (blockOf z n b)
+  block-piece : (b : ℕ) → z * b + z ≤ length n → Piece n (blockOf z n b)
   block-piece b h k l =
       getD-take z (drop (z * b) n) k 0 (omega (arith, block-length b h)) ∙ getD-drop (z * b) n k 0
 
-  pub block-in : (b a : ℕ) → z * b + z ≤ length n → In (blockOf z n b) a ↔ (inBlock z b a ≡ true)
+  block-in : (b a : ℕ) → z * b + z ≤ length n → In (blockOf z n b) a ↔ (inBlock z b a ≡ true)
   block-in b a h = (
-    (λ i. and-both (le-leb (z * b) a (i .0)) (lt-ltb a (z * b + z) (omega (arith, i .1, block-length b h)))),
-    (λ e.
-        let lo : z * b ≤ a = leb-true (z * b) a (and-l _ (ltb a (z * b + z)) e) in
-        let up : a < z * b + z = ltb-true a (z * b + z) (and-r (leb (z * b) a) _ e) in
-        (lo, omega (arith, block-length b h))),
+    (λ i. in-block z b a .1 (i .0, omega (arith, i .1, block-length b h))),
+    (λ e. let (lo, up) = in-block z b a .0 e in (lo, omega (arith, block-length b h))),
   )
 
 -- an address lies in one block
@@ -73,14 +76,12 @@ pub block-of : (z a : ℕ) → 0 < z → inBlock z (a / z) a ≡ true
 block-of z a p =
     let e : z * (a / z) + a % z ≡ a = div-add-mod a z in
     let l : a % z < z = mod-lt a p in
-    and-both (le-leb (z * (a / z)) a (omega arith)) (lt-ltb a (z * (a / z) + z) (omega arith))
+    in-block z (a / z) a .1 (omega arith, omega arith)
 
 block-lt : (z b c a : ℕ) → inBlock z b a ≡ true → inBlock z c a ≡ true → b < c → ⊥
 block-lt z b c a p q l =
-    let up : a < z * b + z = ltb-true a (z * b + z) (and-r (leb (z * b) a) _ p) in
-    let lo : z * c ≤ a = leb-true (z * c) a (and-l _ (ltb a (z * c + z)) q) in
     let m : z * suc b ≤ z * c = mul-le-mul-left z l in
-    omega arith
+    omega (arith, in-block z b a .0 p .1, in-block z c a .0 q .0)
 
 pub one-block : (z b c a : ℕ) → inBlock z b a ≡ true → inBlock z c a ≡ true → b ≡ c
 one-block z b c a p q = go (decLt b c) (decLt c b)
@@ -139,14 +140,14 @@ module _ (t : Task) (g : Guard t) (z w N A : ℕ) (p : ℕ → Bool)
   room-A : z * A + z ≤ z * N
   room-A = fits A inside
 
-  pub block-shuts : Shuts t g (blockOf z (g .closed) A)
+  block-shuts : Shuts t g (blockOf z (g .closed) A)
   block-shuts =
       record {
         first-piece = block-piece z (g .closed) A (omega (arith, whole, closed-length, room-A));
         first-in = λ a l. rw is-block (block-in z (g .closed) A a (omega (arith, whole, closed-length, room-A)));
       }
 
-  pub block-tail : Tail t g (blockOf z (g .new) A) (chunks w (picks p z (g .new) 0 N))
+  block-tail : Tail t g (blockOf z (g .new) A) (chunks w (picks p z (g .new) 0 N))
   block-tail =
       record {
         last-piece = block-piece z (g .new) A (omega (arith, whole, g .new-length, room-A));
@@ -165,3 +166,6 @@ module _ (t : Task) (g : Guard t) (z w N A : ℕ) (p : ℕ → Bool)
           (picks-some N 0 (a / z) a (omega arith) (omega arith) (omega (arith, below a l)) r (block-of z a pos)))
       cover a l q (inr (inl e)) = absurd (true≢false (sym (rw e at (block-of z a pos)) ∙ (sym (is-block a) ∙ q)))
       cover a l q (inr (inr e)) = inr e
+
+  pub block-parts : Shuts t g (blockOf z (g .closed) A) × Tail t g (blockOf z (g .new) A) (chunks w (picks p z (g .new) 0 N))
+  block-parts = (block-shuts, block-tail)

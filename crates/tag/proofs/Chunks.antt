@@ -1,14 +1,22 @@
--- Blocks dealt out to commands, w to each: how many commands, and one more of them takes the next w.
+-- Blocks dealt out to commands, w to each: how many commands that takes, and one more of them takes the next w.
 -- Assumes nothing.
 use mathlib.Core.Path.{_≡_, refl, sym, ap, _∙_}
 use mathlib.Core.List.{List, [], _∷_, _++_, map, append-nil, append-assoc}
-use Prim.Native.Nat.{ℕ, zero, suc, _+_, _*_}
+use Prim.Native.Nat.{ℕ, zero, suc, _+_, _-_, _*_, _/_, _%_, _<_, _≤_}
+use native.Mathlib.Nat.{div-add-mod, mod-lt}
 use native.Mathlib.Omega.{arith}
 use lib.ListN.{length, take, drop}
 use lib.Seq.{drop-drop}
 use Rattle.tag.specs.Stores.{Store}
 use Rattle.tag.specs.Plan.{chunk}
 use Rattle.tag.specs.TagType.{joined}
+
+-- k over w, rounded up: as many commands of w blocks as k blocks need, and no more
+pub rounded-up : (w k : ℕ) → 0 < w → (k ≤ w * ((k + (w - 1)) / w)) × (w * ((k + (w - 1)) / w) < k + w)
+rounded-up w k p =
+    let e : w * ((k + (w - 1)) / w) + (k + (w - 1)) % w ≡ k + (w - 1) = div-add-mod (k + (w - 1)) w in
+    let l : (k + (w - 1)) % w < w = mod-lt (k + (w - 1)) p in
+    (omega arith, omega arith)
 
 pub length-chunk : (w c : ℕ) (ss : List Store) → length (chunk w c ss) ≡ c
 length-chunk w zero ss = refl

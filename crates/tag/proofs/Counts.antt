@@ -4,27 +4,28 @@
 use mathlib.Core.Path.{_≡_, refl, sym, ap, _∙_}
 use mathlib.Core.Bool.{Bool, true, false, not, _&&_, cond}
 use mathlib.Core.List.{List, [], _∷_}
-use Prim.Native.Nat.{ℕ, zero, suc, _+_, _-_, _/_, _<_, _≤_}
+use Prim.Native.Nat.{ℕ, suc, _+_, _-_, _/_, _<_, _≤_}
 use native.Mathlib.Omega.{arith}
 use borrow.Author.Tests.{eq-eqb, ne-eqb}
 use lib.Dec.{eqb}
 use lib.ListN.{length, length-append, length-map}
 use Rattle.tag.specs.Bytes.{run}
 use Rattle.tag.specs.Plan.{Plan, newImage, blockOf, touches, between, picks, middle, list, counted, touched}
-use Rattle.tag.proofs.Addresses.{length-run}
-use Rattle.tag.proofs.Picks.{length-picks, picks-run}
+use Rattle.tag.proofs.Runs.{length-run}
+use Rattle.tag.proofs.Picks.{length-picks, picks-add, picks-run, picks-like}
 use Rattle.tag.proofs.Chunks.{length-chunk}
 
 module _ (t : ℕ → Bool) where
   counted-add : (k l b : ℕ) → counted t b (k + l) ≡ counted t b k + counted t (b + k) l
-  counted-add zero l b =
-      let e : 0 + l ≡ l = omega arith in
-      let f : b + 0 ≡ b = omega arith in
-      rw (e, f) (omega arith)
-  counted-add (suc k) l b =
-      let e : suc k + l ≡ suc (k + l) = omega arith in
-      let f : b + suc k ≡ suc b + k = omega arith in
-      rw (e, f) (omega (arith, counted-add k l (suc b)))
+  counted-add k l b =
+      omega (
+        arith,
+        length-picks t 0 [] b (k + l),
+        length-picks t 0 [] b k,
+        length-picks t 0 [] (b + k) l,
+        ap length (picks-add t 0 [] k l b),
+        length-append (picks t 0 [] b k) (picks t 0 [] (b + k) l),
+      )
 
   -- one block more, as a loop over rising blocks meets them
   counted-next : (k : ℕ) → counted t 0 (k + 1) ≡ counted t 0 k + cond (t k) 1 0
@@ -64,8 +65,7 @@ length-list p i =
     omega (arith, f, length-append (middle p i) ((blockOf (p .size) (newImage p i) (p .guard) ∷ []) ∷ []))
 
 counted-like : (t u : ℕ → Bool) (k b : ℕ) → ((c : ℕ) → b ≤ c → c < b + k → t c ≡ u c) → counted t b k ≡ counted u b k
-counted-like t u zero b h = refl
-counted-like t u (suc k) b h = rw (h b (omega arith) (omega arith)) (ap (λ n. cond (u b) 1 0 + n) (counted-like t u k (suc b) (λ c l m. h c (omega arith) (omega arith))))
+counted-like t u k b h = sym (length-picks t 0 [] b k) ∙ ap length (picks-like t u 0 [] k b h) ∙ length-picks u 0 [] b k
 
 -- tests that agree on the first k blocks
 pub counted-same : (t u : ℕ → Bool) (k : ℕ) → ((c : ℕ) → c < k → t c ≡ u c) → counted t 0 k ≡ counted u 0 k

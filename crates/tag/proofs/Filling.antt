@@ -39,7 +39,7 @@ module _ (xs p t : List ℕ) (a : ℕ) (laid : xs ≡ p ++ drop a t) (far : leng
       → z ≡ y ++ drop k (take (e - a) (drop a xs)) → putMid a (e - a) xs z ≡ (p ++ y) ++ drop (a + k) t
   lay-part y z e k h g r = lent xs y z a e k h g r ∙ lay-more y k
 
-  pub lay-byte : (v : ℕ) → a < length t → set xs a v ≡ (p ++ (v ∷ [])) ++ drop (a + 1) t
+  lay-byte : (v : ℕ) → a < length t → set xs a v ≡ (p ++ (v ∷ [])) ++ drop (a + 1) t
   lay-byte v l = rw (laid, drop-cons t a 0 l, set-at p _ _ v a far, add-one a) (sym (append-snoc p v (drop (suc a) t)))
 
 pub lay-two : (xs p t : List ℕ) (a v w : ℕ) → xs ≡ p ++ drop a t → length p ≡ a → a + 1 < length t

@@ -30,7 +30,7 @@ In s a = (s .at ≤ a) × (a < s .at + length (s .bytes))
 abbrev pub Piece : List ℕ → Store → Type 0
 Piece n s = (k : ℕ) → k < length (s .bytes) → getD (s .bytes) k 0 ≡ byte n (s .at + k)
 
-pub put-cases : (n j : List ℕ) (s : Store) (a : ℕ) → Piece n s → a < length j
+put-cases : (n j : List ℕ) (s : Store) (a : ℕ) → Piece n s → a < length j
     → (In s a × (byte (put j s) a ≡ byte n a)) ⊎ ((In s a → ⊥) × (byte (put j s) a ≡ byte j a))
 put-cases n j s a p l = go (decLe (s .at) a) (decLt a (s .at + length (s .bytes)))
   where
@@ -44,7 +44,7 @@ put-cases n j s a p l = go (decLe (s .at) a) (decLt a (s .at + length (s .bytes)
         inl ((q, r), rw e at h)
 
 -- a command's stores, one command after another
-abbrev pub runs : List ℕ → List (List Store) → List ℕ
+abbrev runs : List ℕ → List (List Store) → List ℕ
 runs j [] = j
 runs j (ss ∷ sss) = runs (puts j ss) sss
 
@@ -59,7 +59,7 @@ abbrev pub Somes : ℕ → List (List Store) → Type 0
 Somes a [] = ⊥
 Somes a (ss ∷ sss) = Some a ss ⊎ Somes a sss
 
-pub cut-runs : (sss : List (List Store)) (j : List ℕ) (cs : List Command)
+cut-runs : (sss : List (List Store)) (j : List ℕ) (cs : List Command)
     → cut (length (map stores sss ++ cs)) j (map stores sss ++ cs) ≡ cut (length cs) (runs j sss) cs
 cut-runs [] j cs = refl
 cut-runs (ss ∷ sss) j cs = cut-runs sss (puts j ss) cs
@@ -187,10 +187,11 @@ module _ (t : Task) (g : Guard t) where
             new-runs mids j a (omega (arith, b .0)) (s .mids-beside) (⊎-elim inl (λ e. inr (off a l q ∙ e)) (s .covered a l q))
 
     -- the last command leaves the new image
+    -- P of the tag before is asked for too: a command may one day leave it as it was
     last-left : (P : List ℕ → Type 0) → P (runs j mids) → P (g .new) → (x : List ℕ) → Left (runs j mids) (stores (last ∷ [])) x → P x
     last-left P p q x e = rw e (rw last-new q)
 
-    pub ending-accepts : (n : ℕ) → judge t n j (ending last mids) ≡ accepted (n + length mids + 1)
+    ending-accepts : (n : ℕ) → judge t n j (ending last mids) ≡ accepted (n + length mids + 1)
     ending-accepts n =
         judge-runs mids n j (stores (last ∷ []) ∷ []) b (s .mids-beside)
         ∙ judge-goes t (n + length mids) (runs j mids) (last ∷ []) []
@@ -198,7 +199,7 @@ module _ (t : Task) (g : Guard t) where
         ∙ judge-ends t (suc (n + length mids)) (put (runs j mids) last) (rw last-new (g .reads))
         ∙ ap accepted (omega arith)
 
-    pub ending-cut : cut (length (ending last mids)) j (ending last mids) ≡ g .new
+    ending-cut : cut (length (ending last mids)) j (ending last mids) ≡ g .new
     ending-cut = cut-runs mids j (stores (last ∷ []) ∷ []) ∙ last-new
 
   -- the whole list, with its first command
@@ -221,6 +222,7 @@ module _ (t : Task) (g : Guard t) where
     shut-first : Btw (put (t .start) first)
     shut-first = (length-sets (t .start) (first .at) (first .bytes), λ a l. cell a l .0)
 
+    -- P of the tag before is asked for too: a command may one day leave it as it was
     first-left : (P : List ℕ → Type 0) → P (t .start) → P (put (t .start) first) → (x : List ℕ) → Left (t .start) (stores (first ∷ [])) x → P x
     first-left P p q x e = rw e q
 

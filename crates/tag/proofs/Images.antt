@@ -39,7 +39,7 @@ pub length-puts : (ss : List Store) (j : List ℕ) → length (puts j ss) ≡ le
 length-puts [] j = refl
 length-puts (s ∷ ss) j = length-puts ss (put j s) ∙ length-sets j (s .at) (s .bytes)
 
-pub length-done : (j : List ℕ) (c : Command) → length (done j c) ≡ length j
+length-done : (j : List ℕ) (c : Command) → length (done j c) ≡ length j
 length-done j ill = refl
 length-done j (stores ss) = length-puts ss j
 

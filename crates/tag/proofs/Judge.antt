@@ -75,10 +75,10 @@ left-every : (p : List ℕ → Bool) (ss : List Store) (j : List ℕ) → ((x : 
 left-every p ss j h = and-both (h (puts j ss) refl) refl
 
 -- the whole command stored is one of the tags that it may leave
-pub left-done : (j : List ℕ) (c : Command) → Left j c (done j c)
+left-done : (j : List ℕ) (c : Command) → Left j c (done j c)
 left-done j c = refl
 
-pub stores-ill : {ss : List Store} → stores ss ≡ ill → ⊥
+stores-ill : {ss : List Store} → stores ss ≡ ill → ⊥
 stores-ill e = nope (cc)
 
 pub fault-is : (t : Task) (j : List ℕ) (c : Command) → Fault t j c (fault t j c)
@@ -95,7 +95,7 @@ fault-is t j (stores ss) = go (every (keeps t) (states j ss)) refl (every (λ x.
         (λ x w. reads-safe t x (every-left (λ x. isSafe t ((t .held) x)) ss j r x w)))
 
 -- what a command that is not at fault keeps
-pub record Fine (t : Task) (j : List ℕ) (c : Command) : Type 0 where
+record Fine (t : Task) (j : List ℕ) (c : Command) : Type 0 where
   pub formed : c ≡ ill → ⊥
   pub kept : KeptBy t j c
   pub safe : SafeBy t j c
@@ -131,7 +131,7 @@ cut-done (suc k) j (c ∷ cs) = cut-done k (done j c) cs
 -- ---- the judge along a list
 
 -- no command is at fault, and the last tag holds the message
-pub record Clean (t : Task) (j : List ℕ) (cs : List Command) : Type 0 where
+record Clean (t : Task) (j : List ℕ) (cs : List Command) : Type 0 where
   pub no-fault : (k : ℕ) → k < length cs → fault t (cut k j cs) (getD cs k ill) ≡ 0
   pub ends : holdsAs ((t .held) (cut (length cs) j cs)) (t .wanted) ≡ true
 
@@ -205,7 +205,7 @@ start-safe t h = go ((t .held) (t .start)) refl
     go (holds x) e = as-old x e e
 
 -- each command of an accepted list is fine
-pub accepted-fine : (t : Task) (cs : List Command) (n : ℕ) → judge t 0 (t .start) cs ≡ accepted n → (k : ℕ) → k < length cs → Fine t (cut k (t .start) cs) (getD cs k ill)
+accepted-fine : (t : Task) (cs : List Command) (n : ℕ) → judge t 0 (t .start) cs ≡ accepted n → (k : ℕ) → k < length cs → Fine t (cut k (t .start) cs) (getD cs k ill)
 accepted-fine t cs n e k h =
     fine-of t _ _ _ (fault-is t (cut k (t .start) cs) (getD cs k ill)) (accept-clean t 0 (t .start) cs n e .1 .no-fault k h)
 

@@ -1,4 +1,5 @@
--- What each type of tag shows of itself, and no more: from these laws demands 2 and 3 follow for every type alike.
+-- What each type of tag shows of itself, and no more: from these laws demands 2 and 3 follow for every type alike. And: ready
+-- is just what writing does not refuse.
 -- Assumes nothing.
 use mathlib.Core.Path.{_≡_, refl, sym, ap, _∙_}
 use mathlib.Core.Bool.{false}
@@ -43,8 +44,6 @@ pub record Laws (T : TagType) : Type 0 where
   pub wordless : (i : List ℕ) (p : Report) → (T .reading) i ≡ reads p → (p .what ≡ message → ⊥) → p .bytes ≡ []
   pub in-place : (i : List ℕ) (p : Report) → (T .reading) i ≡ reads p → p .what ≡ message → p .interrupted ≡ false
       → part (p .address) (length (p .bytes)) i ≡ p .bytes
-  -- a command takes a byte of a list at least
-  pub some-span : (bytes : List ℕ) → 0 < (T .span) bytes
   -- our commands are taken for what they store
   pub sent : (i m : List ℕ) → Ready T i m → Each (Sent T i) (list ((T .plan) i m) i)
 

@@ -1,18 +1,19 @@
--- Laws about the definitions of `tag`. Nothing here states a rule.
+-- Laws about the definitions of `tag`, and what the code needs of them. Nothing here states a rule.
 pub mod Logic
 pub mod Cases
 pub mod Checks
 pub mod Each
 pub mod Images
 pub mod Addresses
-pub mod Judge
 pub mod Judging
+pub mod Judge
 pub mod Guarded
+pub mod Chunks
 pub mod Blocks
 pub mod Writes
+pub mod Runs
 pub mod Sending
 pub mod Picks
-pub mod Chunks
 pub mod Counts
 pub mod Pieces
 pub mod Turns
@@ -20,5 +21,4 @@ pub mod Laws
 pub mod Same
 pub mod Storing
 pub mod Filling
-pub mod Runs
 pub mod Showing

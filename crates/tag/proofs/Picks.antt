@@ -31,7 +31,7 @@ module _ (t : ℕ → Bool) (z : ℕ) (n : List ℕ) where
   picks-all (suc k) b h =
       rw (h b (omega arith) (omega arith), picks) (ap (λ r. blockOf z n b ∷ r) (picks-all k (suc b) (λ c l u. h c (omega arith) (omega arith))))
 
-  picks-add : (k l b : ℕ) → picks t z n b (k + l) ≡ picks t z n b k ++ picks t z n (b + k) l
+  pub picks-add : (k l b : ℕ) → picks t z n b (k + l) ≡ picks t z n b k ++ picks t z n (b + k) l
   unfolding picks
   picks-add zero l b =
       let e : 0 + l ≡ l = omega arith in
@@ -81,7 +81,7 @@ module _ (t : ℕ → Bool) (z : ℕ) (n : List ℕ) where
       (append-nil (map (blockOf z n) (run a k)))
 
 module _ (t u : ℕ → Bool) (z : ℕ) (n : List ℕ) where
-  picks-like : (k b : ℕ) → ((c : ℕ) → b ≤ c → c < b + k → t c ≡ u c) → picks t z n b k ≡ picks u z n b k
+  pub picks-like : (k b : ℕ) → ((c : ℕ) → b ≤ c → c < b + k → t c ≡ u c) → picks t z n b k ≡ picks u z n b k
   unfolding picks
   picks-like zero b h = refl
   picks-like (suc k) b h = go (u b) (h b (omega arith) (omega arith)) refl (picks-like k (suc b) (λ c l m. h c (omega arith) (omega arith)))

@@ -14,8 +14,8 @@ use Rattle.tag.proofs.Each.{Each}
 
 module _ (span : List ℕ → ℕ) where
   -- a piece tells its own length, whatever follows it, and is not empty
-  abbrev pub Piece : List ℕ → Type 0
-  Piece b = ((r : List ℕ) → span (b ++ r) ≡ length b) × (0 < length b)
+  abbrev pub SelfDelimiting : List ℕ → Type 0
+  SelfDelimiting b = ((r : List ℕ) → span (b ++ r) ≡ length b) × (0 < length b)
 
   pub cut-none : (k : ℕ) → cutUp span k [] ≡ []
   unfolding cutUp
@@ -28,7 +28,7 @@ module _ (span : List ℕ → ℕ) where
   unfolding cutUp
   cut-step k bytes h = rw (ne-eqb (length bytes) 0 (λ e. omega arith), cutUp)
 
-  pub pieces-joined : (bs : List (List ℕ)) (k : ℕ) → Each Piece bs → length (joined bs) ≤ k → cutUp span k (joined bs) ≡ bs
+  pub pieces-joined : (bs : List (List ℕ)) (k : ℕ) → Each SelfDelimiting bs → length (joined bs) ≤ k → cutUp span k (joined bs) ≡ bs
   pieces-joined [] k h l = cut-none k
   pieces-joined (b ∷ bs) zero h l = absurd (omega (arith, length-append b (joined bs), h .0 .1))
   pieces-joined (b ∷ bs) (suc k) h l =
@@ -53,7 +53,7 @@ module _ (span : List ℕ → ℕ) where
         ∙ ap (λ r. take n (a ∷ bytes) ++ r) (joined-pieces k (drop n (a ∷ bytes)) (shorter (a ∷ bytes) k l))
         ∙ take-append-drop n (a ∷ bytes)
 
-    pub cut-fuel : (k k′ : ℕ) (bytes : List ℕ) → length bytes ≤ k → length bytes ≤ k′ → cutUp span k bytes ≡ cutUp span k′ bytes
+    cut-fuel : (k k′ : ℕ) (bytes : List ℕ) → length bytes ≤ k → length bytes ≤ k′ → cutUp span k bytes ≡ cutUp span k′ bytes
     cut-fuel zero k′ [] l l′ = cut-none 0 ∙ sym (cut-none k′)
     cut-fuel zero k′ (a ∷ bytes) l l′ = absurd (not-suc-le-zero l)
     cut-fuel (suc k) k′ [] l l′ = cut-none (suc k) ∙ sym (cut-none k′)

@@ -1,14 +1,17 @@
--- Runs of numbers: one more at the end, and parts of them; and the bytes of a list by their places.
+-- Runs of numbers: how long they are, one more at the end, and parts of them; and the bytes of a list by their places.
 -- Assumes nothing.
 use mathlib.Core.Path.{_≡_, refl, ap, _∙_}
 use mathlib.Core.List.{List, [], _∷_, _++_, map}
-use Prim.Native.Nat.{ℕ, zero, suc, _+_, _-_, min}
+use Prim.Native.Nat.{ℕ, zero, suc, _+_, _-_, _≤_, min}
 use native.Mathlib.Numerals.{add-one}
 use native.Mathlib.Omega.{arith}
 use lib.ListN.{length, take, drop}
-use lib.Seq.{take-all, take-nil, drop-nil}
+use lib.Seq.{take-all, take-nil, drop-nil, drop-cons}
 use Rattle.tag.specs.Bytes.{byte, run}
-use Rattle.tag.proofs.Addresses.{map-run}
+
+pub length-run : (n s : ℕ) → length (run s n) ≡ n
+length-run zero s = refl
+length-run (suc n) s = ap suc (length-run n (suc s))
 
 run-snoc : (n s : ℕ) → run s (suc n) ≡ run s n ++ ((s + n) ∷ [])
 run-snoc zero s = let e : s + 0 ≡ s = omega arith in rw e
@@ -16,6 +19,11 @@ run-snoc (suc n) s = let e : s + suc n ≡ suc s + n = omega arith in rw e (ap (
 
 pub run-more : (s n : ℕ) → run s (n + 1) ≡ run s n ++ ((s + n) ∷ [])
 run-more s n = rw (add-one n) (run-snoc n s)
+
+-- the bytes at a run of places
+pub map-run : (n s : ℕ) (j : List ℕ) → s + n ≤ length j → map (byte j) (run s n) ≡ take n (drop s j)
+map-run zero s j l = refl
+map-run (suc n) s j l = rw (drop-cons j s 0 (omega arith)) (ap (λ r. byte j s ∷ r) (map-run n (suc s) j (omega arith)))
 
 -- a list is its bytes
 pub bytes-of : (l : List ℕ) (n : ℕ) → length l ≡ n → map (byte l) (run 0 n) ≡ l
@@ -27,6 +35,9 @@ take-of-run : (k n s : ℕ) → take n (run s k) ≡ run s (min n k)
 take-of-run zero n s = let e : min n 0 ≡ 0 = omega arith in rw e (take-nil n)
 take-of-run (suc k) zero s = let e : min 0 (suc k) ≡ 0 = omega arith in rw e
 take-of-run (suc k) (suc n) s = let e : min (suc n) (suc k) ≡ suc (min n k) = omega arith in rw e (ap (λ r. s ∷ r) (take-of-run k n (suc s)))
+
+pub take-run : (n k s : ℕ) → n ≤ k → take n (run s k) ≡ run s n
+take-run n k s l = let e : min n k ≡ n = omega arith in take-of-run k n s ∙ ap (run s) e
 
 drop-of-run : (k n s : ℕ) → drop n (run s k) ≡ run (s + n) (k - n)
 drop-of-run zero n s = let e : 0 - n ≡ 0 = omega arith in rw e (drop-nil n)

@@ -5,13 +5,12 @@ use mathlib.Core.Path.{_≡_, refl}
 use mathlib.Core.Bool.{Bool, true, false, not, false≢true}
 use mathlib.Core.Logic.{⊎-elim}
 use mathlib.Core.List.{List, [], _∷_, map}
-use Prim.Native.Nat.{ℕ, zero, suc, _+_, _-_, _*_, _/_, _%_, _<_, _≤_}
-use native.Mathlib.Nat.{div-add-mod, mul-le-mul-left, mul-div-cancel-left}
+use Prim.Native.Nat.{ℕ, zero, suc, _+_, _-_, _*_, _/_, _<_, _≤_}
+use native.Mathlib.Nat.{mul-le-mul-left, mul-div-cancel-left}
 use native.Mathlib.Omega.{arith}
 use borrow.Author.Tests.{eqb-false, not-true}
 use lib.Dec.{eqb}
 use lib.ListN.{length, take, drop, length-take, length-drop}
-use lib.Seq.{length-take-le}
 use Rattle.tag.specs.Stores.{Store}
 use Rattle.tag.specs.Plan.{Plan, newImage, blockOf, inBlock, touches, between, picks, chunk, chunks, middle, list}
 use Rattle.tag.proofs.Logic.{and-l, and-r, or-cases}
@@ -19,7 +18,8 @@ use Rattle.tag.proofs.Each.{Each, each-append, each-both}
 use Rattle.tag.proofs.Images.{length-overlay}
 use Rattle.tag.proofs.Addresses.{Above, Rising, above-less, above-hi, above-rising, above-take, rising-drop}
 use Rattle.tag.proofs.Runs.{map-take, map-drop}
-use Rattle.tag.proofs.Blocks.{Blockwise, chunk-each}
+use Rattle.tag.proofs.Chunks.{rounded-up}
+use Rattle.tag.proofs.Blocks.{Blockwise, chunk-each, block-length}
 
 -- ---- whole blocks
 
@@ -41,7 +41,7 @@ pub record Named (z : ℕ) (Q : ℕ → Type 0) (s : Store) : Type 0 where
 module _ (z : ℕ) (n : List ℕ) (Q : ℕ → Type 0) where
   block-named : (b : ℕ) → z * b + z ≤ length n → Q b → Named z Q (blockOf z n b)
   block-named b h q = record {
-    whole = record { block = b; at-block = refl; full = length-take-le z (drop (z * b) n) (rw length-drop (omega arith)) };
+    whole = record { block = b; at-block = refl; full = block-length z n b h };
     good = q;
   }
 
@@ -104,9 +104,7 @@ chunk-sized z w hi (suc c) ss p l r = (
 )
 
 pub chunks-sized : (z w hi : ℕ) (ss : List Store) → 0 < w → Rising hi (map (blockNumber z) ss) → Each (Sized z w hi) (chunks w ss)
-chunks-sized z w hi ss p r =
-    let e : w * ((length ss + (w - 1)) / w) + (length ss + (w - 1)) % w ≡ length ss + (w - 1) = div-add-mod (length ss + (w - 1)) w in
-    chunk-sized z w hi ((length ss + (w - 1)) / w) ss p (omega arith) r
+chunks-sized z w hi ss p r = chunk-sized z w hi ((length ss + (w - 1)) / w) ss p (rounded-up w (length ss) p .1) r
 
 -- ---- the blocks that a plan touches
 

@@ -10,7 +10,7 @@ use borrow.Author.Tests.{ltb-false, le-leb, le-ltb}
 use lib.ListN.{length, drop, length-append}
 use lib.Seq.{take-append-seam}
 use Rattle.tag.specs.Bytes.{overwrite}
-use Rattle.tag.specs.Reading.{What, message, empty, being-written, Report, Reading, unreadable, reads, tooShort, Answer, refusal, answer, answerOf, gatheredInto, part, shown, broken, heldOf}
+use Rattle.tag.specs.Reading.{What, message, empty, being-written, Report, Reading, unreadable, reads, tooShort, Answer, refusal, answer, answerOf, gatheredInto, part, shown, Held, broken, heldOf}
 use Rattle.tag.specs.TagType.{TagType, held}
 use Rattle.tag.specs.Answers.{heldBy, oldHeld, isMessage}
 use Rattle.tag.proofs.Logic.{nope}
@@ -23,11 +23,14 @@ part-front bytes buffer l =
     rw (le-leb (0 + length bytes) (length (overwrite bytes buffer)) k) (take-append-seam bytes (drop (length bytes) buffer))
 
 -- the old message, of a tag that reads
-pub old-held : (a : Answer) (part : List ℕ) → (heldBy a part ≡ broken → ⊥) → oldHeld (isMessage a) part ≡ heldBy a part
+old-held : (a : Answer) (part : List ℕ) → (heldBy a part ≡ broken → ⊥) → oldHeld (isMessage a) part ≡ heldBy a part
 old-held (refusal r) part n = absurd (n refl)
 old-held (answer message a n interrupted w) part h = refl
 old-held (answer empty a n interrupted w) part h = refl
 old-held (answer being-written a n interrupted w) part h = refl
+
+pub old-is : (a : Answer) (had : Bool) (part : List ℕ) (h : Held) → had ≡ isMessage a → heldBy a part ≡ h → (h ≡ broken → ⊥) → oldHeld had part ≡ h
+old-is a had part h e q n = ap (λ b. oldHeld b part) e ∙ old-held a part (λ z. n (sym q ∙ z)) ∙ q
 
 module _ (T : TagType) (L : Laws T) where
   pub shown-part : (i buffer : List ℕ) (p : Report) → (T .reading) i ≡ reads p → tooShort (length buffer) p ≡ false

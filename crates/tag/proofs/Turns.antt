@@ -10,13 +10,14 @@ use native.Mathlib.Omega.{arith}
 use lib.Dec.{eqb}
 use lib.ListN.{length, take, drop, length-drop, drop-of-length-le}
 use Rattle.tag.specs.Bytes.{byte, run}
+use Rattle.tag.specs.Refusals.{ends-otherwise}
 use Rattle.tag.specs.Stores.{Store, Command, ill, stores, puts, done}
 use Rattle.tag.specs.Plan.{protected}
 use Rattle.tag.specs.TagType.{TagType, held, cutUp}
-use Rattle.tag.specs.Judge.{refused, readsAs, equalAt, keeps, fault, judge, task}
+use Rattle.tag.specs.Judge.{accepted, refused, holdsAs, readsAs, equalAt, keeps, fault, judge, task}
 use Rattle.tag.specs.Answers.{oldHeld}
 use Rattle.tag.proofs.Pieces.{cut-none, cut-more}
-use Rattle.tag.proofs.Judging.{fault-ill, fault-change, fault-misread, fault-none, judge-next, judge-stop, equal-same}
+use Rattle.tag.proofs.Judging.{fault-ill, fault-change, fault-misread, fault-none, judge-next, judge-stop, judge-good, judge-bad, equal-same}
 
 -- ---- a command's fault
 
@@ -63,10 +64,18 @@ module _ (T : TagType) (i list : List ℕ) where
   abbrev pub from : ℕ → List Command
   from at = map ((T .command) i) (cutUp (T .span) (length list) (drop at list))
 
-  pub from-end : (at : ℕ) → length list ≤ at → from at ≡ []
+  from-end : (at : ℕ) → length list ≤ at → from at ≡ []
   from-end at h =
       ap (λ r. map ((T .command) i) (cutUp (T .span) (length list) r)) (drop-of-length-le list h)
       ∙ ap (map ((T .command) i)) (cut-none (T .span) (length list))
+
+  -- no command is left: the verdict is by what the tag holds
+  module _ (at : ℕ) (h : length list ≤ at) (m : List ℕ) (n : ℕ) (j : List ℕ) where
+    pub turn-good : holdsAs (held T j) m ≡ true → judge (task T i m) n j (from at) ≡ accepted n
+    turn-good e = ap (judge (task T i m) n j) (from-end at h) ∙ judge-good (task T i m) n j e
+
+    pub turn-bad : holdsAs (held T j) m ≡ false → judge (task T i m) n j (from at) ≡ refused ends-otherwise n
+    turn-bad e = ap (judge (task T i m) n j) (from-end at h) ∙ judge-bad (task T i m) n j e
 
   -- the command there takes size bytes
   module _ (some : (bytes : List ℕ) → 0 < (T .span) bytes) (at size : ℕ) (h : at < length list)

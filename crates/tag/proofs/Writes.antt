@@ -20,7 +20,7 @@ use Rattle.tag.specs.Cuts.{Kept}
 use Rattle.tag.proofs.Logic.{and-l, or-l, or-r, or-cases, true-false}
 use Rattle.tag.proofs.Images.{length-overlay, overlay-out}
 use Rattle.tag.proofs.Guarded.{Between, Guard, Shuts, Tail, ending, accepts, last-cut}
-use Rattle.tag.proofs.Blocks.{Blockwise, block-shuts, block-tail}
+use Rattle.tag.proofs.Blocks.{Blockwise, block-parts}
 
 -- what a type of tag shows of the plan for a tag and a message
 pub record Sound (T : TagType) (i m : List ℕ) (p : Plan) : Type 0 where
@@ -42,7 +42,7 @@ touch-of z (x ∷ us) (v ∷ vs) a b s h =
     (or-cases (eqb x a) (isSet us vs a) s)
 
 module _ (T : TagType) (i m : List ℕ) (p : Plan) (s : Sound T i m p) where
-  abbrev pub guard : Guard (taskOf T i m p)
+  abbrev guard : Guard (taskOf T i m p)
   guard = record {
     block = inBlock (p .size) (p .guard);
     closed = p .closed;
@@ -61,30 +61,25 @@ module _ (T : TagType) (i m : List ℕ) (p : Plan) (s : Sound T i m p) where
         → (pick b ≡ true) ⊎ ((b ≡ p .guard) ⊎ (byte i a ≡ byte (newImage p i) a))
 
   -- the commands from the first of the chosen blocks on
-  abbrev pub rest : (ℕ → Bool) → List Command
+  abbrev rest : (ℕ → Bool) → List Command
   rest pick =
       ending (taskOf T i m p) guard (blockOf (p .size) (newImage p i) (p .guard))
       (chunks (p .width) (picks pick (p .size) (newImage p i) 0 (length i / p .size)))
 
   module _ (pick : ℕ → Bool) (c : Choice pick) where
-    shuts : Shuts (taskOf T i m p) guard (blockOf (p .size) (p .closed) (p .guard))
-    shuts =
+    parts : Shuts (taskOf T i m p) guard (blockOf (p .size) (p .closed) (p .guard))
+        × Tail (taskOf T i m p) guard (blockOf (p .size) (newImage p i) (p .guard)) (chunks (p .width) (picks pick (p .size) (newImage p i) 0 (length i / p .size)))
+    parts =
         let b = s .blockwise in
-        block-shuts (taskOf T i m p) guard (p .size) (p .width) (length i / p .size) (p .guard) pick (b .some-size) (b .some-width) (b .whole) (b .inside)
-        (λ a. refl) (b .closed-length) (c .others) (c .complete)
-
-    tail : Tail (taskOf T i m p) guard (blockOf (p .size) (newImage p i) (p .guard)) (chunks (p .width) (picks pick (p .size) (newImage p i) 0 (length i / p .size)))
-    tail =
-        let b = s .blockwise in
-        block-tail (taskOf T i m p) guard (p .size) (p .width) (length i / p .size) (p .guard) pick (b .some-size) (b .some-width) (b .whole) (b .inside)
+        block-parts (taskOf T i m p) guard (p .size) (p .width) (length i / p .size) (p .guard) pick (b .some-size) (b .some-width) (b .whole) (b .inside)
         (λ a. refl) (b .closed-length) (c .others) (c .complete)
 
     chosen-accepted : (held T i ≡ broken → ⊥)
         → judge (taskOf T i m p) 0 i (stores (blockOf (p .size) (p .closed) (p .guard) ∷ []) ∷ rest pick) ≡ accepted (suc (length (rest pick)))
-    chosen-accepted ok = accepts (taskOf T i m p) guard _ _ _ shuts tail ok ∙ ap accepted (simp (length-append, length-map) (omega arith))
+    chosen-accepted ok = accepts (taskOf T i m p) guard _ _ _ (parts .0) (parts .1) ok ∙ ap accepted (simp (length-append, length-map) (omega arith))
 
     chosen-ends : cut (suc (length (rest pick))) i (stores (blockOf (p .size) (p .closed) (p .guard) ∷ []) ∷ rest pick) ≡ newImage p i
-    chosen-ends = last-cut (taskOf T i m p) guard _ _ _ shuts tail
+    chosen-ends = last-cut (taskOf T i m p) guard _ _ _ (parts .0) (parts .1)
 
   -- every block that holds a byte to set
   all-touched : Choice (between p)

@@ -54,7 +54,7 @@ fuel-enough {i} {t} {v} {w} p = omega (arith, unskipped-few t (w .at .0) (w .end
 
 -- ---- the walk from the start of the data area, with nothing skipped yet
 
-pub ahead-all : (m : ℕ) (w : Walk) → w .at .0 ≤ w .end .0 → w .end .0 ≤ m → ahead (replicate m 0) w ≡ run (w .at .0) (w .end .0 - w .at .0)
+ahead-all : (m : ℕ) (w : Walk) → w .at .0 ≤ w .end .0 → w .end .0 ≤ m → ahead (replicate m 0) w ≡ run (w .at .0) (w .end .0 - w .at .0)
 ahead-all m w l h = unskipped-all m (w .at .0) (w .end .0 - w .at .0) (omega arith)
 
 pub find-all : (m : ℕ) (i : List ℕ) (w : Walk) (first size : ℕ) → w .at .0 ≡ first → w .end .0 ≡ first + size → first + size ≤ m

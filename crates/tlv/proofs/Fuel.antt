@@ -3,17 +3,18 @@
 -- Assumes nothing.
 use mathlib.Core.Path.{_≡_, refl, sym, ap, _∙_}
 use mathlib.Core.Bool.{Bool, true, false}
+use mathlib.Core.Logic.{⊎-elim}
 use mathlib.Core.List.{List, [], _∷_}
-use Prim.Native.Nat.{ℕ, zero, suc, _+_, _*_, _<_, _≤_}
+use Prim.Native.Nat.{ℕ, zero, suc, _<_, _≤_}
 use native.Mathlib.Omega.{arith}
-use lib.Dec.{leb}
 use lib.ListN.{length, length-drop}
 use Rattle.tag.specs.Bytes.{byte}
 use Rattle.tag.specs.Refusals.{no-message-tlv}
 use Rattle.tag.proofs.Logic.{nope}
 use Rattle.tlv.specs.Areas.{Control, Area, covers, without, areaOf}
-use Rattle.tlv.specs.Walk.{len, longOf, lengthBy, lengthOf, more, stop, passValue, Kind, null, message, terminator, other, control, kindOf, Step, on, hit, lost, found, controlValue, passControl, stepAt, step, find}
-use Rattle.tlv.proofs.Locality.{longBy-is, passValue-is, areaBy-is, controlBy-is}
+use Rattle.tlv.specs.Walk.{len, lengthOf, more, stop, passValue, Kind, null, message, terminator, other, control, kindOf, Step, on, hit, lost, found, controlValue, passControl, stepAt, step, find}
+use Rattle.tlv.proofs.Locality.{passValue-is, areaBy-is, controlBy-is}
+use Rattle.tlv.proofs.Field.{length-size}
 
 -- ---- a step takes an address
 
@@ -27,21 +28,7 @@ length-without r (a ∷ us) = go (covers r a) refl (length-without r us)
     go false q ih = rw (q, without) (omega arith)
 
 length-less : (i us ws : List ℕ) (n : ℕ) → lengthOf i us ≡ len n ws → length ws < length us
-unfolding lengthBy
-length-less i [] ws n e = absurd (nope (cc))
-length-less i (a ∷ us) ws n e = go (leb (byte i a) 254) refl
-  where
-    long : (us : List ℕ) → longOf i us ≡ len n ws → length ws < suc (length us)
-    long [] f = absurd (nope (cc))
-    long (b ∷ []) f = absurd (nope (cc))
-    long (b ∷ c ∷ us) f = omega (arith, ap length (longBy-is (256 * byte i b + byte i c) n us ws f .2))
-
-    go : (t : Bool) → leb (byte i a) 254 ≡ t → length ws < suc (length us)
-    go true q =
-        let e′ : len (byte i a) us ≡ len n ws = rw (q, lengthBy) at e in
-        let u : us ≡ ws = cc in
-        omega (arith, ap length u)
-    go false q = long us (rw (q, lengthBy) at e)
+length-less i us ws n e = ⊎-elim (λ c. omega (arith, c .1)) (λ c. omega (arith, c .1)) (length-size i us ws n e)
 
 value-less : (i us ws : List ℕ) → passValue (lengthOf i us) ≡ more ws → length ws < length us
 value-less i us ws e =

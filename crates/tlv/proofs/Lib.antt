@@ -1,7 +1,7 @@
--- Laws about the definitions of `tlv`. Nothing here states a rule.
+-- Laws about the definitions of `tlv`, and what the code needs of them. Nothing here states a rule.
 pub mod Locality
-pub mod Fuel
 pub mod Field
+pub mod Fuel
 pub mod Tag
 pub mod Writes
 pub mod Shown

@@ -30,7 +30,7 @@ module _ (t : List ℕ) (w : Walk) (n z : ℕ) (inside : Within t w) (some : 1 �
   measured-short q = rw (lt-leb n (length (ahead t w)) (measured-less q))
 
   pub measured-room : (z ≡ w .end .0 → ⊥) → n ≤ length (ahead t w)
-  measured-room there = nth-inside (w .end .0) n (ahead t w) some (λ q. there (nth ∙ q))
+  measured-room there = nth-inside (w .end .0) n (ahead t w) (λ q. there (nth ∙ q))
 
   -- the value passed over
   pub passed-short : z ≡ w .end .0 → stop bad-length ≡ passValue (len n (ahead t w))

@@ -16,7 +16,7 @@ overlay-none (a ∷ us) i = refl
 
 module _ (hi : ℕ) where
   -- a store below them may come first
-  pub overlay-set : (us vs i : List ℕ) (x v : ℕ) → Above hi x us → set (overlay us vs i) x v ≡ overlay us vs (set i x v)
+  overlay-set : (us vs i : List ℕ) (x v : ℕ) → Above hi x us → set (overlay us vs i) x v ≡ overlay us vs (set i x v)
   overlay-set [] vs i x v h = refl
   overlay-set (y ∷ us) [] i x v h = refl
   overlay-set (y ∷ us) (b ∷ vs) i x v h =

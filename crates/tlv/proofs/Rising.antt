@@ -38,8 +38,8 @@ module _ (hi : ℕ) where
           let s : b + k ≤ getD (b ∷ us) k hi = above-spread k b us (h .1) (omega arith) in
           rw (ne-eqb (suc a) b n) (lt-ltb (a + suc k) (getD (b ∷ us) k hi) (omega (arith, h .0)))
 
-  pub nth-inside : (n : ℕ) (us : List ℕ) → 1 ≤ n → (getD us (n - 1) hi ≡ hi → ⊥) → n ≤ length us
-  nth-inside n us p q = go (decLt (n - 1) (length us))
+  pub nth-inside : (n : ℕ) (us : List ℕ) → (getD us (n - 1) hi ≡ hi → ⊥) → n ≤ length us
+  nth-inside n us q = go (decLt (n - 1) (length us))
     where
       none : length us ≤ n - 1 → getD us (n - 1) hi ≡ hi
       none l = List·getD-eq-default us hi l

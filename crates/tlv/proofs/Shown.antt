@@ -2,37 +2,28 @@
 -- the image.
 -- Assumes nothing.
 use mathlib.Core.Path.{_≡_, refl, sym, ap, _∙_, subst}
-use mathlib.Core.Bool.{Bool, true, false}
+use mathlib.Core.Bool.{true, false}
 use mathlib.Core.List.{List, [], _∷_, map}
 use Prim.Native.Nat.{ℕ, suc, _+_, _≤_}
 use native.Mathlib.Omega.{arith}
 use borrow.Author.Tests.{eqb-true, le-leb, not-false}
-use lib.Dec.{leb, eqb}
+use lib.Dec.{eqb}
 use lib.ListN.{length, take, drop, length-map}
 use Rattle.tag.specs.Bytes.{byte, run, consecutive}
-use Rattle.tag.specs.Refusals.{bad-length}
-use Rattle.tag.specs.Reading.{What, message, Report, Reading, unreadable, reads, part}
+use Rattle.tag.specs.Reading.{What, message, Report, Reading, reads, part}
 use Rattle.tag.proofs.Logic.{and-l, and-r, nope}
-use Rattle.tag.proofs.Addresses.{Above, above-length, above-take, map-run}
-use Rattle.tlv.specs.Walk.{Length, bad, len, lengthOf}
-use Rattle.tlv.specs.Message.{TlvTag, View, refuse, view, viewBy, viewed, reportOf, reading}
+use Rattle.tag.proofs.Addresses.{Above, above-length, above-take}
+use Rattle.tag.proofs.Runs.{map-run}
+use Rattle.tlv.specs.Walk.{lengthOf}
+use Rattle.tlv.specs.Message.{TlvTag, view, viewBy, viewed, reportOf, reading}
 use Rattle.tlv.proofs.Locality.{length-above}
-use Rattle.tlv.proofs.Tag.{TlvLaws, Placed, view-placed, beyond}
+use Rattle.tlv.proofs.Tag.{viewBy-is, TlvLaws, Placed, view-placed, by-report, beyond}
 
 consecutive-run : (a : ℕ) (us : List ℕ) → consecutive (a ∷ us) ≡ true → a ∷ us ≡ run a (length (a ∷ us))
 consecutive-run a [] e = refl
 consecutive-run a (b ∷ us) e =
     let q : suc a ≡ b = eqb-true (suc a) b (and-l (eqb (suc a) b) (consecutive (b ∷ us)) e) in
     ap (λ r. a ∷ r) (consecutive-run b us (and-r (eqb (suc a) b) (consecutive (b ∷ us)) e) ∙ ap (λ x. run x (length (b ∷ us))) (sym q))
-
-viewBy-take : (us ms : List ℕ) (l : Length) → viewBy us l ≡ view us ms → (n : ℕ) × (vs : List ℕ) × (l ≡ len n vs) × (take n vs ≡ ms)
-unfolding viewBy
-viewBy-take us ms bad e = absurd (nope (cc))
-viewBy-take us ms (len n vs) e = go (leb n (length vs)) refl
-  where
-    go : (b : Bool) → leb n (length vs) ≡ b → (n′ : ℕ) × (vs′ : List ℕ) × (len n vs ≡ len n′ vs′) × (take n′ vs′ ≡ ms)
-    go false q = let e′ : refuse bad-length ≡ view us ms = rw (q, viewBy) at e in absurd (nope (cc))
-    go true q = let e′ : view us (take n vs) ≡ view us ms = rw (q, viewBy) at e in (n, vs, refl, cc)
 
 module _ (T : TlvTag) (laws : TlvLaws T) where
   -- the message's addresses rise inside the image
@@ -41,20 +32,11 @@ module _ (T : TlvTag) (laws : TlvLaws T) where
   message-above i us ms e =
       let p : Placed T i us = view-placed T i us ms e in
       let e′ : viewBy us (lengthOf i us) ≡ view us ms = sym (rw (p .sound) (rw (p .tlv-at))) ∙ e in
-      let (n, vs, q, t) = viewBy-take us ms (lengthOf i us) e′ in
+      let (u, n, vs, q, t) = viewBy-is us ms us (lengthOf i us) e′ in
       (p .at, subst (λ l. Above (length i) (p .at) l) t (above-take (length i) n (p .at) vs (length-above (length i) i us vs n q (p .at) (beyond T laws i us p .1))))
 
-  by-report : (i : List ℕ) (p : Report) → reading T i ≡ reads p
-      → (us : List ℕ) × (ms : List ℕ) × (viewed T i ≡ view us ms) × (reportOf ((T .writable) i) i ms ≡ p)
-  unfolding reading
-  by-report i p e = go (viewed T i) refl
-    where
-      go : (v : View) → viewed T i ≡ v → (us : List ℕ) × (ms : List ℕ) × (viewed T i ≡ view us ms) × (reportOf ((T .writable) i) i ms ≡ p)
-      go (refuse r) q = let e′ : unreadable r ≡ reads p = rw q at e in absurd (nope (cc))
-      go (view us ms) q = let e′ : reads (reportOf ((T .writable) i) i ms) ≡ reads p = rw q at e in (us, ms, q, cc)
-
   pub wordless : (i : List ℕ) (p : Report) → reading T i ≡ reads p → (p .what ≡ message → ⊥) → p .bytes ≡ []
-  wordless i p e n = let (us, ms, q, r) = by-report i p e in go ms r
+  wordless i p e n = let (us, ms, q, r) = by-report T i p e in go ms r
     where
       go : (ms : List ℕ) → reportOf ((T .writable) i) i ms ≡ p → p .bytes ≡ []
       go [] r = rw (← r)
@@ -62,7 +44,7 @@ module _ (T : TlvTag) (laws : TlvLaws T) where
 
   pub in-place : (i : List ℕ) (p : Report) → reading T i ≡ reads p → p .what ≡ message → p .interrupted ≡ false
       → part (p .address) (length (p .bytes)) i ≡ p .bytes
-  in-place i p e m f = let (us, ms, q, r) = by-report i p e in let (x, h) = message-above i us ms q in go x ms r h
+  in-place i p e m f = let (us, ms, q, r) = by-report T i p e in let (x, h) = message-above i us ms q in go x ms r h
     where
       go : (x : ℕ) (ms : List ℕ) → reportOf ((T .writable) i) i ms ≡ p → Above (length i) x ms → part (p .address) (length (p .bytes)) i ≡ p .bytes
       go x [] r h = let z : _≡_ {A = What} Rattle.tag.specs.Reading.empty message = ap (λ s. s .what) r ∙ m in absurd (nope (cc))
@@ -77,7 +59,7 @@ module _ (T : TlvTag) (laws : TlvLaws T) where
 
   -- a message is no longer than the image
   pub message-short : (i : List ℕ) (p : Report) → reading T i ≡ reads p → length (p .bytes) ≤ length i
-  message-short i p e = let (us, ms, q, r) = by-report i p e in let (x, h) = message-above i us ms q in go x ms r h
+  message-short i p e = let (us, ms, q, r) = by-report T i p e in let (x, h) = message-above i us ms q in go x ms r h
     where
       go : (x : ℕ) (ms : List ℕ) → reportOf ((T .writable) i) i ms ≡ p → Above (length i) x ms → length (p .bytes) ≤ length i
       go x [] r h = rw (← r) (omega arith)

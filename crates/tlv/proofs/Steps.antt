@@ -53,7 +53,7 @@ field-onward field.Bad p q = tt
 field-onward (field.Is n u) p q = (onward p (q .0), q .1)
 
 -- a walk that has moved on inside the table
-pub moved : {i tb : List ℕ} {u v w : Walk} → Onward i tb u v → Moved v w → Onward i tb u w
+moved : {i tb : List ℕ} {u v w : Walk} → Onward i tb u v → Moved v w → Onward i tb u w
 moved p q = record {
   placed = record {
     within = record { ordered = q .ordered; in-table = omega (arith, p .placed .within .in-table, q .same-end); short = p .placed .within .short };

@@ -15,26 +15,28 @@ use lib.Seq.{length-take-le}
 use Rattle.tag.specs.Bytes.{byte, run, overlay, isSet}
 use Rattle.tag.specs.Refusals.{bad-length}
 use Rattle.tag.specs.Checks.{Checked, fine, fault, firstOf}
-use Rattle.tag.specs.Reading.{broken, nothing, holds, heldOf}
+use Rattle.tag.specs.Reading.{Report, unreadable, reads, broken, nothing, holds, heldOf}
 use Rattle.tag.proofs.Logic.{true-false, nope}
 use Rattle.tag.proofs.Images.{length-overlay, overlay-out}
 use Rattle.tag.proofs.Addresses.{Above, above-unset, above-run}
 use Rattle.tlv.specs.Walk.{Length, bad, len, lengthBy, lengthOf, Found, lost, found, messageTlv}
-use Rattle.tlv.specs.Message.{TlvTag, View, refuse, view, viewBy, viewed, readingOf, reading}
+use Rattle.tlv.specs.Message.{TlvTag, View, refuse, view, viewBy, viewed, reportOf, readingOf, reading}
 use Rattle.tlv.specs.Update.{usable, fitsIn, content, lengthAt}
 use Rattle.tlv.proofs.Locality.{find-above, find-same}
 use Rattle.tlv.proofs.Field.{Written, written, fits-less, fits-of, length-size, above-first}
 
 -- ---- a message TLV by its length field
 
-viewBy-is : (us ms vs : List ℕ) (l : Length) → viewBy us l ≡ view vs ms → us ≡ vs
+-- a view by a length is of the same addresses, and its message is the first of those after the length
+pub viewBy-is : (us ms vs : List ℕ) (l : Length) → viewBy us l ≡ view vs ms
+    → (us ≡ vs) × (n : ℕ) × (ws : List ℕ) × (l ≡ len n ws) × (take n ws ≡ ms)
 unfolding viewBy
 viewBy-is us ms vs bad e = absurd (nope (cc))
 viewBy-is us ms vs (len n ws) e = go (leb n (length ws)) refl
   where
-    go : (b : Bool) → leb n (length ws) ≡ b → us ≡ vs
+    go : (b : Bool) → leb n (length ws) ≡ b → (us ≡ vs) × (n′ : ℕ) × (ws′ : List ℕ) × (len n ws ≡ len n′ ws′) × (take n′ ws′ ≡ ms)
     go false q = let e′ : refuse bad-length ≡ view vs ms = rw (q, viewBy) at e in absurd (nope (cc))
-    go true q = let e′ : view us (take n ws) ≡ view vs ms = rw (q, viewBy) at e in cc
+    go true q = let e′ : view us (take n ws) ≡ view vs ms = rw (q, viewBy) at e in (cc, n, ws, refl, cc)
 
 module _ (w : Bool) where
   view-holds : (us m j ms : List ℕ) → map (byte j) ms ≡ m → (length m ≡ 0 → ⊥) → heldOf (readingOf w j (view us ms)) ≡ holds m
@@ -111,22 +113,32 @@ module _ (T : TlvTag) where
       go fine p (lost r) q = let e′ : refuse r ≡ view us ms = rw (p, q) at e in absurd (nope (cc))
       go fine p (found a vs) q =
           let e′ : viewBy vs (lengthOf i vs) ≡ view us ms = rw (p, q) at e in
-          record { at = a; sound = p; tlv-at = q ∙ ap (found a) (viewBy-is vs ms us (lengthOf i vs) e′) }
+          record { at = a; sound = p; tlv-at = q ∙ ap (found a) (viewBy-is vs ms us (lengthOf i vs) e′ .0) }
 
   -- a tag that reads has a view
-  pub ready-of : (i : List ℕ) → (heldOf (reading T i) ≡ broken → ⊥)
+  pub reads-view : (i : List ℕ) → (heldOf (reading T i) ≡ broken → ⊥)
       → (us : List ℕ) × (ms : List ℕ) × (viewed T i ≡ view us ms) × Placed i us
   unfolding reading
-  ready-of i h = go (viewed T i) refl
+  reads-view i h = go (viewed T i) refl
     where
       go : (v : View) → viewed T i ≡ v → (us : List ℕ) × (ms : List ℕ) × (viewed T i ≡ view us ms) × Placed i us
       go (refuse r) q = absurd (h (rw q))
       go (view us ms) q = (us, ms, q, view-placed i us ms q)
 
+  -- and its report is made of that
+  pub by-report : (i : List ℕ) (p : Report) → reading T i ≡ reads p
+      → (us : List ℕ) × (ms : List ℕ) × (viewed T i ≡ view us ms) × (reportOf ((T .writable) i) i ms ≡ p)
+  unfolding reading
+  by-report i p e = go (viewed T i) refl
+    where
+      go : (v : View) → viewed T i ≡ v → (us : List ℕ) × (ms : List ℕ) × (viewed T i ≡ view us ms) × (reportOf ((T .writable) i) i ms ≡ p)
+      go (refuse r) q = let e′ : unreadable r ≡ reads p = rw q at e in absurd (nope (cc))
+      go (view us ms) q = let e′ : reads (reportOf ((T .writable) i) i ms) ≡ reads p = rw q at e in (us, ms, q, cc)
+
   -- its usable addresses are those of the message TLV
   pub usable-is : (i us : List ℕ) → Placed i us → (heldOf (reading T i) ≡ broken → ⊥) → usable (viewed T i) ≡ us
   usable-is i us p h =
-      let (vs, ms, q, r) = ready-of i h in
+      let (vs, ms, q, r) = reads-view i h in
       let e : found (r .at) vs ≡ found (p .at) us = sym (r .tlv-at) ∙ p .tlv-at in
       let u : vs ≡ us = cc in
       ap usable q ∙ u

@@ -15,7 +15,7 @@ pub getD-next : (k a d : ℕ) (us : List ℕ) → 0 < k → getD (a ∷ us) k d 
 getD-next zero a d us h = absurd (omega arith)
 getD-next (suc k) a d us h = let e : suc k - 1 ≡ k = omega arith in rw e
 
-pub take-next : (n a : ℕ) (us : List ℕ) → 0 < n → take n (a ∷ us) ≡ a ∷ take (n - 1) us
+take-next : (n a : ℕ) (us : List ℕ) → 0 < n → take n (a ∷ us) ≡ a ∷ take (n - 1) us
 take-next zero a us h = absurd (omega arith)
 take-next (suc n) a us h = let e : suc n - 1 ≡ n = omega arith in rw e
 
@@ -29,7 +29,7 @@ replicate-next (suc n) a h = let e : suc n - 1 ≡ n = omega arith in rw e
 
 -- ---- a store behind the k bytes that are filled
 
-pub put-next : (k v : ℕ) (xs out : List ℕ) → k < length out
+put-next : (k v : ℕ) (xs out : List ℕ) → k < length out
     → take k out ++ overwrite (v ∷ xs) (drop k out) ≡ take (k + 1) (set out k v) ++ overwrite xs (drop (k + 1) (set out k v))
 put-next k v xs out h =
     let f : k < suc k = omega arith in

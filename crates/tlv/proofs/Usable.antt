@@ -46,7 +46,7 @@ unskipped-rising hi t a (suc n) h =
 pub from-above : (t : List ℕ) (x a e : ℕ) → x < a → a ≤ e → Above e x (from t a e)
 from-above t x a e l h = unskipped-above e t a (e - a) x l (omega arith) (omega arith)
 
-pub from-rising : (t : List ℕ) (a e : ℕ) → a ≤ e → Rising e (from t a e)
+from-rising : (t : List ℕ) (a e : ℕ) → a ≤ e → Rising e (from t a e)
 from-rising t a e h = unskipped-rising e t a (e - a) (omega arith)
 
 pub ahead-rising : (t : List ℕ) (w : Walk) → w .at .0 ≤ w .end .0 → Rising (w .end .0) (ahead t w)

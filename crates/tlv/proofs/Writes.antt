@@ -9,62 +9,57 @@ use native.Mathlib.Omega.{arith}
 use lib.ListN.{length, length-set}
 use lib.Seq.{getD-set-same, getD-set-other}
 use Rattle.tag.specs.Bytes.{byte, overlay}
-use Rattle.tag.specs.Reading.{Report, unreadable, reads, nothing}
+use Rattle.tag.specs.Reading.{Report, reads, nothing}
 use Rattle.tag.specs.Stores.{Store, Command}
 use Rattle.tag.specs.Plan.{inBlock}
 use Rattle.tag.specs.TagType.{TagType}
 use Rattle.tag.specs.Cuts.{Ready}
-use Rattle.tag.proofs.Logic.{nope, true-false}
+use Rattle.tag.proofs.Logic.{true-false}
 use Rattle.tag.proofs.Addresses.{above-unset}
 use Rattle.tag.proofs.Guarded.{Cell, shut, old, fresh, Between}
 use Rattle.tag.proofs.Blocks.{block-of}
 use Rattle.tag.proofs.Writes.{Sound}
 use Rattle.tag.proofs.Laws.{Near}
-use Rattle.tlv.specs.Message.{TlvTag, View, refuse, view, viewed, reportOf, reading}
+use Rattle.tlv.specs.Message.{TlvTag, viewed, reportOf, reading}
 use Rattle.tlv.specs.Update.{usable, fitsIn, content, lengthAt, plan}
 use Rattle.tlv.specs.Tag.{tagOf}
 use Rattle.tlv.proofs.Field.{first-set}
 use Rattle.tlv.proofs.Tag as tlv
-use Rattle.tlv.proofs.Tag.{TlvLaws, Placed, view-placed, ready-of, usable-is}
+use Rattle.tlv.proofs.Tag.{TlvLaws, Placed, view-placed, reads-view, by-report, usable-is}
 
 pub report-writable : (w : Bool) (i ms : List ℕ) → reportOf w i ms .writable ≡ w
 report-writable w i [] = refl
 report-writable w i (a ∷ ms) = refl
 
-module _ (K : TlvTag) (laws : TlvLaws K) (command : List ℕ → List ℕ → Command) (span : List ℕ → ℕ) (encoded : List Store → List ℕ) where
-  abbrev T : TagType
-  T = tagOf K command span encoded
-
+module _ (K : TlvTag) where
   -- the usable addresses after the type byte
   abbrev pub room : List ℕ → List ℕ
   room i = usable (viewed K i)
 
   pub placed : (i : List ℕ) (p : Report) → reading K i ≡ reads p → Placed K i (room i) × (p .writable ≡ (K .writable) i)
-  unfolding reading
-  placed i p e = go (viewed K i) refl
-    where
-      go : (v : View) → viewed K i ≡ v → Placed K i (room i) × (p .writable ≡ (K .writable) i)
-      go (refuse r) q = let e′ : unreadable r ≡ reads p = rw q at e in absurd (nope (cc))
-      go (view us ms) q =
-          let e′ : reads (reportOf ((K .writable) i) i ms) ≡ reads p = rw q at e in
-          let f : reportOf ((K .writable) i) i ms ≡ p = cc in
-          (rw q (view-placed K i us ms q), ap (λ r. r .writable) (sym f) ∙ report-writable ((K .writable) i) i ms)
+  placed i p e =
+      let (us, ms, q, f) = by-report K i p e in
+      (rw q (view-placed K i us ms q), ap (λ r. r .writable) (sym f) ∙ report-writable ((K .writable) i) i ms)
 
-  pub prepared : (i m : List ℕ) → Ready T i m → tlv.Ready K i m (room i)
-  prepared i m r = record { placed = placed i (r .report) (r .reads-as) .0; some-bytes = r .some-bytes; room = r .room }
+module _ (K : TlvTag) (laws : TlvLaws K) (command : List ℕ → List ℕ → Command) (span : List ℕ → ℕ) (encoded : List Store → List ℕ) where
+  abbrev T : TagType
+  T = tagOf K command span encoded
+
+  pub prepared : (i m : List ℕ) → Ready T i m → tlv.Ready K i m (room K i)
+  prepared i m r = record { placed = placed K i (r .report) (r .reads-as) .0; some-bytes = r .some-bytes; room = r .room }
 
   module _ (i m : List ℕ) (r : Ready T i m) where
     abbrev us : List ℕ
-    us = room i
+    us = room K i
 
-    abbrev at : Placed K i (room i)
+    abbrev at : Placed K i (room K i)
     at = prepared i m r .placed
 
-    pub some : 0 < length (room i)
-    some = tlv.some-room K laws i m (room i) (prepared i m r)
+    pub some : 0 < length (room K i)
+    some = tlv.some-room K laws i m (room K i) (prepared i m r)
 
-    pub front : (at .at < lengthAt (room i)) × (lengthAt (room i) < length i)
-    front = tlv.front K laws i (room i) at some
+    front : (at .at < lengthAt (room K i)) × (lengthAt (room K i) < length i)
+    front = tlv.front K laws i (room K i) at some
 
     -- up to the type byte every tag in between is as it was
     agrees : (j : List ℕ) → Between (inBlock (K .block) (plan K i m .guard)) i (plan K i m .closed) (overlay us (content m) i) j
@@ -111,19 +106,19 @@ module _ (K : TlvTag) (laws : TlvLaws K) (command : List ℕ → List ℕ → Co
       near : (x : ℕ) → x ≤ at .at → byte j x ≡ byte i x
       near x l = n .kept x (omega (arith, front)) (above-unset (length i) us (content m) (at .at) x (tlv.beyond K laws i us at .1) l)
 
-      pub same-room : room j ≡ room i
+      pub same-room : room K j ≡ room K i
       same-room = usable-is K j us (tlv.same-placed K laws i us at j (n .same-length) near) (n .readable)
 
       pub still-ready : Ready T j m
       unfolding reading
       still-ready =
-          let (vs, ms, q, p) = ready-of K j (n .readable) in
+          let (vs, ms, q, p) = reads-view K j (n .readable) in
           record {
             report = reportOf ((K .writable) j) j ms;
             reads-as = rw q;
             writable =
                 report-writable ((K .writable) j) j ms ∙ tlv.same-writable K laws i us at j (n .same-length) near
-                ∙ sym (placed i (r .report) (r .reads-as) .1) ∙ r .writable;
+                ∙ sym (placed K i (r .report) (r .reads-as) .1) ∙ r .writable;
             some-bytes = r .some-bytes;
             room = ap (λ vs. fitsIn (length m) (length vs)) same-room ∙ r .room;
           }

@@ -1,4 +1,4 @@
--- Where a message goes: the tests of the code against the definition's.
+-- Where a message goes: the tests of the code against the definition's; and the walk from the data area's start.
 -- Assumes nothing.
 use mathlib.Core.Path.{_≡_, refl, sym, ap, _∙_, subst}
 use mathlib.Core.Bool.{Bool, true, false}

@@ -12,14 +12,13 @@ use Rattle.tag.proofs.Showing.{held-shown}
 use Rattle.tlv.proofs.Shown.{message-short}
 use Rattle.tlv.proofs.Writes as writes
 use Rattle.type2.specs.Memory.{memory}
-use Rattle.type2.specs.Codec.{encoded}
 use Rattle.type2.specs.Type2.{type2}
 use Rattle.type2.proofs.Memory.{memory-laws, short-image}
 use Rattle.type2.proofs.Laws.{type2-laws}
 
 fits-gathering : (i : List ℕ) (p : Report) → (type2 .reading) i ≡ reads p → length (p .bytes) ≤ 1024
 fits-gathering i p e =
-    let s = writes.placed memory memory-laws (type2 .command) (type2 .span) encoded i p e .0 .sound in
+    let s = writes.placed memory i p e .0 .sound in
     omega (arith, message-short memory memory-laws i p e, short-image i s)
 
 pub held-read : (i before after : List ℕ) (a : Answer) (part : List ℕ) → length before ≡ 1024

@@ -3,18 +3,17 @@
 use mathlib.Core.Path.{_≡_, refl, sym, ap}
 use mathlib.Core.Bool.{true}
 use mathlib.Core.List.{List, [], _∷_}
-use Prim.Native.Nat.{ℕ, _+_, _*_, _/_, _<_, _≤_}
+use Prim.Native.Nat.{ℕ, _*_, _/_, _<_, _≤_}
 use native.Mathlib.Omega.{arith}
-use borrow.Author.Tests.{leb-true, ltb-true, le-leb, lt-ltb}
-use lib.Dec.{leb, ltb}
+use borrow.Author.Tests.{le-leb, lt-ltb}
 use lib.ListN.{length}
 use Rattle.tag.specs.Stores.{Store}
 use Rattle.tag.specs.Plan.{inBlock, list}
 use Rattle.tag.specs.Cuts.{Ready}
-use Rattle.tag.proofs.Logic.{and-l, and-r, and-both}
+use Rattle.tag.proofs.Logic.{and-both}
 use Rattle.tag.proofs.Addresses.{Above}
 use Rattle.tag.proofs.Each.{Each, each-of}
-use Rattle.tag.proofs.Blocks.{block-of}
+use Rattle.tag.proofs.Blocks.{in-block, block-of}
 use Rattle.tag.proofs.Sending.{Named, Sized, Nameable, list-good, touch-bounds}
 use Rattle.tag.proofs.Laws.{Laws, Sent}
 use Rattle.tlv.specs.Message.{viewed}
@@ -42,8 +41,7 @@ module _ (i m : List ℕ) (r : Ready type2 i m) where
   -- a block of the image that holds an address after 16 may be named
   name-block : (b y : ℕ) → 16 < y → y < length i → inBlock 4 b y ≡ true → nameable (length i / 4) b ≡ true
   name-block b y l u e =
-      let lo : 4 * b ≤ y = leb-true (4 * b) y (and-l (leb (4 * b) y) (ltb y (4 * b + 4)) e) in
-      let up : y < 4 * b + 4 = ltb-true y (4 * b + 4) (and-r (leb (4 * b) y) (ltb y (4 * b + 4)) e) in
+      let (lo, up) = in-block 4 b y .0 e in
       let short : length i ≤ 1024 = short-image i (place .sound) in
       and-both (and-both (le-leb 4 b (omega arith)) (lt-ltb b (length i / 4) (omega (arith, whole)))) (le-leb b 255 (omega arith))
 
@@ -83,6 +81,5 @@ type2-laws = record {
   same-command = λ i m j r n bs. ap (λ k. commandOf (decode (k / 4) bs)) (n .same-length);
   wordless = wordless memory memory-laws;
   in-place = in-place memory memory-laws;
-  some-span = λ bs. omega arith;
   sent = all-sent;
 }

@@ -15,18 +15,18 @@ use Rattle.tag.specs.Reading.{Reading, unreadable, reads, refusalNumber}
 use Rattle.tag.specs.Stores.{ill, stores}
 use Rattle.tag.specs.Model.{unstored, stored, modelBy, model}
 use Rattle.tag.specs.Version.{knownVersion}
-use Rattle.tlv.proofs.Refusals.{Checking, Numbered, numbered}
+use Rattle.tlv.proofs.Refusals.{CheckNumbered, Numbered, numbered}
 use Rattle.type2.specs.Memory.{imageLength, containerChecks, memory}
 use Rattle.type2.specs.Codec.{wellFormed, commandOf}
 use Rattle.type2.specs.Type2.{type2}
 use Rattle.type2.proofs.Encoding.{decode-formed, decode-ill}
 
 -- no refusal of the capability container is 0
-checking : (n mark version size access : ℕ) → Checking (firstOf (containerChecks n mark version size access))
+checking : (n mark version size access : ℕ) → CheckNumbered (firstOf (containerChecks n mark version size access))
 checking n mark version size access =
     go (imageLength n) (eqb mark 0xE1) (knownVersion version) (eqb access 0x00 || eqb access 0x0F) (leb (16 + 8 * size) n)
   where
-    go : (a b c d e : Bool) → Checking (firstOf (check a 1 ∷ check b 2 ∷ check c 3 ∷ check d 4 ∷ check e 5 ∷ []))
+    go : (a b c d e : Bool) → CheckNumbered (firstOf (check a 1 ∷ check b 2 ∷ check c 3 ∷ check d 4 ∷ check e 5 ∷ []))
     go false b c d e = omega arith
     go true false c d e = omega arith
     go true true false d e = omega arith

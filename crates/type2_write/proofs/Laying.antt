@@ -13,7 +13,7 @@ use Rattle.tag.specs.Stores.{Store}
 use Rattle.tag.specs.Plan.{blockOf, picks, chunk, chunks, counted}
 use Rattle.tag.specs.TagType.{joined}
 use Rattle.tag.proofs.Each.{Each}
-use Rattle.tag.proofs.Addresses.{map-run}
+use Rattle.tag.proofs.Runs.{map-run}
 use Rattle.tag.proofs.Filling.{lay-more}
 use Rattle.tag.proofs.Picks.{length-picks, picked, picks-next}
 use Rattle.tag.proofs.Counts.{counted-yes, counted-no}

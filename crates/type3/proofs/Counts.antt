@@ -8,12 +8,13 @@ use Prim.Native.Nat.{ℕ, zero, suc, _+_, _-_, _*_, _/_, _<_, _≤_}
 use native.Mathlib.Nat.{not-suc-le-zero}
 use native.Mathlib.Omega.{arith}
 use native.Mathlib.Decide.{ℕ-discrete}
-use borrow.Author.Tests.{eq-eqb, ne-eqb, le-leb, lt-ltb}
+use borrow.Author.Tests.{eq-eqb, ne-eqb}
 use lib.ListN.{length}
 use Rattle.tag.specs.Bytes.{byte, run}
 use Rattle.tag.specs.Plan.{inBlock, touches, between, list, counted}
 use Rattle.tag.specs.Cuts.{Ready}
-use Rattle.tag.proofs.Logic.{and-both, or-l, or-r}
+use Rattle.tag.proofs.Logic.{or-l, or-r}
+use Rattle.tag.proofs.Blocks.{in-block}
 use Rattle.tag.proofs.Counts.{counted-run, length-list}
 use Rattle.type3.specs.Update.{blocksFor, blocksPerCommand, addresses, body, values, plan}
 use Rattle.type3.specs.Type3.{type3}
@@ -27,7 +28,7 @@ run-touches z (suc n) s b [] p l lo up = absurd (not-suc-le-zero l)
 run-touches z (suc n) s b (v ∷ vs) p l lo up = go (ℕ-discrete s (z * b)) (λ m. run-touches z n (suc s) b vs p (omega arith) m (omega arith))
   where
     go : Dec (s ≡ z * b) → (suc s ≤ z * b → touches z (run (suc s) n) vs b ≡ true) → touches z (run s (suc n)) (v ∷ vs) b ≡ true
-    go (yes e) ih = or-l (inBlock z b s) (touches z (run (suc s) n) vs b) (and-both (le-leb (z * b) s (omega arith)) (lt-ltb s (z * b + z) (omega arith)))
+    go (yes e) ih = or-l (inBlock z b s) (touches z (run (suc s) n) vs b) (in-block z b s .1 (omega arith, omega arith))
     go (no e) ih = or-r (inBlock z b s) (touches z (run (suc s) n) vs b) (ih (omega arith))
 
 module _ (i m : List ℕ) where

@@ -7,15 +7,16 @@ use mathlib.Core.List.{List}
 use Prim.Native.Nat.{ℕ, _+_, _*_, _/_, _<_, _≤_}
 use native.Mathlib.Omega.{arith}
 use borrow.Author.Tests.{leb-true, le-leb}
-use lib.Dec.{leb, ltb, eqb}
+use lib.Dec.{leb, eqb}
 use lib.ListN.{length, length-map}
 use Rattle.tag.specs.Bytes.{byte}
 use Rattle.tag.specs.Reading.{Reading, unreadable, reads}
 use Rattle.tag.specs.Stores.{Store}
 use Rattle.tag.specs.Plan.{touches, list}
 use Rattle.tag.specs.Cuts.{Ready}
-use Rattle.tag.proofs.Logic.{and-l, and-r, and-both}
+use Rattle.tag.proofs.Logic.{and-r, and-both}
 use Rattle.tag.proofs.Each.{Each, each-map, each-of}
+use Rattle.tag.proofs.Blocks.{in-block}
 use Rattle.tag.proofs.Writes.{Sound}
 use Rattle.tag.proofs.Sending.{blockNumber, Named, Sized, touch-bounds, Nameable, list-good}
 use Rattle.tag.proofs.Laws.{Sent, Near, Laws, ready-reads}
@@ -66,8 +67,7 @@ pub touched-most : (i m : List ℕ) (b : ℕ) → touches 16 (addresses m) (valu
 touched-most i m b e =
     let hi = 16 * (1 + blocksFor (length m)) in
     let (y, past, below, q) = touch-bounds 16 hi 8 (addresses m) (values i m) b (above-addresses m hi (omega arith)) e in
-    let from : 16 * b ≤ y = leb-true (16 * b) y (and-l _ (ltb y (16 * b + 16)) q) in
-    omega arith
+    omega (arith, in-block 16 b y .0 q .0)
 
 -- a command of whole blocks at most Nmaxb, one to w of them, rising
 sendable : (nbw nmaxb hi : ℕ) (ss : List Store) → nmaxb ≤ 255 → Each (Named 16 (λ b. b ≤ nmaxb)) ss → Sized 16 (blocksPerCommand nbw) hi ss → Sendable nbw nmaxb ss
@@ -139,6 +139,5 @@ type3-laws number eight = record {
   same-command = λ i m j r n. near-command number i m j r n;
   wordless = wordless;
   in-place = in-place;
-  some-span = λ bytes. omega arith;
   sent = λ i m r. list-sent number i m eight r;
 }

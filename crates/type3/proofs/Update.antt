@@ -8,15 +8,17 @@ use mathlib.Core.Logic.{⊎-elim}
 use mathlib.Core.List.{List, [], _∷_, map}
 use Prim.Native.Nat.{ℕ, _+_, _-_, _*_, _/_, _%_, _<_, _≤_}
 use native.Mathlib.Omega.{arith}
-use borrow.Author.Tests.{eqb-true, ne-eqb, leb-true, ltb-true, le-leb, lt-ltb}
+use borrow.Author.Tests.{eqb-true, ne-eqb, leb-true}
 use lib.Dec.{leb, eqb}
 use lib.ListN.{length, take, replicate, length-append, length-replicate}
 use Rattle.tag.specs.Bytes.{byte, run, isSet}
 use Rattle.tag.specs.Reading.{nothing, holds, heldOf}
 use Rattle.tag.specs.Plan.{newImage, protected, inBlock}
-use Rattle.tag.proofs.Logic.{and-r, and-both, or-cases, true-false}
+use Rattle.tag.proofs.Logic.{or-cases, true-false}
 use Rattle.tag.proofs.Images.{length-overlay, overlay-out}
-use Rattle.tag.proofs.Addresses.{Above, above-unset, overlay-reads, above-run, length-run, take-run, map-run}
+use Rattle.tag.proofs.Addresses.{Above, above-unset, overlay-reads, above-run}
+use Rattle.tag.proofs.Runs.{length-run, take-run, map-run}
+use Rattle.tag.proofs.Blocks.{in-block}
 use Rattle.tag.proofs.Guarded.{Cell, shut, old, fresh, Between}
 use Rattle.type3.specs.Attributes.{steadySum, nmaxbOf, attributes}
 use Rattle.type3.specs.Message.{reading}
@@ -53,7 +55,7 @@ quiet i j n c b = held-closed j (checks-of i j (b .0) agrees c flag sum ln) e9
     l = omega (arith, bounds i c .reach)
 
     at : (k : ℕ) → inBlock 16 0 k ≡ true → byte j k ≡ byte (closed i) k
-    at k e = go (b .1 k (omega (arith, l, ltb-true k 16 (and-r (leb 0 k) _ e))))
+    at k e = go (b .1 k (omega (arith, l, in-block 16 0 k .0 e .1)))
       where
         go : Cell (inBlock 16 0) i (closed i) n j k → byte j k ≡ byte (closed i) k
         go (shut p q) = q
@@ -63,7 +65,7 @@ quiet i j n c b = held-closed j (checks-of i j (b .0) agrees c flag sum ln) e9
     agrees : Agrees j i
     agrees k e =
         let (lt, n9) = steady-is k e in
-        at k (and-both (le-leb 0 k (omega arith)) (lt-ltb k 16 (omega arith)))
+        at k (in-block 16 0 k .1 (omega arith, omega arith))
         ∙ closed-else i k (rw (ne-eqb 9 k (omega arith), ne-eqb 14 k (omega arith), ne-eqb 15 k (omega arith)))
 
     e9 : byte j 9 ≡ 0x0F

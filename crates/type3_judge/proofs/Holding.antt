@@ -1,12 +1,12 @@
 -- What a tag holds, by its answer and the part shown.
 -- Assumes nothing.
-use mathlib.Core.Path.{_≡_, refl, sym, ap, _∙_}
+use mathlib.Core.Path.{_≡_, refl, ap, _∙_}
 use mathlib.Core.Bool.{Bool}
 use mathlib.Core.List.{List, []}
 use Prim.Native.Nat.{ℕ, zero, suc}
 use Rattle.tag.specs.Reading.{broken, holds, heldOf, Answer, answerOf, shown}
 use Rattle.tag.specs.Answers.{heldBy, oldHeld, isMessage}
-use Rattle.tag.proofs.Showing.{old-held}
+use Rattle.tag.proofs.Showing.{old-is}
 use Rattle.type3.specs.Attributes.{mayWrite}
 use Rattle.type3.specs.Message.{View, refuse, busy, view, viewed, withMessage, readingOf, reading}
 use Rattle.type3.proofs.Shown.{in-place}
@@ -29,6 +29,4 @@ module _ (i : List ℕ) where
   -- the old message of a tag that reads
   pub old-read : (heldOf (reading i) ≡ broken → ⊥) → (x : Answer) (had : Bool) (part : List ℕ)
       → x ≡ answerOf 0 (reading i) → had ≡ isMessage x → part ≡ shown i [] x → oldHeld had part ≡ heldOf (reading i)
-  old-read n x had part e h f =
-      let held = held-read x part e f in
-      ap (λ b. oldHeld b part) h ∙ old-held x part (λ q. n (sym held ∙ q)) ∙ held
+  old-read n x had part e h f = old-is x had part _ h (held-read x part e f) n

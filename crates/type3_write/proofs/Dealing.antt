@@ -2,14 +2,15 @@
 -- Assumes nothing.
 use mathlib.Core.Path.{_≡_, ap, _∙_}
 use mathlib.Core.List.{List, _++_}
-use Prim.Native.Nat.{ℕ, zero, suc, _+_, _-_, _*_, _/_, _%_, _<_, _≤_, min}
-use native.Mathlib.Nat.{div-add-mod, mod-lt, mul-le-mul-left, mul-le-mul-right}
+use Prim.Native.Nat.{ℕ, zero, suc, _+_, _-_, _*_, _/_, _<_, _≤_, min}
+use native.Mathlib.Nat.{mul-le-mul-left, mul-le-mul-right}
 use native.Mathlib.Numerals.{add-one}
 use native.Mathlib.Omega.{arith}
 use native.Mathlib.Decide.{decLt}
 use lib.ListN.{length, length-append}
 use Rattle.tag.specs.Bytes.{run}
-use Rattle.tag.proofs.Addresses.{length-run}
+use Rattle.tag.proofs.Runs.{length-run}
+use Rattle.tag.proofs.Chunks.{rounded-up}
 use Rattle.type3.specs.Update.{blocksFor}
 use Rattle.type3_write.specs.Listing.{messageCommand, messageCommands, Dealt}
 use Rattle.type3.proofs.Codec.{length-command}
@@ -19,9 +20,9 @@ pub times-more : (w t : ℕ) → w * (t + 1) ≡ w * t + w
 times-more w t = rw (add-one t) (omega arith)
 
 -- a command of so many blocks moves the place on by its bytes
-pub place-more : (k w t at count : ℕ) → w * t < k → at ≡ 13 * t + 18 * min (w * t) k → count ≡ min w (k - w * t)
+pub place-more : (k w t at count : ℕ) → at ≡ 13 * t + 18 * min (w * t) k → count ≡ min w (k - w * t)
     → at + (13 + 18 * count) ≡ 13 * (t + 1) + 18 * min (w * (t + 1)) k
-place-more k w t at count l e f = rw (times-more w t, e, f) (omega arith)
+place-more k w t at count e f = rw (times-more w t, e, f) (omega arith)
 
 -- before the last command there are blocks left
 pub left-over : {k w t : ℕ} (s : ℕ) → Dealt k w t → s < t → w * s < k
@@ -32,15 +33,14 @@ left-over {k} {w} {t} s d l =
 -- as many commands as k blocks need
 pub dealt : (k w : ℕ) → k ≤ 255 → 0 < w → w ≤ 8 → Dealt k w ((k + (w - 1)) / w)
 dealt k w few some most =
-    let e : w * ((k + (w - 1)) / w) + (k + (w - 1)) % w ≡ k + (w - 1) = div-add-mod (k + (w - 1)) w in
-    let l : (k + (w - 1)) % w < w = mod-lt (k + (w - 1)) some in
+    let (enough, none-idle) = rounded-up w k some in
     record {
       few = few;
       some-width = some;
       most-width = most;
-      enough = omega arith;
-      none-idle = omega arith;
-      most = at-most ((k + (w - 1)) / w) (omega arith) (decLt k ((k + (w - 1)) / w));
+      enough = enough;
+      none-idle = none-idle;
+      most = at-most ((k + (w - 1)) / w) none-idle (decLt k ((k + (w - 1)) / w));
     }
   where
     at-most : (t : ℕ) → w * t < k + w → Dec (k < t) → t ≤ k

@@ -10,8 +10,7 @@ use Rattle.tag.specs.Bytes.{byte, run}
 use Rattle.tag.specs.Stores.{Store}
 use Rattle.tag.specs.Plan.{newImage, blockOf, between, picks, chunk, chunks, middle}
 use Rattle.tag.specs.TagType.{joined, listBytes}
-use Rattle.tag.proofs.Addresses.{length-run}
-use Rattle.tag.proofs.Runs.{run-part}
+use Rattle.tag.proofs.Runs.{length-run, run-part}
 use Rattle.tag.proofs.Picks.{picks-run}
 use Rattle.tag.proofs.Chunks.{chunk-more, joined-append}
 use Rattle.type3.specs.Attributes.{attributes}

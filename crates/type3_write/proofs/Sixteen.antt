@@ -9,7 +9,8 @@ use lib.ListN.{length, take, drop, length-drop, take-append-drop}
 use lib.Seq.{take-all, drop-drop, take-append-le, drop-append-le}
 use Rattle.tag.specs.Bytes.{byte, run, overlay}
 use Rattle.tag.specs.Plan.{newImage}
-use Rattle.tag.proofs.Addresses.{overlay-reads, length-run, map-run}
+use Rattle.tag.proofs.Addresses.{overlay-reads}
+use Rattle.tag.proofs.Runs.{length-run, map-run}
 use Rattle.type3.specs.Attributes.{steadySum, attributes}
 use Rattle.type3.specs.Update.{blocksFor, addresses, lnSum, body, values, closedSum, closed, plan}
 use Rattle.type3_write.specs.Listing.{attributeBlock}

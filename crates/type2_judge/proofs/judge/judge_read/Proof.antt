@@ -1,9 +1,8 @@
 -- `judge::judge_read` meets its contract. Assumes nothing.
-use mathlib.Core.Path.{sym, ap, _∙_}
 use borrow.Author.Needs.{needs}
-use Rattle.tag.specs.Answers.{readAs, oldHeld}
+use Rattle.tag.specs.Answers.{readAs}
 use Rattle.tag.proofs.Laws.{written-ready, ready-reads}
-use Rattle.tag.proofs.Showing.{old-held}
+use Rattle.tag.proofs.Showing.{old-is}
 use Rattle.type2.specs.Type2.{type2}
 use Rattle.type2.proofs.Holding.{held-read}
 use Rattle.type2_judge.proofs.judge.judge_read.Statement.{statement}
@@ -22,9 +21,7 @@ judge-from-requires c κs =
     record {
       short = s .pre .0 .short;
       marks = s .pre .1;
-      old-is = ap (λ b. oldHeld b (shown .result .now)) (c .is-message .ensures)
-          ∙ old-held (readAs (r .result)) (shown .result .now) (λ q. ready-reads type2 i m ready (sym h ∙ q))
-          ∙ h;
+      old-is = old-is (readAs (r .result)) _ (shown .result .now) _ (c .is-message .ensures) h (ready-reads type2 i m ready);
     }
 
 pub judge-read-spec : {M : Type 1} → statement M

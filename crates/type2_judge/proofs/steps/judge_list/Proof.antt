@@ -7,9 +7,8 @@ use borrow.Author.Needs.{needs}
 use lib.ListN.{length}
 use Rattle.tag.specs.TagType.{commands}
 use Rattle.tag.specs.Judge.{judge, task}
-use Rattle.tag.proofs.Judging.{judge-good, judge-bad}
 use Rattle.type2.specs.Type2.{type2}
-use Rattle.tag.proofs.Turns.{from, from-end}
+use Rattle.tag.proofs.Turns.{from, turn-good, turn-bad}
 use Rattle.type2_judge.proofs.Turns.{turn-stop, turn-next, turn-short}
 use Rattle.type2_judge.proofs.steps.judge_list.Statement.{statement}
 use Rattle.type2_judge.proofs.steps.judge_list.Tie as tie
@@ -82,16 +81,14 @@ returns-3 c =
     let s = c .before .before .before .before .before .before .before .before .before .before .before .before .before .before .before in
     let a = s .args in
     let l = c .before .before .before .before .before .before .before .loop in
-    let t = task type2 (a .image .now) (a .message .now) in
-    sym (l .inv .4 ∙ ap (judge t (l .n) (l .work)) (from-end type2 (a .image .now) (a .list .now) (l .at) (omega arith)) ∙ judge-good t (l .n) (l .work) (sym (c .before .before .before .holds .ensures) ∙ c .if3 .taken))
+    sym (l .inv .4 ∙ turn-good type2 (a .image .now) (a .list .now) (l .at) (omega arith) (a .message .now) (l .n) (l .work) (sym (c .before .before .before .holds .ensures) ∙ c .if3 .taken))
 
 returns-4 : tie.Need-returns-4 Inv-loop μ-loop
 returns-4 c =
     let s = c .before .before .before .before .before .before .before .before .before .before .before .before .before .before .before in
     let a = s .args in
     let l = c .before .before .before .before .before .before .before .loop in
-    let t = task type2 (a .image .now) (a .message .now) in
-    sym (l .inv .4 ∙ ap (judge t (l .n) (l .work)) (from-end type2 (a .image .now) (a .list .now) (l .at) (omega arith)) ∙ judge-bad t (l .n) (l .work) (sym (c .before .before .before .holds .ensures) ∙ c .if3 .left))
+    sym (l .inv .4 ∙ turn-bad type2 (a .image .now) (a .list .now) (l .at) (omega arith) (a .message .now) (l .n) (l .work) (sym (c .before .before .before .holds .ensures) ∙ c .if3 .left))
 
 pub judge-list-spec : {M : Type 1} → statement M
 judge-list-spec =

@@ -4,9 +4,8 @@ use Prim.Native.Nat.{_+_, _-_, _≤_}
 use native.Mathlib.Omega.{arith}
 use lib.ListN.{length, take, drop}
 use Rattle.tag.specs.Judge.{judge, task}
-use Rattle.tag.proofs.Judging.{judge-good, judge-bad}
 use Rattle.type3_judge.specs.Views.{Judging}
-use Rattle.tag.proofs.Turns.{from, from-end, turn-stop, turn-next}
+use Rattle.tag.proofs.Turns.{from, turn-good, turn-bad, turn-stop, turn-next}
 use Rattle.type3.specs.Type3.{type3}
 use borrow.Author.Needs.{needs}
 use Rattle.type3_judge.proofs.judge.judge_list.Statement.{statement}
@@ -62,21 +61,13 @@ returns-2 : tie.Need-returns-2 Inv-loop μ-loop
 returns-2 c =
     let a = c .before .before .before .before .before .before .before .before .before .before .before .args in
     let l = c .before .before .before .before .loop in
-    sym (
-    l .inv .3
-    ∙ ap (judge (task (type3 (a .number .now)) (a .image .now) (a .message .now)) (l .count) (l .work)) (from-end (type3 (a .number .now)) (a .image .now) (a .list .now) (l .at) (omega arith))
-    ∙ judge-good (task (type3 (a .number .now)) (a .image .now) (a .message .now)) (l .count) (l .work) (sym (c .before .holds .ensures) ∙ c .if2 .taken)
-    )
+    sym (l .inv .3 ∙ turn-good (type3 (a .number .now)) (a .image .now) (a .list .now) (l .at) (omega arith) (a .message .now) (l .count) (l .work) (sym (c .before .holds .ensures) ∙ c .if2 .taken))
 
 returns-3 : tie.Need-returns-3 Inv-loop μ-loop
 returns-3 c =
     let a = c .before .before .before .before .before .before .before .before .before .before .before .args in
     let l = c .before .before .before .before .loop in
-    sym (
-    l .inv .3
-    ∙ ap (judge (task (type3 (a .number .now)) (a .image .now) (a .message .now)) (l .count) (l .work)) (from-end (type3 (a .number .now)) (a .image .now) (a .list .now) (l .at) (omega arith))
-    ∙ judge-bad (task (type3 (a .number .now)) (a .image .now) (a .message .now)) (l .count) (l .work) (sym (c .before .holds .ensures) ∙ c .if2 .left)
-    )
+    sym (l .inv .3 ∙ turn-bad (type3 (a .number .now)) (a .image .now) (a .list .now) (l .at) (omega arith) (a .message .now) (l .count) (l .work) (sym (c .before .holds .ensures) ∙ c .if2 .left))
 
 pub judge-list-spec : {M : Type 1} → statement M
 judge-list-spec =

@@ -2,7 +2,7 @@
 use Prim.Native.Nat.{_+_}
 use borrow.Author.Needs.{needs}
 use Rattle.tag.specs.Bytes.{run}
-use Rattle.tag.proofs.Addresses.{length-run}
+use Rattle.tag.proofs.Runs.{length-run}
 use Rattle.type3_write.proofs.Body.{blocksAt, length-blocks, blocks-filled}
 use Rattle.type3_write.proofs.Laying.{lay-command}
 use Rattle.type3_write.proofs.write.put_command.Statement.{statement}

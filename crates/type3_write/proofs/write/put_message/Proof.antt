@@ -71,7 +71,7 @@ loop-again c =
       room = l .inv .room;
       turn = omega arith;
       skipped = omega arith;
-      place = place-more (blocksFor (length m)) (a .w) (l .t) (l .at) count (omega arith) (l .inv .place) taken;
+      place = place-more (blocksFor (length m)) (a .w) (l .t) (l .at) count (l .inv .place) taken;
       same = search needs;
       laid = put ∙ rw (taken, l .inv .skipped, commands-more n m (a .w) (l .t));
     }

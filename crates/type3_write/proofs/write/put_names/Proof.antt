@@ -6,7 +6,7 @@ use native.Mathlib.Omega.{arith}
 use borrow.Author.Needs.{needs}
 use lib.ListN.{length, drop, length-set}
 use Rattle.tag.specs.Bytes.{run}
-use Rattle.tag.proofs.Addresses.{length-run}
+use Rattle.tag.proofs.Runs.{length-run}
 use Rattle.type3.specs.Codec.{namesBytes}
 use Rattle.type3.proofs.Codec.{length-names}
 use Rattle.tag.proofs.Filling.{lay-two}
