@@ -11,7 +11,7 @@ use lib.ListN.{length, take, drop, replicate, length-drop}
 use lib.Seq.{take-at, drop-drop, getD-at, split-at}
 use Rattle.tag.specs.Bytes.{byte, same, overwrite}
 use Rattle.tag.specs.Refusals.{not-well-formed}
-use Rattle.tag.proofs.Logic.{and-l, and-r, and-both, same-eq, same-refl, true-false, nope}
+use Rattle.tag.proofs.Logic.{and-l, and-r, and-three, and-both, same-eq, same-refl, true-false, nope}
 use Rattle.type3.specs.declared.Command.{Command}
 use Rattle.type3.specs.Update.{blocksPerCommand}
 use Rattle.type3.specs.Codec.{namesBytes, Names, no-names, names, namesOf, nameable, wellNamed, opening, commandBytes, Decoded, undecoded, decoded, decodeBy, decode}
@@ -48,36 +48,28 @@ names-numbers (suc k) (t ∷ b ∷ r) h l =
 -- ---- what a frame says
 
 module _ (number : List ℕ) (nbw : ℕ) (bytes : List ℕ) (h : framed number nbw bytes ≡ true) where
-  frame-tests : leb 1 (byte bytes 12) && leb (byte bytes 12) (blocksPerCommand nbw) && eqb (length bytes) (13 + 18 * byte bytes 12) && same (take 12 bytes) (opening number) ≡ true
-  unfolding framedBy
-  frame-tests =
-      and-l (leb 1 (byte bytes 12) && leb (byte bytes 12) (blocksPerCommand nbw) && eqb (length bytes) (13 + 18 * byte bytes 12) && same (take 12 bytes) (opening number))
-      (marked (byte bytes 12) (drop 13 bytes)) h
+  -- how many blocks it may have, and how many bytes they ask for
+  abbrev allowed : Bool
+  allowed = leb 1 (byte bytes 12) && leb (byte bytes 12) (blocksPerCommand nbw)
 
-  frame-marked : marked (byte bytes 12) (drop 13 bytes) ≡ true
+  abbrev sized : Bool
+  sized = eqb (length bytes) (13 + 18 * byte bytes 12)
+
+  frame-tests : (allowed && sized ≡ true) × (same (take 12 bytes) (opening number) ≡ true) × (marked (byte bytes 12) (drop 13 bytes) ≡ true)
   unfolding framedBy
-  frame-marked =
-      and-r (leb 1 (byte bytes 12) && leb (byte bytes 12) (blocksPerCommand nbw) && eqb (length bytes) (13 + 18 * byte bytes 12) && same (take 12 bytes) (opening number))
-      (marked (byte bytes 12) (drop 13 bytes)) h
+  frame-tests = and-three (allowed && sized) (same (take 12 bytes) (opening number)) (marked (byte bytes 12) (drop 13 bytes)) h
 
   frame-opening : take 12 bytes ≡ opening number
-  frame-opening =
-      same-eq (take 12 bytes) (opening number)
-      (and-r (leb 1 (byte bytes 12) && leb (byte bytes 12) (blocksPerCommand nbw) && eqb (length bytes) (13 + 18 * byte bytes 12)) (same (take 12 bytes) (opening number)) frame-tests)
+  frame-opening = same-eq (take 12 bytes) (opening number) (frame-tests .1)
 
-  frame-sizes : leb 1 (byte bytes 12) && leb (byte bytes 12) (blocksPerCommand nbw) && eqb (length bytes) (13 + 18 * byte bytes 12) ≡ true
-  frame-sizes =
-      and-l (leb 1 (byte bytes 12) && leb (byte bytes 12) (blocksPerCommand nbw) && eqb (length bytes) (13 + 18 * byte bytes 12)) (same (take 12 bytes) (opening number)) frame-tests
-
-  frame-count : leb 1 (byte bytes 12) && leb (byte bytes 12) (blocksPerCommand nbw) ≡ true
-  frame-count = and-l (leb 1 (byte bytes 12) && leb (byte bytes 12) (blocksPerCommand nbw)) (eqb (length bytes) (13 + 18 * byte bytes 12)) frame-sizes
+  frame-count : allowed ≡ true
+  frame-count = and-l allowed sized (frame-tests .0)
 
   pub frame : Framed bytes
-  frame =
-      record {
-        few = counted nbw (byte bytes 12) frame-count .few;
-        whole = eqb-true (length bytes) (13 + 18 * byte bytes 12) (and-r (leb 1 (byte bytes 12) && leb (byte bytes 12) (blocksPerCommand nbw)) (eqb (length bytes) (13 + 18 * byte bytes 12)) frame-sizes);
-      }
+  frame = record {
+    few = counted nbw (byte bytes 12) frame-count .few;
+    whole = eqb-true (length bytes) (13 + 18 * byte bytes 12) (and-r allowed sized (frame-tests .0));
+  }
 
   -- framed bytes are those of the command that they carry
   framed-bytes : bytes ≡ commandBytes number (numbers (byte bytes 12) (drop 13 bytes)) (drop (13 + 2 * byte bytes 12) bytes)
@@ -86,7 +78,7 @@ module _ (number : List ℕ) (nbw : ℕ) (bytes : List ℕ) (h : framed number n
       let bs = numbers b (drop 13 bytes) in
       let rest = drop (2 * b) (drop 13 bytes) in
       let long : 12 < length bytes = omega (arith, frame) in
-      let named : drop 13 bytes ≡ namesBytes bs ++ rest = names-numbers b (drop 13 bytes) frame-marked (omega (arith, frame, length-drop 13 bytes)) in
+      let named : drop 13 bytes ≡ namesBytes bs ++ rest = names-numbers b (drop 13 bytes) (frame-tests .2) (omega (arith, frame, length-drop 13 bytes)) in
       split-at bytes 12 0 long
       ∙ ap (λ o. o ++ b ∷ drop 13 bytes) frame-opening
       ∙ ap (λ r. opening number ++ b ∷ r) named
