@@ -2,7 +2,7 @@
 -- A tag that agrees with it in bytes 0 to 8 and 10 passes the checks again, if its WriteFlag, Ln and checksum are in order.
 -- Assumes nothing.
 use mathlib.Core.Path.{_≡_, refl, sym, ap}
-use mathlib.Core.Bool.{Bool, true, false, not, _||_}
+use mathlib.Core.Bool.{Bool, true, false, not, _||_, cond}
 use mathlib.Core.List.{List}
 use Prim.Native.Nat.{ℕ, zero, suc, _+_, _*_, _/_, _≤_}
 use native.Mathlib.Omega.{arith}
@@ -11,7 +11,7 @@ use lib.Dec.{leb, eqb}
 use lib.ListN.{length, take, drop, length-take}
 use Rattle.tag.specs.Bytes.{byte}
 use Rattle.tag.specs.Checks.{Checked, fine, fault, firstOf}
-use Rattle.tag.specs.Reading.{empty, being-written, Report, reads, broken, nothing, holds, heldOf}
+use Rattle.tag.specs.Reading.{empty, being-written, Report, unreadable, reads, broken, nothing, holds, heldOf}
 use Rattle.tag.proofs.Logic.{and-three, and-both, lengths, nope}
 use Rattle.tag.proofs.Checks.{AllPass, fine-all, all-fine}
 use Rattle.type3.specs.Attributes.{steadySum, nmaxbOf, attributes, attributeChecks, mayWrite}
@@ -76,6 +76,23 @@ checks-of i j l h c flag sum ln =
       ),
     )
 
+-- ---- reading by the checks
+
+-- one that fails gives its refusal
+pub unread : (i : List ℕ) (r : ℕ) → firstOf (attributeChecks (length i) (attributes i)) ≡ fault r → reading i ≡ unreadable r
+unfolding reading viewBy
+unread i r e = rw e
+
+-- a tag that passes them reads
+pub passes-reads : (i : List ℕ) → firstOf (attributeChecks (length i) (attributes i)) ≡ fine → (p : Report) × (reading i ≡ reads p)
+unfolding reading viewBy
+passes-reads i e = rw e (go (eqb (byte i 9) 0x0F) (attributes i .ln))
+  where
+    go : (b : Bool) (n : ℕ) → (p : Report) × (readingOf (mayWrite i) i (cond b busy (view n)) ≡ reads p)
+    go true n = (without being-written (mayWrite i), refl)
+    go false zero = (without empty (mayWrite i), refl)
+    go false (suc n) = (withMessage (suc n) i (mayWrite i), refl)
+
 -- ---- what a tag that passes them holds
 
 -- WriteFlag 0Fh: no message
@@ -107,12 +124,11 @@ unfolding reading
 reads-writable i p e = writable-as (mayWrite i) i (viewed i) p e
 
 pub reads-passes : (i : List ℕ) → (heldOf (reading i) ≡ broken → ⊥) → Passes i
-unfolding reading viewBy
 reads-passes i h = go (firstOf (attributeChecks (length i) (attributes i))) refl
   where
     go : (c : Checked) → firstOf (attributeChecks (length i) (attributes i)) ≡ c → Passes i
     go fine q = fine-all (attributeChecks (length i) (attributes i)) q
-    go (fault r) q = absurd (h (rw q))
+    go (fault r) q = absurd (h (ap heldOf (unread i r q)))
 
 -- what it holds fits
 pub held-fits : (j m : List ℕ) → heldOf (reading j) ≡ holds m → fits j (length m) ≡ true
