@@ -23,12 +23,12 @@ use Rattle.type3.specs.Codec.{namesBytes, Names, no-names, names, withNa
 
 -- ---- block names
 
-pub names-bytes : (bs r : List ℕ) → namesOf (length bs) (namesBytes bs ++ r) ≡ names bs r
+names-bytes : (bs r : List ℕ) → namesOf (length bs) (namesBytes bs ++ r) ≡ names bs r
 unfolding namesOf
 names-bytes [] r = refl
 names-bytes (b ∷ bs) r = ap (withName b) (names-bytes bs r)
 
-pub names-is : (k : ℕ) (bytes bs r : List ℕ) → namesOf k bytes ≡ names bs r → (length bs ≡ k) × (bytes ≡ namesBytes bs ++ r)
+names-is : (k : ℕ) (bytes bs r : List ℕ) → namesOf k bytes ≡ names bs r → (length bs ≡ k) × (bytes ≡ namesBytes bs ++ r)
 unfolding namesOf
 names-is zero bytes bs r e =
     let none : bs ≡ [] = cc in
@@ -165,7 +165,7 @@ length-command number bs bytes n l =
     )
 
 -- the count stands at byte 12, whatever follows the command
-count-at : (number bs bytes r : List ℕ) → length number ≡ 8 → byte (commandBytes number bs bytes ++ r) 12 ≡ length bs
+pub count-at : (number bs bytes r : List ℕ) → length number ≡ 8 → byte (commandBytes number bs bytes ++ r) 12 ≡ length bs
 count-at number bs bytes r n =
     ap (λ l. byte (l ++ r) 12) (grouped number bs bytes)
     ∙ ap (λ l. byte l 12) (append-assoc (opening number) (length bs ∷ (namesBytes bs ++ bytes)) r)

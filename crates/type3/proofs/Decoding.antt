@@ -2,13 +2,13 @@
 -- Assumes nothing.
 use mathlib.Core.Path.{_≡_, refl, sym, ap, _∙_}
 use mathlib.Core.Bool.{Bool, true, false, _&&_}
-use mathlib.Core.List.{List, [], _∷_, _++_, append-assoc}
+use mathlib.Core.List.{List, [], _∷_, _++_, append-nil}
 use Prim.Native.Nat.{ℕ, zero, suc, _+_, _*_, _<_, _≤_}
 use native.Mathlib.Omega.{arith}
 use borrow.Author.Tests.{eqb-true, eq-eqb}
 use lib.Dec.{leb, eqb}
 use lib.ListN.{length, take, drop, replicate, length-drop}
-use lib.Seq.{take-at, drop-drop, getD-at, split-at}
+use lib.Seq.{take-at, drop-drop, split-at}
 use Rattle.tag.specs.Bytes.{byte, same, overwrite}
 use Rattle.tag.specs.Refusals.{not-well-formed}
 use Rattle.tag.proofs.Logic.{and-l, and-r, and-three, and-both, same-eq, same-refl, true-false, nope}
@@ -17,7 +17,7 @@ use Rattle.type3.specs.Update.{blocksPerCommand}
 use Rattle.type3.specs.Codec.{namesBytes, Names, no-names, names, namesOf, nameable, wellNamed, opening, commandBytes, Decoded, undecoded, decoded, decodeBy, decode}
 use Rattle.type3.specs.InPlace.{marked, numbers, framedBy, framed, carried}
 use Rattle.type3.specs.CodecViews.{commandAs, isCommand, Framed}
-use Rattle.type3.proofs.Codec.{length-opening, past-count, grouped, decode-encode, encode-decode, length-command}
+use Rattle.type3.proofs.Codec.{length-opening, past-count, grouped, decode-encode, encode-decode, length-command, count-at}
 use Rattle.type3.proofs.Naming.{length-numbers}
 use Rattle.type3.proofs.Encoding.{counted}
 
@@ -83,10 +83,10 @@ module _ (number : List ℕ) (nbw : ℕ) (bytes : List ℕ) (h : framed number n
       ∙ ap (λ o. o ++ b ∷ drop 13 bytes) frame-opening
       ∙ ap (λ r. opening number ++ b ∷ r) named
       ∙ ap (λ c. opening number ++ c ∷ (namesBytes bs ++ rest)) (sym (length-numbers b (drop 13 bytes)))
-      ∙ sym (append-assoc (opening number) (length bs ∷ namesBytes bs) rest)
+      ∙ sym (grouped number bs rest)
       ∙ ap (commandBytes number bs) (drop-drop (2 * b) 13 bytes)
 
-  pub decode-framed : (nmaxb : ℕ) → length number ≡ 8 → nameable nmaxb (numbers (byte bytes 12) (drop 13 bytes)) ≡ true
+  decode-framed : (nmaxb : ℕ) → length number ≡ 8 → nameable nmaxb (numbers (byte bytes 12) (drop 13 bytes)) ≡ true
       → decode number nbw nmaxb bytes ≡ carried bytes
   decode-framed nmaxb n k =
       let b = byte bytes 12 in
@@ -103,7 +103,7 @@ module _ (number : List ℕ) (nbw nmaxb : ℕ) (bs bytes : List ℕ) (n : length
   o-length = omega (arith, length-opening number)
 
   command-count : byte (commandBytes number bs bytes) 12 ≡ length bs
-  command-count = ap (λ l. byte l 12) (grouped number bs bytes) ∙ getD-at (opening number) (length bs) (namesBytes bs ++ bytes) 0 12 o-length
+  command-count = ap (λ l. byte l 12) (sym (append-nil (commandBytes number bs bytes))) ∙ count-at number bs bytes [] n
 
   command-rest : drop 13 (commandBytes number bs bytes) ≡ namesBytes bs ++ bytes
   command-rest = ap (drop 13) (grouped number bs bytes) ∙ past-count (opening number) (length bs) (namesBytes bs ++ bytes) o-length
@@ -132,7 +132,7 @@ module _ (number : List ℕ) (nbw nmaxb : ℕ) (bs bytes : List ℕ) (n : length
 
 -- ---- what decodes
 
-pub decoded-framed : (number : List ℕ) (nbw nmaxb : ℕ) (all bs bytes : List ℕ) → decode number nbw nmaxb all ≡ decoded bs bytes
+decoded-framed : (number : List ℕ) (nbw nmaxb : ℕ) (all bs bytes : List ℕ) → decode number nbw nmaxb all ≡ decoded bs bytes
     → (framed number nbw all ≡ true) × (nameable nmaxb (numbers (byte all 12) (drop 13 all)) ≡ true)
 decoded-framed number nbw nmaxb all bs bytes e =
     let h = encode-decode number nbw nmaxb all bs bytes e in
