@@ -16,13 +16,13 @@ use Rattle.tag.proofs.Logic.{and-three}
 use Rattle.type2.specs.Codec.{nameable, commandBytes, encode, wellFormed, undecoded, decoded, decode}
 
 -- a block that may be named
-pub record Named (blocks b : ℕ) : Type 0 where
+pub record NameBounds (blocks b : ℕ) : Type 0 where
   pub data-area : 4 ≤ b
   pub inside : b < blocks
   pub a-byte : b ≤ 255
 
-pub named : (blocks b : ℕ) → nameable blocks b ≡ true → Named blocks b
-named blocks b h =
+pub name-bounds : (blocks b : ℕ) → nameable blocks b ≡ true → NameBounds blocks b
+name-bounds blocks b h =
     let (least, below, a-byte) = and-three (leb 4 b) (ltb b blocks) (leb b 255) h in
     record {
       data-area = leb-true 4 b least;
@@ -34,7 +34,7 @@ named blocks b h =
 pub record Formed (blocks : ℕ) (bs : List ℕ) : Type 0 where
   pub six : length bs ≡ 6
   pub write : byte bs 0 ≡ 0xA2
-  pub named-block : Named blocks (byte bs 1)
+  pub named-block : NameBounds blocks (byte bs 1)
 
 pub formed : (blocks : ℕ) (bs : List ℕ) → wellFormed blocks bs ≡ true → Formed blocks bs
 formed blocks bs h =
@@ -42,7 +42,7 @@ formed blocks bs h =
     record {
       six = eqb-true (length bs) 6 six;
       write = eqb-true (byte bs 0) 0xA2 write;
-      named-block = named blocks (byte bs 1) nameable-block;
+      named-block = name-bounds blocks (byte bs 1) nameable-block;
     }
 
 pub four-bytes : (l : List ℕ) → length l ≡ 4 → l ≡ byte l 0 ∷ byte l 1 ∷ byte l 2 ∷ byte l 3 ∷ []

@@ -19,7 +19,7 @@ use Rattle.type3.specs.InPlace.{marked, numbers, framedBy, framed, carri
 use Rattle.type3.specs.CodecViews.{commandAs, isCommand, Framed}
 use Rattle.type3.proofs.Codec.{length-opening, past-count, grouped, decode-encode, encode-decode, length-command, count-at}
 use Rattle.type3.proofs.Naming.{length-numbers}
-use Rattle.type3.proofs.Encoding.{counted}
+use Rattle.type3.proofs.Encoding.{count-bounds}
 
 -- ---- the names
 
@@ -67,7 +67,7 @@ module _ (number : List ℕ) (nbw : ℕ) (bytes : List ℕ) (h : framed number n
 
   pub frame : Framed bytes
   frame = record {
-    few = counted nbw (byte bytes 12) frame-count .few;
+    few = count-bounds nbw (byte bytes 12) frame-count .few;
     whole = eqb-true (length bytes) (13 + 18 * byte bytes 12) (and-r allowed sized (frame-tests .0));
   }
 
@@ -206,9 +206,9 @@ pub same-command : {n m : ℕ} {x u y v : List ℕ} → n ≡ m → x ≡ u → 
 same-command p q r = λ i. record { count = p i; blocks = q i; bytes = r i }
 
 -- of a command's arrays its count takes what was carried
-pub viewed : (bytes : List ℕ) → Framed bytes
+pub carried-viewed : (bytes : List ℕ) → Framed bytes
     → (let d = commandAs (carried bytes) in decoded (take (d .count) (d .blocks)) (take (16 * d .count) (d .bytes))) ≡ carried bytes
-viewed bytes f =
+carried-viewed bytes f =
     let b = byte bytes 12 in
     let ns = numbers b (drop 13 bytes) in
     let sixteens = drop (13 + 2 * b) bytes in

@@ -23,7 +23,7 @@ use Rattle.type3.proofs.Update.{HasRoom, inside}
 use Rattle.type3.proofs.Counts.{between-guard, between-on, between-past}
 use Rattle.type3_write.proofs.Attributes.{length-attribute-command}
 use Rattle.type3_write.proofs.Dealing.{left-over, length-commands}
-use Rattle.type3_write.proofs.Sixteen.{closed-block, new-block, new-blocks}
+use Rattle.type3_write.proofs.StoredBlocks.{closed-block, new-block, new-blocks}
 
 -- ---- a run of blocks of an image, as a command
 
