@@ -8,7 +8,7 @@ pub mod Counts
 pub mod Naming
 pub mod Encoding
 pub mod Decoding
-pub mod Answers
-pub mod Refusing
+pub mod Reading
+pub mod Deciding
 pub mod Storing
-pub mod Giving
+pub mod Modelling
