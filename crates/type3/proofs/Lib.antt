@@ -1,4 +1,4 @@
--- Laws about the definitions of `type3`. Nothing here states a rule.
+-- Laws about the definitions of `type3`, and what the code needs of them. Nothing here states a rule.
 pub mod Codec
 pub mod Message
 pub mod Update

@@ -2,12 +2,12 @@
 use mathlib.Core.Path.{_≡_, sym, _∙_}
 use Prim.Native.Nat.{_+_, _*_}
 use native.Mathlib.Omega.{arith}
+use borrow.Author.Needs.{needs}
 use borrow.Author.Tests.{eq-eqb, ne-eqb, not-true, not-false}
 use lib.ListN.{length, List·getD-eq-default}
 use Rattle.tag.specs.Bytes.{byte}
 use Rattle.type3.specs.InPlace.{framedBy}
 use Rattle.type3.proofs.Encoding.{count-bounds}
-use borrow.Author.Needs.{needs}
 use Rattle.type3.proofs.commands.is_framed.Statement.{statement}
 use Rattle.type3.proofs.commands.is_framed.Tie as tie
 

@@ -3,11 +3,11 @@ use mathlib.Core.Path.{sym, ap, _∙_}
 use mathlib.Core.Bool.{_&&_}
 use Prim.Native.Nat.{_≤_}
 use native.Mathlib.Omega.{arith}
+use borrow.Author.Needs.{needs}
 use lib.Seq.{length-take-le}
 use lib.ListN.{take}
 use Rattle.type3.specs.Codec.{nameable}
 use Rattle.type3.proofs.Encoding.{count-bounds, well-named-by}
-use borrow.Author.Needs.{needs}
 use Rattle.type3.proofs.commands.well_named.Statement.{statement}
 use Rattle.type3.proofs.commands.well_named.Tie as tie
 

@@ -7,9 +7,9 @@ use borrow.Author.Needs.{needs}
 use lib.ListN.{length, drop, length-set}
 use Rattle.tag.specs.Bytes.{run}
 use Rattle.tag.proofs.Addresses.{length-run}
+use Rattle.tag.proofs.Filling.{lay-two}
 use Rattle.type3.specs.Codec.{namesBytes}
 use Rattle.type3.proofs.Codec.{length-names}
-use Rattle.tag.proofs.Filling.{lay-two}
 use Rattle.type3_write.proofs.Laying.{names-run-more}
 use Rattle.type3_write.proofs.write.put_names.Statement.{statement}
 use Rattle.type3_write.proofs.write.put_names.Tie as tie
