@@ -32,6 +32,7 @@ pub checks-pass : (i : List ℕ) (d : DataArea) (end : Address) (w : Bool) → c
 checks-pass i d end w e k g =
     record { sound = sym e ∙ ap checkedAs g; area = subst (Known i ((memory .writable) i)) g k }
 
+-- a clear table is blank over the data area
 pub blank : (i t : List ℕ) (end : ℕ) (w : Bool) → InsideArea i ((memory .writable) i) end w → Clear t → Blank i t 16 end
 blank i t end w k h = record {
   ordered = omega (arith, k .ends);

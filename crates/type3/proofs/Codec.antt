@@ -14,7 +14,7 @@ use lib.Seq.{take-at, drop-at, drop-drop, getD-at, split-at}
 use Rattle.tag.specs.Bytes.{byte, same, has}
 use Rattle.tag.specs.Refusals.{not-well-formed}
 use Rattle.tag.specs.Stores.{Store, stores}
-use Rattle.tag.proofs.Logic.{and-l, and-r, same-eq, same-refl, nope}
+use Rattle.tag.proofs.Logic.{and-l, and-r, and-three, same-eq, same-refl, nope}
 use Rattle.tag.proofs.Addresses.{Above, Rising, above-rising}
 use Rattle.tag.proofs.Each.{Each}
 use Rattle.tag.proofs.Sending.{blockNumber, Whole}
@@ -70,7 +70,7 @@ rising-nameable hi nmaxb (b ∷ bs) h l m =
 -- a command names at least one block
 named-some : (nbw nmaxb : ℕ) (bs : List ℕ) → wellNamed nbw nmaxb bs ≡ true → 1 ≤ length bs
 named-some nbw nmaxb bs h =
-    leb-true 1 (length bs) (and-l (leb 1 (length bs)) (leb (length bs) (blocksPerCommand nbw)) (and-l _ (nameable nmaxb bs) h))
+    leb-true 1 (length bs) (and-three (leb 1 (length bs)) (leb (length bs) (blocksPerCommand nbw)) (nameable nmaxb bs) h .0)
 
 -- ---- commands
 
