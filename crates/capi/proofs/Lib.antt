@@ -1,2 +1,3 @@
+-- Laws that the code of the C interface needs.
 pub mod Decoded
 pub mod Numbers

@@ -1,7 +1,7 @@
 -- Demand 3 of any answers that meet the contracts, from demand 3 of the definitions.
 -- Assumes nothing.
 use mathlib.Core.Path.{_≡_, refl, sym, ap, _∙_}
-use mathlib.Core.List.{List, [], _++_}
+use mathlib.Core.List.{List, []}
 use Prim.Native.Nat.{ℕ, suc, _<_, _≤_}
 use borrow.Author.Tests.{le-leb}
 use lib.ListN.{length, getD, take, drop}
@@ -40,10 +40,6 @@ counted-is : (r : count.CountAnswer) (n : ℕ) → countAs r ≡ counts n → r 
 counted-is (counted.Refused f) n e = absurd (nope (cc))
 counted-is (counted.Count k) n e = let q : k ≡ n = cc in ap counted.Count q
 
--- what is put out stands at the front of the buffer
-front-of : (bytes buffer : List ℕ) → take (length bytes) (bytes ++ drop (length bytes) buffer) ≡ bytes
-front-of bytes buffer = take-append-seam bytes (drop (length bytes) buffer)
-
 module _ (T : TagType) (i m : List ℕ) (d : Demand3 T i m) (w : writing T i m ≡ written ((T .plan) i m)) where
   -- a writing that is counted has put out our list
   count-ours : (buffer : List ℕ) (n : ℕ) → counts n ≡ countOf (write T (length buffer) i m)
@@ -66,7 +62,7 @@ module _ (T : TagType) (i m : List ℕ) (d : Demand3 T i m) (w : writing T i m �
       let c : counts n ≡ counts (length (list ((T .plan) i m) i)) = a ∙ ap countOf o in
       let k : length (list ((T .plan) i m) i) ≡ n = cc in
       let front : take (length (ourBytes T i m)) out ≡ ourBytes T i m
-      = ap (take (length (ourBytes T i m))) (b ∙ ap (outputInto buffer) o) ∙ front-of (ourBytes T i m) buffer in
+      = ap (take (length (ourBytes T i m))) (b ∙ ap (outputInto buffer) o) ∙ take-append-seam (ourBytes T i m) (drop (length (ourBytes T i m)) buffer) in
       accepted-is r n (j ∙ ap (judged T i m) front ∙ d .ours ∙ ap accepted k)
 
   module _ (bytes : List ℕ) (n : ℕ) (e : Judged T i m bytes (verdict.Accepted n)) (k : ℕ) where
@@ -88,7 +84,7 @@ module _ (T : TagType) (i m : List ℕ) (d : Demand3 T i m) (w : writing T i m �
         = ap (writeBy T (length buffer) x) u ∙ rw (le-leb (length (ourBytes T x m)) (length buffer) room) in (
           counted-is r (length (list ((T .plan) x m) x)) (a ∙ ap countOf o),
           v,
-          ap (take (length (ourBytes T x m))) (b ∙ ap (outputInto buffer) o) ∙ front-of (ourBytes T x m) buffer,
+          ap (take (length (ourBytes T x m))) (b ∙ ap (outputInto buffer) o) ∙ take-append-seam (ourBytes T x m) (drop (length (ourBytes T x m)) buffer),
         )
 
   pub by-contract : Code3 T i m

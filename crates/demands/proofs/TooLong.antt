@@ -173,8 +173,8 @@ module _ (number i m : List ℕ) (a : Asked (type3 number) i m) where
           ),
         )
 
-    filled : ((j : List ℕ) → Octets j → Alike3 i j → held (type3 number) j ≡ holds m → ⊥) → ⊥
-    filled none =
+    with-room-3 : ((j : List ℕ) → Octets j → Alike3 i j → held (type3 number) j ≡ holds m → ⊥) → ⊥
+    with-room-3 none =
         let (l, g, h) = update3.long-enough i m has-room in
         none (newImage (plan i m) i) (octets-overlay (addresses m) (values i m) i values-octets (a .image-octets))
         (record { same-length = l; same-start = λ x k. g x (or-l (leb x 8) (eqb x 10) (le-leb x 8 k)); same-access = g 10 refl }) h
@@ -182,4 +182,4 @@ module _ (number i m : List ℕ) (a : Asked (type3 number) i m) where
 pub too-long-3 : (number : List ℕ) → TooLong3 number
 too-long-3 number i m a =
     exactly (type3 number) i m a ((j : List ℕ) → Octets j → Alike3 i j → held (type3 number) j ≡ holds m → ⊥)
-    (λ f j o k h. update3.too-long i m j f (agrees number i m a j k) h) (filled number i m a)
+    (λ f j o k h. update3.too-long i m j f (agrees number i m a j k) h) (with-room-3 number i m a)

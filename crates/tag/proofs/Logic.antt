@@ -1,13 +1,13 @@
--- What the tests say: conjunctions, disjunctions, equal lists.
+-- What the tests say: conjunctions, disjunctions, equal lists, lengths in whole blocks.
 -- Assumes nothing.
 use mathlib.Core.Path.{_≡_, refl, sym, _∙_}
 use mathlib.Core.Bool.{Bool, true, false, _&&_, _||_, true≢false, false≢true}
 use mathlib.Core.Logic.{_⊎_, inl, inr}
 use mathlib.Core.List.{List, [], _∷_}
-use Prim.Native.Nat.{ℕ}
+use Prim.Native.Nat.{ℕ, _%_, _≤_}
 use native.Mathlib.Omega.{arith}
-use borrow.Author.Tests.{eqb-true, eq-eqb}
-use lib.Dec.{eqb}
+use borrow.Author.Tests.{leb-true, eqb-true, eq-eqb}
+use lib.Dec.{leb, eqb}
 use Rattle.tag.specs.Bytes.{same}
 
 pub and-l : (a b : Bool) → a && b ≡ true → a ≡ true
@@ -17,6 +17,9 @@ and-l false b e = e
 pub and-r : (a b : Bool) → a && b ≡ true → b ≡ true
 and-r true b e = e
 and-r false b e = absurd (false≢true e)
+
+pub and-three : (a b c : Bool) → a && b && c ≡ true → (a ≡ true) × (b ≡ true) × (c ≡ true)
+and-three a b c e = (and-l a b (and-l (a && b) c e), and-r a b (and-l (a && b) c e), and-r (a && b) c e)
 
 pub and-both : {a b : Bool} → a ≡ true → b ≡ true → a && b ≡ true
 and-both {a} {b} p q = rw (p, q)
@@ -41,6 +44,12 @@ same-eq (x ∷ xs) (y ∷ ys) e = cc (eqb-true x y (and-l (eqb x y) (same xs ys)
 pub same-refl : (x : List ℕ) → same x x ≡ true
 same-refl [] = refl
 same-refl (x ∷ xs) = and-both (eq-eqb x x refl) (same-refl xs)
+
+-- a length in whole blocks of z, from the least to the most
+pub lengths : (z least most n : ℕ) → eqb (n % z) 0 && leb least n && leb n most ≡ true → (n % z ≡ 0) × (least ≤ n) × (n ≤ most)
+lengths z least most n e =
+    let (whole, low, high) = and-three (eqb (n % z) 0) (leb least n) (leb n most) e in
+    (eqb-true (n % z) 0 whole, leb-true least n low, leb-true n most high)
 
 pub true-false : {b : Bool} → b ≡ true → b ≡ false → ⊥
 true-false p q = true≢false (sym p ∙ q)

@@ -13,14 +13,14 @@ use Rattle.tag.specs.declared.Report as code
 use Rattle.tag.specs.declared.ReadAnswer.{ReadAnswer}
 use Rattle.tag.specs.declared.ReadAnswer.the-variants as read
 use Rattle.tag.specs.Bytes.{byte, overwrite}
-use Rattle.tag.specs.Checks.{fine, fault, firstOf}
+use Rattle.tag.specs.Checks.{fault, firstOf}
 use Rattle.tag.specs.Reading.{message, Reading, unreadable, reads, answerOf, gatheredInto, refusalNumber}
 use Rattle.tag.specs.Answers.{readAs}
 use Rattle.tlv.specs.declared.walk.Walk.{Walk}
 use Rattle.tlv.specs.declared.find.Found as code-found
 use Rattle.tlv.specs.declared.find.Found.the-variants as code-at
 use Rattle.tlv.specs.Areas.{anyArea}
-use Rattle.tlv.specs.Walk.{Length, bad, len, lengthOf, Passed, more, stop, passValue, find, messageTlv}
+use Rattle.tlv.specs.Walk.{Length, bad, len, lengthOf, Passed, more, stop, passValue, find}
 use Rattle.tlv.specs.Message.{TlvTag, View, refuse, view, viewBy, viewOf, viewed, reportOf, readingOf, reading}
 use Rattle.tlv.specs.Views.{ahead}
 use Rattle.tlv.specs.Finding.{foundAs}
@@ -124,14 +124,9 @@ module _ (i t u : List ℕ) (first end : ℕ) (w : Walk) (f : code-found.Found) 
 
 -- ---- a tag by its own tests
 
-module _ (T : TlvTag) (i : List ℕ) where
-  pub reading-fault : (r : ℕ) → fault r ≡ firstOf ((T .checks) i) → reading T i ≡ unreadable r
-  unfolding reading viewed
-  reading-fault r e = rw (← e)
-
-  pub reading-fine : fine ≡ firstOf ((T .checks) i) → reading T i ≡ readingOf ((T .writable) i) i (viewOf i (messageTlv (T .layout) i))
-  unfolding reading viewed
-  reading-fine e = rw (← e)
+pub reading-fault : (T : TlvTag) (i : List ℕ) (r : ℕ) → fault r ≡ firstOf ((T .checks) i) → reading T i ≡ unreadable r
+unfolding reading viewed
+reading-fault T i r e = rw (← e)
 
 pub reading-refusal : (w : Bool) (i : List ℕ) (v : View) → refusalNumber (readingOf w i v) ≡ refusalOf v
 reading-refusal w i (refuse r) = refl

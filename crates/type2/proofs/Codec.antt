@@ -2,7 +2,7 @@
 -- carry are exactly those that commands decode to.
 -- Assumes nothing.
 use mathlib.Core.Path.{_≡_, refl, sym, ap}
-use mathlib.Core.Bool.{Bool, true, false, _&&_}
+use mathlib.Core.Bool.{Bool, true, false}
 use mathlib.Core.List.{List, [], _∷_}
 use Prim.Native.Nat.{ℕ, _*_, _/_}
 use native.Mathlib.Omega.{arith}
@@ -11,7 +11,7 @@ use lib.Dec.{eqb}
 use lib.ListN.{length}
 use Rattle.tag.specs.Refusals.{not-well-formed}
 use Rattle.tag.specs.Stores.{Store, stores}
-use Rattle.tag.proofs.Logic.{and-l, and-r, nope}
+use Rattle.tag.proofs.Logic.{and-three, nope}
 use Rattle.tag.proofs.Sending.{Named}
 use Rattle.type2.specs.Codec.{nameable, commandBytes, Decoded, undecoded, decoded, wellFormed, decode, commandOf, encoded}
 
@@ -36,10 +36,9 @@ encode-decode blocks (t ∷ c ∷ r) b bytes e = go (wellFormed blocks (t ∷ c 
         let z : decoded c r ≡ decoded b bytes = rw q at e in
         let same-block : c ≡ b = cc in
         let same-bytes : r ≡ bytes = cc in
-        let six : eqb (length (t ∷ c ∷ r)) 6 && eqb t 0xA2 ≡ true = and-l _ (nameable blocks c) q in
-        let named : nameable blocks c ≡ true = and-r (eqb (length (t ∷ c ∷ r)) 6 && eqb t 0xA2) _ q in
-        let long : length (t ∷ c ∷ r) ≡ 6 = eqb-true (length (t ∷ c ∷ r)) 6 (and-l _ (eqb t 0xA2) six) in
-        let write : t ≡ 0xA2 = eqb-true t 0xA2 (and-r (eqb (length (t ∷ c ∷ r)) 6) _ six) in
+        let (six, first, named) = and-three (eqb (length (t ∷ c ∷ r)) 6) (eqb t 0xA2) (nameable blocks c) q in
+        let long : length (t ∷ c ∷ r) ≡ 6 = eqb-true (length (t ∷ c ∷ r)) 6 six in
+        let write : t ≡ 0xA2 = eqb-true t 0xA2 first in
         (rw same-block at named, omega (arith, ap length same-bytes), cc)
 
 -- ---- what a command can carry

@@ -1,29 +1,23 @@
 -- Which refusal writing gives, or which plan it has, by what the code found: the capability container, then the space for the
 -- message.
 -- Assumes nothing.
-use mathlib.Core.Path.{_≡_, sym, ap, _∙_, subst}
+use mathlib.Core.Path.{_≡_, sym, ap, _∙_}
 use mathlib.Core.Bool.{Bool}
 use mathlib.Core.List.{List}
-use Prim.Native.Nat.{ℕ, _-_, _*_}
-use native.Mathlib.Omega.{arith}
+use Prim.Native.Nat.{ℕ}
 use lib.ListN.{length}
-use Rattle.tag.specs.declared.Address.{Address}
-use Rattle.tag.specs.Bytes.{byte, run}
 use Rattle.tag.specs.Checks.{fault, firstOf}
 use Rattle.tag.specs.TagType.{unwritten, written, writing}
-use Rattle.tlv.specs.Areas.{anyArea}
-use Rattle.tlv.specs.Walk.{find}
-use Rattle.tlv.specs.Message.{View, refuse, viewOf, viewAfter, viewed}
+use Rattle.tlv.specs.Message.{View, refuse, viewAfter, viewed}
 use Rattle.tlv.specs.Update.{planBy}
 use Rattle.tlv.specs.Space.{no-space, space, spaceOf}
 use Rattle.tlv.proofs.Space.{writingIn, writing-space}
 use Rattle.tlv_tag.specs.Reading.{areaView}
-use Rattle.type2.specs.declared.container.DataArea as code
-use Rattle.type2.specs.declared.container.DataArea.the-variants as answer
 use Rattle.type2.specs.Memory.{memory}
 use Rattle.type2.specs.Codec.{encoded}
 use Rattle.type2.specs.Type2.{command, span, type2}
-use Rattle.type2.specs.Views.{checkedAs, Inside, Known}
+use Rattle.type2.specs.Views.{Inside}
+use Rattle.type2.proofs.Reading.{inside-view}
 
 by-view : (i m : List ℕ) (v : View) → viewed memory i ≡ v
     → writing type2 i m ≡ writingIn 4 i m (spaceOf ((memory .writable) i) (length m) v)
@@ -31,27 +25,15 @@ by-view i m v e =
     writing-space memory command span encoded i m
     ∙ ap (λ x. writingIn 4 i m (spaceOf ((memory .writable) i) (length m) x)) e
 
--- the capability container is sound
-pub checks-pass : (i : List ℕ) (d : code.DataArea) (end : Address) (w : Bool) → checkedAs d ≡ firstOf ((memory .checks) i)
-    → Known i ((memory .writable) i) d → d ≡ answer.Inside end w → Inside i (end .0) w
-checks-pass i d end w e k g =
-    record { sound = sym e ∙ ap checkedAs g; area = subst (Known i ((memory .writable) i)) g k }
-
 -- a check fails
 pub refused-writing : (i m : List ℕ) (r : ℕ) → fault r ≡ firstOf ((memory .checks) i) → writing type2 i m ≡ unwritten r
 unfolding viewed
 refused-writing i m r e = by-view i m (refuse r) (ap (viewAfter memory i) (sym e))
 
 module _ (i m : List ℕ) (end : ℕ) (w : Bool) (h : Inside i end w) where
-  inside-view : viewed memory i ≡ areaView i 16 end
-  unfolding viewed
-  inside-view =
-      let e : 8 * byte i 14 ≡ end - 16 = omega (arith, h .area .ends) in
-      ap (viewAfter memory i) (h .sound) ∙ ap (λ n. viewOf i (find anyArea n i (run 16 n))) e
-
   inside-writing : writing type2 i m ≡ writingIn 4 i m (spaceOf w (length m) (areaView i 16 end))
   inside-writing =
-      by-view i m (areaView i 16 end) inside-view
+      by-view i m (areaView i 16 end) (inside-view i end w h)
       ∙ ap (λ b. writingIn 4 i m (spaceOf b (length m) (areaView i 16 end))) (sym (h .area .access))
 
   pub no-space-writing : (r : ℕ) → no-space r ≡ spaceOf w (length m) (areaView i 16 end) → writing type2 i m ≡ unwritten r

@@ -1,7 +1,7 @@
 -- What the code of Type 2's codec goes by: the bounds behind its tests, and four bytes taken one by one.
 -- Assumes nothing.
 use mathlib.Core.Path.{_≡_, refl, _∙_}
-use mathlib.Core.Bool.{true, false, _&&_}
+use mathlib.Core.Bool.{true, false}
 use mathlib.Core.List.{List, [], _∷_}
 use Prim.Native.Nat.{ℕ, _<_, _≤_}
 use native.Mathlib.Omega.{arith}
@@ -12,38 +12,37 @@ use lib.Seq.{getD-drop}
 use Rattle.tag.specs.Bytes.{byte}
 use Rattle.tag.specs.Refusals.{not-well-formed, short-buffer}
 use Rattle.tag.specs.TagType.{withheld, output}
-use Rattle.tag.proofs.Logic.{and-l, and-r}
+use Rattle.tag.proofs.Logic.{and-three}
 use Rattle.type2.specs.Codec.{nameable, commandBytes, encode, wellFormed, undecoded, decoded, decode}
 
 -- a block that may be named
-pub record Named (blocks b : ℕ) : Type 0 where
+pub record NameBounds (blocks b : ℕ) : Type 0 where
   pub data-area : 4 ≤ b
   pub inside : b < blocks
   pub a-byte : b ≤ 255
 
-pub named : (blocks b : ℕ) → nameable blocks b ≡ true → Named blocks b
-named blocks b h =
-    let least : leb 4 b && ltb b blocks ≡ true = and-l (leb 4 b && ltb b blocks) (leb b 255) h in
+pub name-bounds : (blocks b : ℕ) → nameable blocks b ≡ true → NameBounds blocks b
+name-bounds blocks b h =
+    let (least, below, a-byte) = and-three (leb 4 b) (ltb b blocks) (leb b 255) h in
     record {
-      data-area = leb-true 4 b (and-l (leb 4 b) (ltb b blocks) least);
-      inside = ltb-true b blocks (and-r (leb 4 b) (ltb b blocks) least);
-      a-byte = leb-true b 255 (and-r (leb 4 b && ltb b blocks) (leb b 255) h);
+      data-area = leb-true 4 b least;
+      inside = ltb-true b blocks below;
+      a-byte = leb-true b 255 a-byte;
     }
 
 -- bytes that are a well-formed command
 pub record Formed (blocks : ℕ) (bs : List ℕ) : Type 0 where
   pub six : length bs ≡ 6
   pub write : byte bs 0 ≡ 0xA2
-  pub named-block : Named blocks (byte bs 1)
+  pub named-block : NameBounds blocks (byte bs 1)
 
 pub formed : (blocks : ℕ) (bs : List ℕ) → wellFormed blocks bs ≡ true → Formed blocks bs
 formed blocks bs h =
-    let front : eqb (length bs) 6 && eqb (byte bs 0) 0xA2 ≡ true
-    = and-l (eqb (length bs) 6 && eqb (byte bs 0) 0xA2) (nameable blocks (byte bs 1)) h in
+    let (six, write, nameable-block) = and-three (eqb (length bs) 6) (eqb (byte bs 0) 0xA2) (nameable blocks (byte bs 1)) h in
     record {
-      six = eqb-true (length bs) 6 (and-l (eqb (length bs) 6) (eqb (byte bs 0) 0xA2) front);
-      write = eqb-true (byte bs 0) 0xA2 (and-r (eqb (length bs) 6) (eqb (byte bs 0) 0xA2) front);
-      named-block = named blocks (byte bs 1) (and-r (eqb (length bs) 6 && eqb (byte bs 0) 0xA2) (nameable blocks (byte bs 1)) h);
+      six = eqb-true (length bs) 6 six;
+      write = eqb-true (byte bs 0) 0xA2 write;
+      named-block = name-bounds blocks (byte bs 1) nameable-block;
     }
 
 pub four-bytes : (l : List ℕ) → length l ≡ 4 → l ≡ byte l 0 ∷ byte l 1 ∷ byte l 2 ∷ byte l 3 ∷ []

@@ -2,25 +2,26 @@
 -- to 15, before the data area.
 -- Assumes nothing.
 use mathlib.Core.Path.{_≡_, refl}
-use mathlib.Core.Bool.{true, _&&_}
+use mathlib.Core.Bool.{true}
 use mathlib.Core.List.{List}
-use Prim.Native.Nat.{ℕ, _+_, _*_, _/_, _%_, _≤_}
+use Prim.Native.Nat.{ℕ, _+_, _*_, _/_, _≤_}
 use native.Mathlib.Omega.{arith}
-use borrow.Author.Tests.{eqb-true, leb-true}
-use lib.Dec.{leb, eqb}
+use borrow.Author.Tests.{leb-true}
 use lib.ListN.{length}
 use Rattle.tag.specs.Bytes.{byte}
 use Rattle.tag.specs.Checks.{fine, firstOf}
-use Rattle.tag.proofs.Logic.{and-l, and-r}
+use Rattle.tag.proofs.Logic.{lengths}
 use Rattle.tag.proofs.Checks.{AllPass, fine-all}
 use Rattle.tlv.proofs.Tag.{TlvLaws}
-use Rattle.type2.specs.Memory.{imageLength, containerChecks, memory}
+use Rattle.type2.specs.Memory.{imageLength, memory}
 
 length-is : (n : ℕ) → imageLength n ≡ true → (n ≡ 4 * (n / 4)) × (n ≤ 1024)
 length-is n e =
-    let d : eqb (n % 4) 0 && leb 64 n ≡ true = and-l (eqb (n % 4) 0 && leb 64 n) (leb n 1024) e in
-    let w : n % 4 ≡ 0 = eqb-true (n % 4) 0 (and-l (eqb (n % 4) 0) (leb 64 n) d) in
-    (omega arith, leb-true n 1024 (and-r (eqb (n % 4) 0 && leb 64 n) (leb n 1024) e))
+    let (whole, low, high) = lengths 4 64 1024 n e in
+    (omega arith, high)
+
+passes : (i : List ℕ) → firstOf ((memory .checks) i) ≡ fine → AllPass ((memory .checks) i)
+passes i e = fine-all ((memory .checks) i) e
 
 pub memory-laws : TlvLaws memory
 memory-laws = record {
@@ -28,8 +29,7 @@ memory-laws = record {
   before = 15;
   first-is = refl;
   bound = λ i e.
-      let c : AllPass (containerChecks (length i) (byte i 12) (byte i 13) (byte i 14) (byte i 15))
-      = fine-all ((memory .checks) i) e in
+      let c = passes i e in
       let l = length-is (length i) (c .0) in
       let v : 16 + 8 * byte i 14 ≤ length i = leb-true (16 + 8 * byte i 14) (length i) (c .1 .1 .1 .1 .0) in
       (l .0, omega arith, omega arith);
@@ -52,6 +52,4 @@ whole-blocks i e = (memory-laws .bound) i e .0
 
 -- and has at most 1,024 bytes
 pub short-image : (i : List ℕ) → firstOf ((memory .checks) i) ≡ fine → length i ≤ 1024
-short-image i e =
-    let c : AllPass (containerChecks (length i) (byte i 12) (byte i 13) (byte i 14) (byte i 15)) = fine-all ((memory .checks) i) e in
-    length-is (length i) (c .0) .1
+short-image i e = length-is (length i) (passes i e .0) .1

@@ -13,7 +13,7 @@ use Rattle.tag.specs.Refusals.{not-well-formed}
 use Rattle.tag.specs.Checks.{check, firstOf}
 use Rattle.tag.specs.Reading.{Reading, unreadable, reads, refusalNumber}
 use Rattle.tag.specs.Stores.{ill, stores}
-use Rattle.tag.specs.Model.{unstored, stored, modelBy, model}
+use Rattle.tag.specs.Model.{unstored, stored, given, modelBy, model}
 use Rattle.tag.specs.Version.{knownVersion}
 use Rattle.tlv.proofs.Refusals.{CheckNumbered, Numbered, numbered}
 use Rattle.type2.specs.Memory.{imageLength, containerChecks, memory}
@@ -35,7 +35,7 @@ checking n mark version size access =
     go true true true true true = tt
 
 -- nor is one of reading
-pub type2-numbered : (i : List ℕ) → Numbered ((type2 .reading) i)
+type2-numbered : (i : List ℕ) → Numbered ((type2 .reading) i)
 type2-numbered i = numbered memory (λ j. checking (length j) (byte j 12) (byte j 13) (byte j 14) (byte j 15)) i
 
 -- ---- commands by their form
@@ -57,18 +57,16 @@ module _ (i bs : List ℕ) where
       go (unreadable r) h = refl
       go (reads p) h = absurd (h refl)
 
-  pub model-ill : refusalNumber ((type2 .reading) i) ≡ 0 → wellFormed (length i / 4) bs ≡ false → model type2 i bs ≡ unstored not-well-formed
-  model-ill n e = ap (modelBy i ((type2 .reading) i)) (command-ill i bs e) ∙ go ((type2 .reading) i) (type2-numbered i) n
+  model-given : refusalNumber ((type2 .reading) i) ≡ 0 → model type2 i bs ≡ given i ((type2 .command) i bs)
+  model-given n = go ((type2 .reading) i) (type2-numbered i) n
     where
-      go : (v : Reading) → Numbered v → refusalNumber v ≡ 0 → modelBy i v ill ≡ unstored not-well-formed
+      go : (v : Reading) → Numbered v → refusalNumber v ≡ 0 → modelBy i v ((type2 .command) i bs) ≡ given i ((type2 .command) i bs)
       go (unreadable r) h q = absurd (omega arith)
       go (reads p) h q = refl
 
+  pub model-ill : refusalNumber ((type2 .reading) i) ≡ 0 → wellFormed (length i / 4) bs ≡ false → model type2 i bs ≡ unstored not-well-formed
+  model-ill n e = model-given n ∙ ap (given i) (command-ill i bs e)
+
   pub model-stored : refusalNumber ((type2 .reading) i) ≡ 0 → wellFormed (length i / 4) bs ≡ true
       → model type2 i bs ≡ stored (sets i (4 * byte bs 1) (drop 2 bs))
-  model-stored n e = ap (modelBy i ((type2 .reading) i)) (command-formed i bs e) ∙ go ((type2 .reading) i) (type2-numbered i) n
-    where
-      go : (v : Reading) → Numbered v → refusalNumber v ≡ 0
-          → modelBy i v (stores (record { at = 4 * byte bs 1; bytes = drop 2 bs } ∷ [])) ≡ stored (sets i (4 * byte bs 1) (drop 2 bs))
-      go (unreadable r) h q = absurd (omega arith)
-      go (reads p) h q = refl
+  model-stored n e = model-given n ∙ ap (given i) (command-formed i bs e)

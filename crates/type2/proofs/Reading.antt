@@ -6,41 +6,52 @@ use mathlib.Core.List.{List}
 use Prim.Native.Nat.{ℕ, _-_, _*_}
 use native.Mathlib.Omega.{arith}
 use Rattle.tag.specs.declared.Address.{Address}
-use Rattle.tag.specs.Bytes.{byte}
+use Rattle.tag.specs.Bytes.{byte, run}
 use Rattle.tag.specs.Checks.{firstOf}
 use Rattle.tag.specs.Reading.{unreadable, refusalNumber}
-use Rattle.tlv.specs.Message.{readingOf}
+use Rattle.tlv.specs.Areas.{anyArea}
+use Rattle.tlv.specs.Walk.{find}
+use Rattle.tlv.specs.Message.{viewOf, viewAfter, viewed, readingOf, reading}
 use Rattle.tlv_tag.specs.Blank.{Blank}
 use Rattle.tlv_tag.specs.Reading.{areaView, refusalOf}
-use Rattle.tlv_tag.proofs.Reading.{reading-fault, reading-fine, reading-refusal}
+use Rattle.tlv_tag.proofs.Reading.{reading-fault, reading-refusal}
 use Rattle.type2.specs.declared.container.DataArea.{DataArea}
 use Rattle.type2.specs.declared.container.DataArea.the-variants as code
 use Rattle.type2.specs.Memory.{memory}
 use Rattle.type2.specs.Type2.{type2}
-use Rattle.type2.specs.Views.{checkedAs, InsideArea, Known}
+use Rattle.type2.specs.Views.{checkedAs, InsideArea, Inside, Known}
 use Rattle.type2.specs.Table.{Clear}
 
-module _ (i : List ℕ) (r : DataArea) (checked : checkedAs r ≡ firstOf ((memory .checks) i)) (known : Known i ((memory .writable) i) r) where
-  pub refused : (n : ℕ) → r ≡ code.Refused n → (type2 .reading) i ≡ unreadable n
-  refused n g = reading-fault memory i n (sym (ap checkedAs g) ∙ checked)
+-- a check fails
+pub refused : (i : List ℕ) (d : DataArea) (n : ℕ) → checkedAs d ≡ firstOf ((memory .checks) i) → d ≡ code.Refused n → (type2 .reading) i ≡ unreadable n
+refused i d n e g = reading-fault memory i n (sym (ap checkedAs g) ∙ e)
 
-  module _ (end : Address) (w : Bool) (g : r ≡ code.Inside end w) where
-    inside : InsideArea i ((memory .writable) i) (end .0) w
-    inside = subst (Known i ((memory .writable) i)) g known
+-- the capability container is sound
+pub checks-pass : (i : List ℕ) (d : DataArea) (end : Address) (w : Bool) → checkedAs d ≡ firstOf ((memory .checks) i)
+    → Known i ((memory .writable) i) d → d ≡ code.Inside end w → Inside i (end .0) w
+checks-pass i d end w e k g =
+    record { sound = sym e ∙ ap checkedAs g; area = subst (Known i ((memory .writable) i)) g k }
 
-    pub blank : (t : List ℕ) → Clear t → Blank i t 16 (end .0)
-    blank t h = record {
-      ordered = omega (arith, inside .ends);
-      in-table = omega (arith, inside .inside, inside .short, h .size);
-      in-image = inside .inside;
-      short = omega (arith, h .size);
-      clear = h .zeros;
-    }
+-- a clear table is blank over the data area
+pub blank : (i t : List ℕ) (end : ℕ) (w : Bool) → InsideArea i ((memory .writable) i) end w → Clear t → Blank i t 16 end
+blank i t end w k h = record {
+  ordered = omega (arith, k .ends);
+  in-table = omega (arith, k .inside, k .short, h .size);
+  in-image = k .inside;
+  short = omega (arith, h .size);
+  clear = h .zeros;
+}
 
-    pub by-area : (type2 .reading) i ≡ readingOf w i (areaView i 16 (end .0))
-    by-area =
-        let e : end .0 - 16 ≡ 8 * byte i 14 = omega (arith, inside .ends) in
-        rw (e, inside .access) (reading-fine memory i (sym (ap checkedAs g) ∙ checked))
+module _ (i : List ℕ) (end : ℕ) (w : Bool) (h : Inside i end w) where
+  pub inside-view : viewed memory i ≡ areaView i 16 end
+  unfolding viewed
+  inside-view =
+      let e : 8 * byte i 14 ≡ end - 16 = omega (arith, h .area .ends) in
+      ap (viewAfter memory i) (h .sound) ∙ ap (λ n. viewOf i (find anyArea n i (run 16 n))) e
 
-    pub refusal-by-area : refusalNumber ((type2 .reading) i) ≡ refusalOf (areaView i 16 (end .0))
-    refusal-by-area = ap refusalNumber by-area ∙ reading-refusal w i (areaView i 16 (end .0))
+  pub by-area : (type2 .reading) i ≡ readingOf w i (areaView i 16 end)
+  unfolding reading
+  by-area = rw (h .area .access) (ap (readingOf ((memory .writable) i) i) inside-view)
+
+  pub refusal-by-area : refusalNumber ((type2 .reading) i) ≡ refusalOf (areaView i 16 end)
+  refusal-by-area = ap refusalNumber by-area ∙ reading-refusal w i (areaView i 16 end)

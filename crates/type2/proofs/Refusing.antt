@@ -13,11 +13,11 @@ module _ (n mark version size access : ℕ) where
   pub not-blocks : (n % 4 ≡ 0 → ⊥) → fault 1 ≡ firstOf (containerChecks n mark version size access)
   not-blocks a = rw (ne-eqb (n % 4) 0 a)
 
-  pub too-short : n % 4 ≡ 0 → n < 64 → fault 1 ≡ firstOf (containerChecks n mark version size access)
-  too-short a b = rw (eq-eqb (n % 4) 0 a, lt-leb 64 n b)
+  pub image-too-short : n % 4 ≡ 0 → n < 64 → fault 1 ≡ firstOf (containerChecks n mark version size access)
+  image-too-short a b = rw (eq-eqb (n % 4) 0 a, lt-leb 64 n b)
 
-  pub too-long : n % 4 ≡ 0 → 64 ≤ n → 1024 < n → fault 1 ≡ firstOf (containerChecks n mark version size access)
-  too-long a b c = rw (eq-eqb (n % 4) 0 a, le-leb 64 n b, lt-leb n 1024 c)
+  pub image-too-long : n % 4 ≡ 0 → 64 ≤ n → 1024 < n → fault 1 ≡ firstOf (containerChecks n mark version size access)
+  image-too-long a b c = rw (eq-eqb (n % 4) 0 a, le-leb 64 n b, lt-leb n 1024 c)
 
   pub no-mark : n % 4 ≡ 0 → 64 ≤ n → n ≤ 1024 → (mark ≡ 0xE1 → ⊥) → fault 2 ≡ firstOf (containerChecks n mark version size access)
   no-mark a b c d = rw (eq-eqb (n % 4) 0 a, le-leb 64 n b, le-leb n 1024 c, ne-eqb mark 0xE1 d)

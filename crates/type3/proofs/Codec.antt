@@ -14,7 +14,7 @@ use lib.Seq.{take-at, drop-at, drop-drop, getD-at, split-at}
 use Rattle.tag.specs.Bytes.{byte, same, has}
 use Rattle.tag.specs.Refusals.{not-well-formed}
 use Rattle.tag.specs.Stores.{Store, stores}
-use Rattle.tag.proofs.Logic.{and-l, and-r, same-eq, same-refl, nope}
+use Rattle.tag.proofs.Logic.{and-l, and-r, and-three, same-eq, same-refl, nope}
 use Rattle.tag.proofs.Addresses.{Above, Rising, above-rising}
 use Rattle.tag.proofs.Each.{Each}
 use Rattle.tag.proofs.Sending.{blockNumber, Whole}
@@ -23,12 +23,12 @@ use Rattle.type3.specs.Codec.{namesBytes, Names, no-names, names, withNa
 
 -- ---- block names
 
-pub names-bytes : (bs r : List ℕ) → namesOf (length bs) (namesBytes bs ++ r) ≡ names bs r
+names-bytes : (bs r : List ℕ) → namesOf (length bs) (namesBytes bs ++ r) ≡ names bs r
 unfolding namesOf
 names-bytes [] r = refl
 names-bytes (b ∷ bs) r = ap (withName b) (names-bytes bs r)
 
-pub names-is : (k : ℕ) (bytes bs r : List ℕ) → namesOf k bytes ≡ names bs r → (length bs ≡ k) × (bytes ≡ namesBytes bs ++ r)
+names-is : (k : ℕ) (bytes bs r : List ℕ) → namesOf k bytes ≡ names bs r → (length bs ≡ k) × (bytes ≡ namesBytes bs ++ r)
 unfolding namesOf
 names-is zero bytes bs r e =
     let none : bs ≡ [] = cc in
@@ -70,7 +70,7 @@ rising-nameable hi nmaxb (b ∷ bs) h l m =
 -- a command names at least one block
 named-some : (nbw nmaxb : ℕ) (bs : List ℕ) → wellNamed nbw nmaxb bs ≡ true → 1 ≤ length bs
 named-some nbw nmaxb bs h =
-    leb-true 1 (length bs) (and-l (leb 1 (length bs)) (leb (length bs) (blocksPerCommand nbw)) (and-l _ (nameable nmaxb bs) h))
+    leb-true 1 (length bs) (and-three (leb 1 (length bs)) (leb (length bs) (blocksPerCommand nbw)) (nameable nmaxb bs) h .0)
 
 -- ---- commands
 
@@ -165,7 +165,7 @@ length-command number bs bytes n l =
     )
 
 -- the count stands at byte 12, whatever follows the command
-count-at : (number bs bytes r : List ℕ) → length number ≡ 8 → byte (commandBytes number bs bytes ++ r) 12 ≡ length bs
+pub count-at : (number bs bytes r : List ℕ) → length number ≡ 8 → byte (commandBytes number bs bytes ++ r) 12 ≡ length bs
 count-at number bs bytes r n =
     ap (λ l. byte (l ++ r) 12) (grouped number bs bytes)
     ∙ ap (λ l. byte l 12) (append-assoc (opening number) (length bs ∷ (namesBytes bs ++ bytes)) r)

@@ -2,24 +2,24 @@
 -- Assumes nothing.
 use mathlib.Core.Path.{_≡_, refl, sym, ap, _∙_}
 use mathlib.Core.Bool.{Bool, true, false, _&&_}
-use mathlib.Core.List.{List, [], _∷_, _++_, append-assoc}
+use mathlib.Core.List.{List, [], _∷_, _++_, append-nil}
 use Prim.Native.Nat.{ℕ, zero, suc, _+_, _*_, _<_, _≤_}
 use native.Mathlib.Omega.{arith}
 use borrow.Author.Tests.{eqb-true, eq-eqb}
 use lib.Dec.{leb, eqb}
 use lib.ListN.{length, take, drop, replicate, length-drop}
-use lib.Seq.{take-at, drop-drop, getD-at, split-at}
+use lib.Seq.{take-at, drop-drop, split-at}
 use Rattle.tag.specs.Bytes.{byte, same, overwrite}
 use Rattle.tag.specs.Refusals.{not-well-formed}
-use Rattle.tag.proofs.Logic.{and-l, and-r, and-both, same-eq, same-refl, true-false, nope}
+use Rattle.tag.proofs.Logic.{and-l, and-r, and-three, and-both, same-eq, same-refl, true-false, nope}
 use Rattle.type3.specs.declared.Command.{Command}
 use Rattle.type3.specs.Update.{blocksPerCommand}
 use Rattle.type3.specs.Codec.{namesBytes, Names, no-names, names, namesOf, nameable, wellNamed, opening, commandBytes, Decoded, undecoded, decoded, decodeBy, decode}
 use Rattle.type3.specs.InPlace.{marked, numbers, framedBy, framed, carried}
 use Rattle.type3.specs.CodecViews.{commandAs, isCommand, Framed}
-use Rattle.type3.proofs.Codec.{length-opening, past-count, grouped, decode-encode, encode-decode, length-command}
+use Rattle.type3.proofs.Codec.{length-opening, past-count, grouped, decode-encode, encode-decode, length-command, count-at}
 use Rattle.type3.proofs.Naming.{length-numbers}
-use Rattle.type3.proofs.Encoding.{counted}
+use Rattle.type3.proofs.Encoding.{count-bounds}
 
 -- ---- the names
 
@@ -48,36 +48,28 @@ names-numbers (suc k) (t ∷ b ∷ r) h l =
 -- ---- what a frame says
 
 module _ (number : List ℕ) (nbw : ℕ) (bytes : List ℕ) (h : framed number nbw bytes ≡ true) where
-  frame-tests : leb 1 (byte bytes 12) && leb (byte bytes 12) (blocksPerCommand nbw) && eqb (length bytes) (13 + 18 * byte bytes 12) && same (take 12 bytes) (opening number) ≡ true
-  unfolding framedBy
-  frame-tests =
-      and-l (leb 1 (byte bytes 12) && leb (byte bytes 12) (blocksPerCommand nbw) && eqb (length bytes) (13 + 18 * byte bytes 12) && same (take 12 bytes) (opening number))
-      (marked (byte bytes 12) (drop 13 bytes)) h
+  -- how many blocks it may have, and how many bytes they ask for
+  abbrev allowed : Bool
+  allowed = leb 1 (byte bytes 12) && leb (byte bytes 12) (blocksPerCommand nbw)
 
-  frame-marked : marked (byte bytes 12) (drop 13 bytes) ≡ true
+  abbrev sized : Bool
+  sized = eqb (length bytes) (13 + 18 * byte bytes 12)
+
+  frame-tests : (allowed && sized ≡ true) × (same (take 12 bytes) (opening number) ≡ true) × (marked (byte bytes 12) (drop 13 bytes) ≡ true)
   unfolding framedBy
-  frame-marked =
-      and-r (leb 1 (byte bytes 12) && leb (byte bytes 12) (blocksPerCommand nbw) && eqb (length bytes) (13 + 18 * byte bytes 12) && same (take 12 bytes) (opening number))
-      (marked (byte bytes 12) (drop 13 bytes)) h
+  frame-tests = and-three (allowed && sized) (same (take 12 bytes) (opening number)) (marked (byte bytes 12) (drop 13 bytes)) h
 
   frame-opening : take 12 bytes ≡ opening number
-  frame-opening =
-      same-eq (take 12 bytes) (opening number)
-      (and-r (leb 1 (byte bytes 12) && leb (byte bytes 12) (blocksPerCommand nbw) && eqb (length bytes) (13 + 18 * byte bytes 12)) (same (take 12 bytes) (opening number)) frame-tests)
+  frame-opening = same-eq (take 12 bytes) (opening number) (frame-tests .1)
 
-  frame-sizes : leb 1 (byte bytes 12) && leb (byte bytes 12) (blocksPerCommand nbw) && eqb (length bytes) (13 + 18 * byte bytes 12) ≡ true
-  frame-sizes =
-      and-l (leb 1 (byte bytes 12) && leb (byte bytes 12) (blocksPerCommand nbw) && eqb (length bytes) (13 + 18 * byte bytes 12)) (same (take 12 bytes) (opening number)) frame-tests
-
-  frame-count : leb 1 (byte bytes 12) && leb (byte bytes 12) (blocksPerCommand nbw) ≡ true
-  frame-count = and-l (leb 1 (byte bytes 12) && leb (byte bytes 12) (blocksPerCommand nbw)) (eqb (length bytes) (13 + 18 * byte bytes 12)) frame-sizes
+  frame-count : allowed ≡ true
+  frame-count = and-l allowed sized (frame-tests .0)
 
   pub frame : Framed bytes
-  frame =
-      record {
-        few = counted nbw (byte bytes 12) frame-count .few;
-        whole = eqb-true (length bytes) (13 + 18 * byte bytes 12) (and-r (leb 1 (byte bytes 12) && leb (byte bytes 12) (blocksPerCommand nbw)) (eqb (length bytes) (13 + 18 * byte bytes 12)) frame-sizes);
-      }
+  frame = record {
+    few = count-bounds nbw (byte bytes 12) frame-count .few;
+    whole = eqb-true (length bytes) (13 + 18 * byte bytes 12) (and-r allowed sized (frame-tests .0));
+  }
 
   -- framed bytes are those of the command that they carry
   framed-bytes : bytes ≡ commandBytes number (numbers (byte bytes 12) (drop 13 bytes)) (drop (13 + 2 * byte bytes 12) bytes)
@@ -86,15 +78,15 @@ module _ (number : List ℕ) (nbw : ℕ) (bytes : List ℕ) (h : framed number n
       let bs = numbers b (drop 13 bytes) in
       let rest = drop (2 * b) (drop 13 bytes) in
       let long : 12 < length bytes = omega (arith, frame) in
-      let named : drop 13 bytes ≡ namesBytes bs ++ rest = names-numbers b (drop 13 bytes) frame-marked (omega (arith, frame, length-drop 13 bytes)) in
+      let named : drop 13 bytes ≡ namesBytes bs ++ rest = names-numbers b (drop 13 bytes) (frame-tests .2) (omega (arith, frame, length-drop 13 bytes)) in
       split-at bytes 12 0 long
       ∙ ap (λ o. o ++ b ∷ drop 13 bytes) frame-opening
       ∙ ap (λ r. opening number ++ b ∷ r) named
       ∙ ap (λ c. opening number ++ c ∷ (namesBytes bs ++ rest)) (sym (length-numbers b (drop 13 bytes)))
-      ∙ sym (append-assoc (opening number) (length bs ∷ namesBytes bs) rest)
+      ∙ sym (grouped number bs rest)
       ∙ ap (commandBytes number bs) (drop-drop (2 * b) 13 bytes)
 
-  pub decode-framed : (nmaxb : ℕ) → length number ≡ 8 → nameable nmaxb (numbers (byte bytes 12) (drop 13 bytes)) ≡ true
+  decode-framed : (nmaxb : ℕ) → length number ≡ 8 → nameable nmaxb (numbers (byte bytes 12) (drop 13 bytes)) ≡ true
       → decode number nbw nmaxb bytes ≡ carried bytes
   decode-framed nmaxb n k =
       let b = byte bytes 12 in
@@ -111,7 +103,7 @@ module _ (number : List ℕ) (nbw nmaxb : ℕ) (bs bytes : List ℕ) (n : length
   o-length = omega (arith, length-opening number)
 
   command-count : byte (commandBytes number bs bytes) 12 ≡ length bs
-  command-count = ap (λ l. byte l 12) (grouped number bs bytes) ∙ getD-at (opening number) (length bs) (namesBytes bs ++ bytes) 0 12 o-length
+  command-count = ap (λ l. byte l 12) (sym (append-nil (commandBytes number bs bytes))) ∙ count-at number bs bytes [] n
 
   command-rest : drop 13 (commandBytes number bs bytes) ≡ namesBytes bs ++ bytes
   command-rest = ap (drop 13) (grouped number bs bytes) ∙ past-count (opening number) (length bs) (namesBytes bs ++ bytes) o-length
@@ -140,7 +132,7 @@ module _ (number : List ℕ) (nbw nmaxb : ℕ) (bs bytes : List ℕ) (n : length
 
 -- ---- what decodes
 
-pub decoded-framed : (number : List ℕ) (nbw nmaxb : ℕ) (all bs bytes : List ℕ) → decode number nbw nmaxb all ≡ decoded bs bytes
+decoded-framed : (number : List ℕ) (nbw nmaxb : ℕ) (all bs bytes : List ℕ) → decode number nbw nmaxb all ≡ decoded bs bytes
     → (framed number nbw all ≡ true) × (nameable nmaxb (numbers (byte all 12) (drop 13 all)) ≡ true)
 decoded-framed number nbw nmaxb all bs bytes e =
     let h = encode-decode number nbw nmaxb all bs bytes e in
@@ -214,9 +206,9 @@ pub same-command : {n m : ℕ} {x u y v : List ℕ} → n ≡ m → x ≡ u → 
 same-command p q r = λ i. record { count = p i; blocks = q i; bytes = r i }
 
 -- of a command's arrays its count takes what was carried
-pub viewed : (bytes : List ℕ) → Framed bytes
+pub carried-viewed : (bytes : List ℕ) → Framed bytes
     → (let d = commandAs (carried bytes) in decoded (take (d .count) (d .blocks)) (take (16 * d .count) (d .bytes))) ≡ carried bytes
-viewed bytes f =
+carried-viewed bytes f =
     let b = byte bytes 12 in
     let ns = numbers b (drop 13 bytes) in
     let sixteens = drop (13 + 2 * b) bytes in

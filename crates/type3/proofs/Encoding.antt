@@ -42,13 +42,13 @@ opens-by bytes number h n =
 
 -- ---- how many blocks a command may name
 
-pub record Counted (nbw n : ℕ) : Type 0 where
+pub record CountBounds (nbw n : ℕ) : Type 0 where
   pub some : 1 ≤ n
   pub allowed : n ≤ nbw
   pub few : n ≤ 8
 
-pub counted : (nbw n : ℕ) → leb 1 n && leb n (blocksPerCommand nbw) ≡ true → Counted nbw n
-counted nbw n h =
+pub count-bounds : (nbw n : ℕ) → leb 1 n && leb n (blocksPerCommand nbw) ≡ true → CountBounds nbw n
+count-bounds nbw n h =
     let most : n ≤ blocksPerCommand nbw = leb-true n (blocksPerCommand nbw) (and-r (leb 1 n) (leb n (blocksPerCommand nbw)) h) in
     record { some = leb-true 1 n (and-l (leb 1 n) (leb n (blocksPerCommand nbw)) h); allowed = omega arith; few = omega arith }
 
@@ -132,7 +132,7 @@ pub record Used (nmaxb n : ℕ) (bs : List ℕ) : Type 0 where
 pub used : (nbw nmaxb n : ℕ) (bs : List ℕ) → length bs ≡ 8 → leb n (length bs) && wellNamed nbw nmaxb (take n bs) ≡ true → Used nmaxb n bs
 used nbw nmaxb n bs e h =
     let tests : leb 1 n && leb n (blocksPerCommand nbw) && nameable nmaxb (take n bs) ≡ true = sym (well-named-by nbw nmaxb n bs e) ∙ h in
-    let k = counted nbw n (and-l (leb 1 n && leb n (blocksPerCommand nbw)) (nameable nmaxb (take n bs)) tests) in
+    let k = count-bounds nbw n (and-l (leb 1 n && leb n (blocksPerCommand nbw)) (nameable nmaxb (take n bs)) tests) in
     record {
       few = k .few;
       inside = length-take-le n bs (omega arith);

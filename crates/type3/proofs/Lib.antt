@@ -1,4 +1,4 @@
--- Laws about the definitions of `type3`. Nothing here states a rule.
+-- Laws about the definitions of `type3`, and what the code needs of them. Nothing here states a rule.
 pub mod Codec
 pub mod Message
 pub mod Update
@@ -8,7 +8,7 @@ pub mod Counts
 pub mod Naming
 pub mod Encoding
 pub mod Decoding
-pub mod Answers
-pub mod Refusing
+pub mod Reading
+pub mod Deciding
 pub mod Storing
-pub mod Giving
+pub mod Modelling

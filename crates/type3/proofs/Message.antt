@@ -2,17 +2,17 @@
 -- A tag that agrees with it in bytes 0 to 8 and 10 passes the checks again, if its WriteFlag, Ln and checksum are in order.
 -- Assumes nothing.
 use mathlib.Core.Path.{_≡_, refl, sym, ap}
-use mathlib.Core.Bool.{Bool, true, false, not, _&&_, _||_}
+use mathlib.Core.Bool.{Bool, true, false, not, _||_, cond}
 use mathlib.Core.List.{List}
-use Prim.Native.Nat.{ℕ, zero, suc, _+_, _*_, _/_, _%_, _≤_}
+use Prim.Native.Nat.{ℕ, zero, suc, _+_, _*_, _/_, _≤_}
 use native.Mathlib.Omega.{arith}
-use borrow.Author.Tests.{leb-true, le-leb, eqb-true, eq-eqb}
+use borrow.Author.Tests.{leb-true, le-leb, eq-eqb}
 use lib.Dec.{leb, eqb}
 use lib.ListN.{length, take, drop, length-take}
 use Rattle.tag.specs.Bytes.{byte}
 use Rattle.tag.specs.Checks.{Checked, fine, fault, firstOf}
-use Rattle.tag.specs.Reading.{empty, being-written, Report, reads, broken, nothing, holds, heldOf}
-use Rattle.tag.proofs.Logic.{and-l, and-r, and-both, nope}
+use Rattle.tag.specs.Reading.{empty, being-written, Report, unreadable, reads, broken, nothing, holds, heldOf}
+use Rattle.tag.proofs.Logic.{and-three, and-both, lengths, nope}
 use Rattle.tag.proofs.Checks.{AllPass, fine-all, all-fine}
 use Rattle.type3.specs.Attributes.{steadySum, nmaxbOf, attributes, attributeChecks, mayWrite}
 use Rattle.type3.specs.Message.{View, refuse, busy, view, viewBy, viewed, without, withMessage, readingOf, reading}
@@ -31,14 +31,8 @@ pub record Bounds (i : List ℕ) : Type 0 where
 
 pub bounds : (i : List ℕ) → Passes i → Bounds i
 bounds i c =
-    let n = length i in
-    let d : eqb (n % 16) 0 && leb 16 n ≡ true = and-l (eqb (n % 16) 0 && leb 16 n) (leb n 4096) (c .0) in
-    let w : n % 16 ≡ 0 = eqb-true (n % 16) 0 (and-l (eqb (n % 16) 0) (leb 16 n) d) in
-    record {
-      whole = omega arith;
-      short = leb-true n 4096 (and-r (eqb (n % 16) 0 && leb 16 n) (leb n 4096) (c .0));
-      reach = leb-true (16 * (1 + nmaxbOf i)) n (c .1 .1 .1 .1 .0);
-    }
+    let (blocks, least, short) = lengths 16 16 4096 (length i) (c .0) in
+    record { whole = omega arith; short = short; reach = leb-true (16 * (1 + nmaxbOf i)) (length i) (c .1 .1 .1 .1 .0) }
 
 pub ln-fits : (i : List ℕ) → Passes i → attributes i .ln ≤ 16 * nmaxbOf i
 ln-fits i c = leb-true (attributes i .ln) (16 * nmaxbOf i) (c .1 .1 .1 .1 .1 .0)
@@ -67,23 +61,37 @@ checks-of i j l h c flag sum ln =
     let e3 : byte j 3 ≡ byte i 3 = h 3 refl in
     let e4 : byte j 4 ≡ byte i 4 = h 4 refl in
     let e10 : byte j 10 ≡ byte i 10 = h 10 refl in
-    let defined = c .1 .1 .1 .0 in
-    let write-flag = eqb (byte i 9) 0x00 || eqb (byte i 9) 0x0F in
-    let rw-flag = eqb (byte i 10) 0x00 || eqb (byte i 10) 0x01 in
-    let nbr = not (eqb (byte i 1) 0) in
-    let rw-flag-defined = and-r write-flag rw-flag (and-l (write-flag && rw-flag) nbr defined) in (
+    let (write-flag, rw-flag, nbr)
+    = and-three (eqb (byte i 9) 0x00 || eqb (byte i 9) 0x0F) (eqb (byte i 10) 0x00 || eqb (byte i 10) 0x01) (not (eqb (byte i 1) 0)) (c .1 .1 .1 .0) in (
       rw l (c .0),
       (
         eq-eqb _ _ sum,
         (
           rw e0 (c .1 .1 .0),
           (
-            rw (e10, e1) (and-both (and-both flag rw-flag-defined) (and-r (write-flag && rw-flag) nbr defined)),
+            rw (e10, e1) (and-both (and-both flag rw-flag) nbr),
             (rw (l, e3, e4) (c .1 .1 .1 .1 .0), (rw (e3, e4) (le-leb _ _ ln), tt)),
           ),
         ),
       ),
     )
+
+-- ---- reading by the checks
+
+-- one that fails gives its refusal
+pub unread : (i : List ℕ) (r : ℕ) → firstOf (attributeChecks (length i) (attributes i)) ≡ fault r → reading i ≡ unreadable r
+unfolding reading viewBy
+unread i r e = rw e
+
+-- a tag that passes them reads
+pub passes-reads : (i : List ℕ) → firstOf (attributeChecks (length i) (attributes i)) ≡ fine → (p : Report) × (reading i ≡ reads p)
+unfolding reading viewBy
+passes-reads i e = rw e (go (eqb (byte i 9) 0x0F) (attributes i .ln))
+  where
+    go : (b : Bool) (n : ℕ) → (p : Report) × (readingOf (mayWrite i) i (cond b busy (view n)) ≡ reads p)
+    go true n = (without being-written (mayWrite i), refl)
+    go false zero = (without empty (mayWrite i), refl)
+    go false (suc n) = (withMessage (suc n) i (mayWrite i), refl)
 
 -- ---- what a tag that passes them holds
 
@@ -116,12 +124,11 @@ unfolding reading
 reads-writable i p e = writable-as (mayWrite i) i (viewed i) p e
 
 pub reads-passes : (i : List ℕ) → (heldOf (reading i) ≡ broken → ⊥) → Passes i
-unfolding reading viewBy
 reads-passes i h = go (firstOf (attributeChecks (length i) (attributes i))) refl
   where
     go : (c : Checked) → firstOf (attributeChecks (length i) (attributes i)) ≡ c → Passes i
     go fine q = fine-all (attributeChecks (length i) (attributes i)) q
-    go (fault r) q = absurd (h (rw q))
+    go (fault r) q = absurd (h (ap heldOf (unread i r q)))
 
 -- what it holds fits
 pub held-fits : (j m : List ℕ) → heldOf (reading j) ≡ holds m → fits j (length m) ≡ true

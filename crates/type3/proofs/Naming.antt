@@ -11,7 +11,7 @@ use lib.Dec.{leb, eqb}
 use lib.ListN.{length, take, drop, set, drop-of-length-le}
 use lib.Seq.{sets, drop-cons, drop-drop, getD-drop, take-suc, length-take-le}
 use Rattle.tag.specs.Bytes.{byte, has}
-use Rattle.tag.proofs.Logic.{and-l, and-r}
+use Rattle.tag.proofs.Logic.{and-l, and-r, and-three}
 use Rattle.tag.proofs.Storing.{sets-append}
 use Rattle.type3.specs.Codec.{namesBytes, nameable}
 use Rattle.type3.specs.InPlace.{marked, numbers}
@@ -45,11 +45,10 @@ nameable-end nmaxb bs i h = rw (drop-of-length-le bs h)
 pub nameable-each : (nmaxb : ℕ) (bs : List ℕ) → nameable nmaxb bs ≡ true → (i : ℕ) → i < length bs → (byte bs i ≤ nmaxb) × (byte bs i ≤ 255)
 nameable-each nmaxb [] h i l = absurd (omega arith)
 nameable-each nmaxb (b ∷ bs) h zero l =
-    let low : leb b nmaxb && leb b 255 ≡ true
-    = and-l (leb b nmaxb && leb b 255) (not (has b bs)) (and-l (leb b nmaxb && leb b 255 && not (has b bs)) (nameable nmaxb bs) h) in
+    let low : leb b nmaxb && leb b 255 ≡ true = and-three (leb b nmaxb && leb b 255) (not (has b bs)) (nameable nmaxb bs) h .0 in
     (leb-true b nmaxb (and-l (leb b nmaxb) (leb b 255) low), leb-true b 255 (and-r (leb b nmaxb) (leb b 255) low))
 nameable-each nmaxb (b ∷ bs) h (suc i) l =
-    nameable-each nmaxb bs (and-r (leb b nmaxb && leb b 255 && not (has b bs)) (nameable nmaxb bs) h) i (omega arith)
+    nameable-each nmaxb bs (and-three (leb b nmaxb && leb b 255) (not (has b bs)) (nameable nmaxb bs) h .2) i (omega arith)
 
 -- ---- names written
 

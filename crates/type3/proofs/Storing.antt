@@ -12,9 +12,9 @@ use Rattle.tag.specs.Stores.{puts, stores}
 use Rattle.type3.specs.Codec.{nameable, decode, storesOf, commandOf}
 use Rattle.type3.specs.InPlace.{numbers}
 use Rattle.type3.specs.CodecViews.{isCommand, Framed}
+use Rattle.type3.specs.Model.{Storable, storesFrom}
 use Rattle.type3.proofs.Naming.{nameable-each, length-numbers}
 use Rattle.type3.proofs.Decoding.{frame, decode-carried}
-use Rattle.type3.specs.Model.{Storable, storesFrom}
 
 -- one number more
 numbers-next : (b : ℕ) (bytes : List ℕ) → 0 < b → numbers b bytes ≡ byte bytes 1 ∷ numbers (b - 1) (drop 2 bytes)

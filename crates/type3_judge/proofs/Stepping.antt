@@ -14,7 +14,7 @@ use Rattle.type3.specs.Codec.{decode, commandOf, span}
 use Rattle.type3.specs.Type3.{type3}
 use Rattle.type3.specs.CodecViews.{isCommand}
 use Rattle.type3.specs.Model.{decodeFor}
-use Rattle.type3.proofs.Giving.{decode-by, ill-command, some-command}
+use Rattle.type3.proofs.Modelling.{decode-by, ill-command, some-command}
 use Rattle.type3_judge.specs.Views.{Piece, Judging}
 
 -- ---- the bytes of a command

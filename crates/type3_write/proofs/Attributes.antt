@@ -1,4 +1,4 @@
--- The bytes of block 0 that writing keeps, and the lengths of the attribute block and its command.
+-- The sum of the bytes of block 0 that writing keeps, and the lengths of the attribute block and its command.
 -- Assumes nothing.
 use mathlib.Core.Path.{_≡_, refl}
 use mathlib.Core.List.{List, [], _∷_}
@@ -8,8 +8,8 @@ use lib.ListN.{length}
 use Rattle.tag.specs.Bytes.{byte}
 use Rattle.tag.specs.Numbers.{sumTo}
 use Rattle.type3.specs.Attributes.{steadySum}
-use Rattle.type3_write.specs.Listing.{attributeBlock, attributeCommand}
 use Rattle.type3.proofs.Codec.{length-command}
+use Rattle.type3_write.specs.Listing.{attributeBlock, attributeCommand}
 
 -- the sum of the bytes of block 0 that writing keeps
 pub sum-steady : (i : List ℕ) → sumTo i 9 + byte i 10 ≡ steadySum i

@@ -13,8 +13,8 @@ use Rattle.type3.specs.Codec.{namesBytes, opening, commandBytes}
 use Rattle.type3.proofs.Codec.{length-opening, length-names}
 use Rattle.type3.proofs.Naming.{names-append}
 
-pub names-more : (s n : ℕ) → namesBytes (run s (n + 1)) ≡ namesBytes (run s n) ++ (0x80 ∷ (s + n) ∷ [])
-names-more s n = ap namesBytes (run-more s n) ∙ names-append (run s n) ((s + n) ∷ [])
+pub names-run-more : (s n : ℕ) → namesBytes (run s (n + 1)) ≡ namesBytes (run s n) ++ (0x80 ∷ (s + n) ∷ [])
+names-run-more s n = ap namesBytes (run-more s n) ∙ names-append (run s n) ((s + n) ∷ [])
 
 -- a command laid in three parts: its opening and count, the names of its blocks, their bytes
 pub lay-command : (number bs bytes t o z y : List ℕ) (n : ℕ) → length number ≡ 8 → length bs ≡ n → length bytes ≡ 16 * n → 13 + 18 * n ≤ length t

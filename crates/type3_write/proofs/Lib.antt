@@ -3,6 +3,6 @@ pub mod Body
 pub mod Attributes
 pub mod Laying
 pub mod Dealing
-pub mod Sixteen
+pub mod StoredBlocks
 pub mod ListBytes
 pub mod Writing

@@ -17,12 +17,12 @@ use Rattle.type3.specs.Attributes.{attributes}
 use Rattle.type3.specs.Update.{blocksFor, blocksPerCommand, closed, plan}
 use Rattle.type3.specs.Codec.{commandBytes, storedBytes, encoded}
 use Rattle.type3.specs.Type3.{type3}
-use Rattle.type3_write.specs.Listing.{attributeBlock, attributeCommand, messageCommand, messageCommands, listAs, Dealt}
 use Rattle.type3.proofs.Update.{HasRoom, inside}
 use Rattle.type3.proofs.Counts.{between-guard, between-on, between-past}
+use Rattle.type3_write.specs.Listing.{attributeBlock, attributeCommand, messageCommand, messageCommands, listAs, Dealt}
 use Rattle.type3_write.proofs.Attributes.{length-attribute-command}
 use Rattle.type3_write.proofs.Dealing.{left-over, length-commands}
-use Rattle.type3_write.proofs.Sixteen.{closed-block, new-block, new-blocks}
+use Rattle.type3_write.proofs.StoredBlocks.{closed-block, new-block, new-blocks}
 
 -- ---- a run of blocks of an image, as a command
 

@@ -15,25 +15,25 @@ use Rattle.tag.proofs.Laws.{written-ready}
 use Rattle.type3.specs.Attributes.{attributes}
 use Rattle.type3.specs.Update.{blocksFor, blocksPerCommand, plan}
 use Rattle.type3.specs.Type3.{type3}
-use Rattle.type3_write.specs.Listing.{Dealt, listAs}
 use Rattle.type3.proofs.Message.{bounds}
 use Rattle.type3.proofs.Update.{few-blocks}
 use Rattle.type3.proofs.Laws.{ready-room, some-width}
 use Rattle.type3.proofs.Counts.{list-count}
+use Rattle.type3_write.specs.Listing.{Dealt, listAs}
 use Rattle.type3_write.proofs.ListBytes.{list-bytes, length-list-as}
 
 pub write-refused : (number i m : List ℕ) (room r : ℕ) → writing (type3 number) i m ≡ unwritten r → write (type3 number) room i m ≡ withheld r
 write-refused number i m room r e = ap (writeBy (type3 number) room i) e
 
 -- a message that goes on the tag takes at most 255 blocks, and a command at least one of them
-pub goes-few : (number i m : List ℕ) → writing (type3 number) i m ≡ written (plan i m) → (blocksFor (length m) ≤ 255) × (0 < blocksPerCommand (byte i 2))
-goes-few number i m e =
+pub planned-bounds : (number i m : List ℕ) → writing (type3 number) i m ≡ written (plan i m) → (blocksFor (length m) ≤ 255) × (0 < blocksPerCommand (byte i 2))
+planned-bounds number i m e =
     let r = written-ready (type3 number) i m (plan i m) e .0 in
     let b = bounds i (ready-room number i m r .passes) in
     (omega (arith, few-blocks i m (ready-room number i m r), b .reach, b .short), some-width number i m r)
 
 -- writing has a plan, whose list takes t commands of w blocks each
-pub record Goes (number i m : List ℕ) (w t : ℕ) : Type 0 where
+pub record Planned (number i m : List ℕ) (w t : ℕ) : Type 0 where
   pub eight : length number ≡ 8
   pub planned : writing (type3 number) i m ≡ written (plan i m)
   pub width-is : w ≡ blocksPerCommand (byte i 2)
@@ -42,7 +42,7 @@ pub record Goes (number i m : List ℕ) (w t : ℕ) : Type 0 where
   pub byte-12 : byte i 12 < 256
   pub byte-13 : byte i 13 < 256
 
-module _ (number i m : List ℕ) (room w t : ℕ) (g : Goes number i m w t) where
+module _ (number i m : List ℕ) (room w t : ℕ) (g : Planned number i m w t) where
   ready : Ready (type3 number) i m
   ready = written-ready (type3 number) i m (plan i m) (g .planned) .0
 
@@ -66,7 +66,7 @@ module _ (number i m : List ℕ) (room w t : ℕ) (g : Goes number i m w t) wher
   write-list l = written-is ∙ rw (le-leb (length (listAs number i m (attributes i .ln) w t)) room (omega (arith, long)))
 
 -- the buffer with the list laid over it, as the code lays it
-pub write-laid : (number i m list list′ : List ℕ) (ln w t : ℕ) → Goes number i m w t → ln ≡ attributes i .ln → 62 + 13 * t + 18 * blocksFor (length m) ≤ length list
+pub write-laid : (number i m list list′ : List ℕ) (ln w t : ℕ) → Planned number i m w t → ln ≡ attributes i .ln → 62 + 13 * t + 18 * blocksFor (length m) ≤ length list
     → list′ ≡ listAs number i m ln w t ++ drop (62 + 13 * t + 18 * blocksFor (length m)) list
     → list′ ≡ outputInto list (write (type3 number) (length list) i m)
 write-laid number i m list list′ ln w t g e l q =

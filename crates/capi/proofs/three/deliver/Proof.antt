@@ -2,10 +2,10 @@
 use mathlib.Core.Path.{sym, _∙_}
 use Prim.Native.Nat.{_*_}
 use native.Mathlib.Omega.{arith}
+use borrow.Author.Needs.{needs}
 use lib.ListN.{take}
 use lib.Seq.{length-take-le}
 use Rattle.tag.proofs.Storing.{sets-front}
-use borrow.Author.Needs.{needs}
 use Rattle.capi.proofs.three.deliver.Statement.{statement}
 use Rattle.capi.proofs.three.deliver.Tie as tie
 

@@ -1,6 +1,6 @@
 -- `three::numbers` meets its contract. Assumes nothing.
-use Rattle.tag.proofs.Runs.{bytes-of}
 use borrow.Author.Needs.{needs}
+use Rattle.tag.proofs.Runs.{bytes-of}
 use Rattle.capi.proofs.three.numbers.Statement.{statement}
 use Rattle.capi.proofs.three.numbers.Tie as tie
 

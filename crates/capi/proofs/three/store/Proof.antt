@@ -1,6 +1,6 @@
 -- `three::store` meets its contract: after i turns the first i numbers are stored. Assumes nothing.
-use Prim.Native.Nat.{_-_, _≤_}
 use mathlib.Core.Path.{_≡_, refl, ap, _∙_}
+use Prim.Native.Nat.{_-_, _≤_}
 use native.Mathlib.Omega.{arith}
 use borrow.Author.Needs.{needs}
 use lib.ListN.{length, take, set, length-set}

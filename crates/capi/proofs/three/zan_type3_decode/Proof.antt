@@ -1,11 +1,11 @@
 -- `three::zan_type3_decode` meets its contract. Assumes nothing.
 use mathlib.Core.Path.{_≡_, refl, sym}
 use native.Mathlib.Omega.{arith}
+use borrow.Author.Needs.{needs}
 use borrow.Author.Tests.{eq-eqb, ne-eqb}
 use lib.ListN.{length}
 use lib.Seq.{length-take-le}
 use Rattle.capi.proofs.Decoded.{few-blocks}
-use borrow.Author.Needs.{needs}
 use Rattle.capi.proofs.three.zan_type3_decode.Statement.{statement}
 use Rattle.capi.proofs.three.zan_type3_decode.Tie as tie
 

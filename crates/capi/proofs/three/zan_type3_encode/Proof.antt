@@ -1,11 +1,11 @@
 -- `three::zan_type3_encode` meets its contract. Assumes nothing.
 use mathlib.Core.Path.{ap, _∙_}
+use borrow.Author.Needs.{needs}
 use lib.ListN.{length}
 use Rattle.tag.specs.Answers.{countOf}
 use Rattle.tag.specs.TagType.{outputInto}
 use Rattle.type3.specs.Codec.{encode}
 use Rattle.capi.specs.Packed.{packedCount}
-use borrow.Author.Needs.{needs}
 use Rattle.capi.proofs.three.zan_type3_encode.Statement.{statement}
 use Rattle.capi.proofs.three.zan_type3_encode.Tie as tie
 

@@ -1,7 +1,7 @@
 -- `three::zan_type3_judge` meets its contract. Assumes nothing.
 use mathlib.Core.Path.{ap, _∙_}
-use Rattle.capi.specs.Packed.{packedVerdict}
 use borrow.Author.Needs.{needs}
+use Rattle.capi.specs.Packed.{packedVerdict}
 use Rattle.capi.proofs.three.zan_type3_judge.Statement.{statement}
 use Rattle.capi.proofs.three.zan_type3_judge.Tie as tie
 

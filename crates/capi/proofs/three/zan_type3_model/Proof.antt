@@ -1,7 +1,7 @@
 -- `three::zan_type3_model` meets its contract. Assumes nothing.
 use mathlib.Core.Path.{ap, _∙_}
-use Rattle.capi.specs.Packed.{packedStoring}
 use borrow.Author.Needs.{needs}
+use Rattle.capi.specs.Packed.{packedStoring}
 use Rattle.capi.proofs.three.zan_type3_model.Statement.{statement}
 use Rattle.capi.proofs.three.zan_type3_model.Tie as tie
 

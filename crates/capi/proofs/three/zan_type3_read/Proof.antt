@@ -1,7 +1,7 @@
 -- `three::zan_type3_read` meets its contract. Assumes nothing.
 use mathlib.Core.Path.{ap, _∙_}
-use Rattle.capi.specs.Packed.{packedRead, reportInto}
 use borrow.Author.Needs.{needs}
+use Rattle.capi.specs.Packed.{packedRead, reportInto}
 use Rattle.capi.proofs.three.zan_type3_read.Statement.{statement}
 use Rattle.capi.proofs.three.zan_type3_read.Tie as tie
 

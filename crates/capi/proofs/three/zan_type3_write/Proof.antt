@@ -1,7 +1,7 @@
 -- `three::zan_type3_write` meets its contract. Assumes nothing.
 use mathlib.Core.Path.{ap, _∙_}
-use Rattle.capi.specs.Packed.{packedCount}
 use borrow.Author.Needs.{needs}
+use Rattle.capi.specs.Packed.{packedCount}
 use Rattle.capi.proofs.three.zan_type3_write.Statement.{statement}
 use Rattle.capi.proofs.three.zan_type3_write.Tie as tie
 

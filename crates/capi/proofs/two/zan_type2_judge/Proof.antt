@@ -1,7 +1,7 @@
 -- `two::zan_type2_judge` meets its contract. Assumes nothing.
 use mathlib.Core.Path.{ap, _∙_}
-use Rattle.capi.specs.Packed.{packedVerdict}
 use borrow.Author.Needs.{needs}
+use Rattle.capi.specs.Packed.{packedVerdict}
 use Rattle.capi.proofs.two.zan_type2_judge.Statement.{statement}
 use Rattle.capi.proofs.two.zan_type2_judge.Tie as tie
 

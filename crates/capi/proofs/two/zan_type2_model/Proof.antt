@@ -1,7 +1,7 @@
 -- `two::zan_type2_model` meets its contract. Assumes nothing.
 use mathlib.Core.Path.{ap, _∙_}
-use Rattle.capi.specs.Packed.{packedStoring}
 use borrow.Author.Needs.{needs}
+use Rattle.capi.specs.Packed.{packedStoring}
 use Rattle.capi.proofs.two.zan_type2_model.Statement.{statement}
 use Rattle.capi.proofs.two.zan_type2_model.Tie as tie
 

@@ -1,7 +1,7 @@
 -- `two::zan_type2_read` meets its contract. Assumes nothing.
 use mathlib.Core.Path.{ap, _∙_}
-use Rattle.capi.specs.Packed.{packedRead, reportInto}
 use borrow.Author.Needs.{needs}
+use Rattle.capi.specs.Packed.{packedRead, reportInto}
 use Rattle.capi.proofs.two.zan_type2_read.Statement.{statement}
 use Rattle.capi.proofs.two.zan_type2_read.Tie as tie
 

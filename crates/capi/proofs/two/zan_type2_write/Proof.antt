@@ -1,7 +1,7 @@
 -- `two::zan_type2_write` meets its contract. Assumes nothing.
 use mathlib.Core.Path.{ap, _∙_}
-use Rattle.capi.specs.Packed.{packedCount}
 use borrow.Author.Needs.{needs}
+use Rattle.capi.specs.Packed.{packedCount}
 use Rattle.capi.proofs.two.zan_type2_write.Statement.{statement}
 use Rattle.capi.proofs.two.zan_type2_write.Tie as tie
 

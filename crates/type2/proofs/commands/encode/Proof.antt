@@ -9,7 +9,7 @@ use Rattle.tag.specs.Answers.{countOf}
 use Rattle.tag.specs.TagType.{outputInto}
 use Rattle.tag.proofs.Storing.{sets-front}
 use Rattle.type2.specs.Codec.{commandBytes}
-use Rattle.type2.proofs.Encoding.{named, encode-unnamed, encode-short, encode-written}
+use Rattle.type2.proofs.Encoding.{name-bounds, encode-unnamed, encode-short, encode-written}
 use Rattle.type2.proofs.commands.encode.Statement.{statement}
 use Rattle.type2.proofs.commands.encode.Tie as tie
 
@@ -32,7 +32,7 @@ cast-command-bytes : tie.Need-cast-command-bytes
 cast-command-bytes c =
     let a = c .before .before .before .before .before .args in
     let n = c .before .before .nameable in
-    omega (arith, named (a .blocks) (a .command .block .0) (sym (n .ensures) ∙ not-false (n .result) (c .before .if1 .left)))
+    omega (arith, name-bounds (a .blocks) (a .command .block .0) (sym (n .ensures) ∙ not-false (n .result) (c .before .if1 .left)))
 
 returns-3 : tie.Need-returns-3
 returns-3 c =

@@ -2,7 +2,7 @@
 use mathlib.Core.Path.{sym, _∙_}
 use borrow.Author.Needs.{needs}
 use borrow.Author.Tests.{eq-eqb, ne-eqb, not-true, not-false}
-use Rattle.type2.proofs.Refusing.{not-blocks, too-short, too-long, no-mark, bad-version, bad-access, writable, read-only}
+use Rattle.type2.proofs.Refusing.{not-blocks, image-too-short, image-too-long, no-mark, bad-version, bad-access, writable, read-only}
 use Rattle.type2.proofs.container.data_area.Statement.{statement}
 use Rattle.type2.proofs.container.data_area.Tie as tie
 
@@ -31,8 +31,8 @@ data-area-spec =
     tie.close
     (tie.spec
     (λ c. (search not-blocks, tt))
-    (λ c. (search too-short, tt))
-    (λ c. (search too-long, tt))
+    (λ c. (search image-too-short, tt))
+    (λ c. (search image-too-long, tt))
     (λ c. search needs)
     (λ c. (search no-mark, tt))
     (λ c. search needs)

@@ -4,7 +4,8 @@ use borrow.Author.Needs.{needs}
 use Rattle.tag.specs.Judge.{judgeBy}
 use Rattle.type2.specs.Type2.{type2}
 use Rattle.type2.specs.Views.{checkedAs}
-use Rattle.type2.proofs.Deciding.{checks-pass, refused-writing}
+use Rattle.type2.proofs.Reading.{checks-pass}
+use Rattle.type2.proofs.Deciding.{refused-writing}
 use Rattle.type2_judge.proofs.judge.judge_with.Statement.{statement}
 use Rattle.type2_judge.proofs.judge.judge_with.Tie as tie
 

@@ -6,8 +6,8 @@ use Prim.Native.Nat.{_+_, _-_, _≤_}
 use native.Mathlib.Omega.{arith}
 use borrow.Author.Needs.{needs}
 use borrow.Author.Tests.{eq-eqb, ne-eqb}
-use Rattle.type2_write.specs.Listing.{marked, markedCount}
 use Rattle.tag.proofs.Counts.{counted-yes, counted-no}
+use Rattle.type2_write.specs.Listing.{marked, markedCount}
 use Rattle.type2_write.proofs.list.count_marked.Statement.{statement}
 use Rattle.type2_write.proofs.list.count_marked.Tie as tie
 

@@ -6,9 +6,9 @@ use borrow.Author.Needs.{needs}
 use borrow.Author.Tests.{eq-eqb, ne-eqb}
 use lib.ListN.{length}
 use Rattle.tag.proofs.Cases.{yes-case, no-case}
-use Rattle.type2_write.specs.Listing.{blockBytes, marked}
 use Rattle.tag.proofs.Counts.{counted-yes, counted-no}
 use Rattle.tag.proofs.Filling.{lent}
+use Rattle.type2_write.specs.Listing.{blockBytes, marked}
 use Rattle.type2_write.proofs.list.put_if_marked.Statement.{statement}
 use Rattle.type2_write.proofs.list.put_if_marked.Tie as tie
 

@@ -9,7 +9,7 @@ use lib.Seq.{length-take-le}
 use Rattle.tag.specs.Answers.{countOf}
 use Rattle.tag.specs.TagType.{outputInto}
 use Rattle.type3.proofs.Naming.{nameable-each}
-use Rattle.type3.proofs.Encoding.{used, encode-unnamed, encode-short, encode-written}
+use Rattle.type3.proofs.Encoding.{Used, used, encode-unnamed, encode-short, encode-written}
 use Rattle.type3.proofs.commands.encode_parts.Statement.{statement}
 use Rattle.type3.proofs.commands.encode_parts.Tie as tie
 
@@ -20,19 +20,18 @@ returns c =
     let e = encode-unnamed (a .number) (a .nbw) (a .nmaxb) (a .count) (a .blocks .now) (a .sixteens .now) (length (a .bytes .now)) (sym (w .ensures) ∙ not-true (w .result) (c .if1 .taken)) in
     (sym (ap countOf e), sym (ap (outputInto (a .bytes .now)) e))
 
-mul-size : tie.Need-mul-size
-mul-size c =
+-- the blocks that are used
+blocks-used : (c : tie.Else1) → (let a = c .before .before .before .before .before .args in Used (a .nmaxb) (a .count) (a .blocks .now))
+blocks-used c =
     let a = c .before .before .before .before .before .args in
     let w = c .before .well-named in
-    let u = used (a .nbw) (a .nmaxb) (a .count) (a .blocks .now) (omega arith) (sym (w .ensures) ∙ not-false (w .result) (c .if1 .left)) in
-    omega arith
+    used (a .nbw) (a .nmaxb) (a .count) (a .blocks .now) (omega arith) (sym (w .ensures) ∙ not-false (w .result) (c .if1 .left))
+
+mul-size : tie.Need-mul-size
+mul-size c = omega (arith, blocks-used c)
 
 add-size : tie.Need-add-size
-add-size c =
-    let a = c .before .before .before .before .before .args in
-    let w = c .before .well-named in
-    let u = used (a .nbw) (a .nmaxb) (a .count) (a .blocks .now) (omega arith) (sym (w .ensures) ∙ not-false (w .result) (c .if1 .left)) in
-    omega arith
+add-size c = omega (arith, blocks-used c)
 
 returns-2 : tie.Need-returns-2
 returns-2 c =
@@ -42,24 +41,18 @@ returns-2 c =
     (sym (ap countOf e), sym (ap (outputInto (a .bytes .now)) e))
 
 slice-aggregate-put : tie.Need-slice-aggregate-put
-slice-aggregate-put c =
-    let a = c .before .before .before .before .before .before .before .args in
-    let w = c .before .before .before .well-named in
-    let u = used (a .nbw) (a .nmaxb) (a .count) (a .blocks .now) (omega arith) (sym (w .ensures) ∙ not-false (w .result) (c .before .before .if1 .left)) in
-    sym (u .inside)
+slice-aggregate-put c = sym (blocks-used (c .before .before) .inside)
 
 slice-aggregate-put-2 : tie.Need-slice-aggregate-put-2
 slice-aggregate-put-2 c =
     let a = c .before .before .before .before .before .before .before .before .args in
-    let w = c .before .before .before .before .well-named in
-    let u = used (a .nbw) (a .nmaxb) (a .count) (a .blocks .now) (omega arith) (sym (w .ensures) ∙ not-false (w .result) (c .before .before .before .if1 .left)) in
+    let u = blocks-used (c .before .before .before) in
     sym (length-take-le (16 * a .count) (a .sixteens .now) (omega arith))
 
 put-requires : tie.Need-put-requires
 put-requires c κs =
     let a = c .before .before .before .before .before .before .before .before .before .args in
-    let w = c .before .before .before .before .before .well-named in
-    let u = used (a .nbw) (a .nmaxb) (a .count) (a .blocks .now) (omega arith) (sym (w .ensures) ∙ not-false (w .result) (c .before .before .before .before .if1 .left)) in
+    let u = blocks-used (c .before .before .before .before) in
     record {
       few = omega arith;
       each-byte = λ i l. nameable-each (a .nmaxb) (take (a .count) (a .blocks .now)) (u .named) i l .1;

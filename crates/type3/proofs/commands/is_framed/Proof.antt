@@ -2,12 +2,12 @@
 use mathlib.Core.Path.{_≡_, sym, _∙_}
 use Prim.Native.Nat.{_+_, _*_}
 use native.Mathlib.Omega.{arith}
+use borrow.Author.Needs.{needs}
 use borrow.Author.Tests.{eq-eqb, ne-eqb, not-true, not-false}
 use lib.ListN.{length, List·getD-eq-default}
 use Rattle.tag.specs.Bytes.{byte}
 use Rattle.type3.specs.InPlace.{framedBy}
-use Rattle.type3.proofs.Encoding.{counted}
-use borrow.Author.Needs.{needs}
+use Rattle.type3.proofs.Encoding.{count-bounds}
 use Rattle.type3.proofs.commands.is_framed.Statement.{statement}
 use Rattle.type3.proofs.commands.is_framed.Tie as tie
 
@@ -31,12 +31,12 @@ returns-2 c =
 mul-if3 : tie.Need-mul-if3
 mul-if3 c =
     let a = c .before .before .before .before .before .before .args in
-    omega (arith, counted (a .nbw) (byte (a .bytes .now) 12) (sym (c .before .countable .ensures) ∙ not-false (c .before .countable .result) (c .if2 .left)))
+    omega (arith, count-bounds (a .nbw) (byte (a .bytes .now) 12) (sym (c .before .countable .ensures) ∙ not-false (c .before .countable .result) (c .if2 .left)))
 
 add-if3 : tie.Need-add-if3
 add-if3 c =
     let a = c .before .before .before .before .before .before .args in
-    omega (arith, counted (a .nbw) (byte (a .bytes .now) 12) (sym (c .before .countable .ensures) ∙ not-false (c .before .countable .result) (c .if2 .left)))
+    omega (arith, count-bounds (a .nbw) (byte (a .bytes .now) 12) (sym (c .before .countable .ensures) ∙ not-false (c .before .countable .result) (c .if2 .left)))
 
 returns-3 : tie.Need-returns-3
 unfolding framedBy

@@ -1,12 +1,12 @@
 -- `commands::opens` meets its contract. Assumes nothing.
 use mathlib.Core.Path.{sym, _∙_}
-use native.Mathlib.Omega.{arith}
 use mathlib.Core.Bool.{and-true}
+use native.Mathlib.Omega.{arith}
+use borrow.Author.Needs.{needs}
 use borrow.Author.Tests.{eq-eqb, ne-eqb, not-true, not-false}
 use lib.Dec.{eqb}
 use Rattle.tag.specs.Bytes.{byte}
 use Rattle.type3.proofs.Encoding.{opens-by}
-use borrow.Author.Needs.{needs}
 use Rattle.type3.proofs.commands.opens.Statement.{statement}
 use Rattle.type3.proofs.commands.opens.Tie as tie
 

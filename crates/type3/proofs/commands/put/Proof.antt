@@ -1,11 +1,11 @@
 -- `commands::put` meets its contract. Assumes nothing.
 use mathlib.Core.Path.{ap, _∙_}
 use Prim.Native.Nat.{_+_, _*_}
+use borrow.Author.Needs.{needs}
 use lib.ListN.{length}
 use lib.Seq.{sets}
 use Rattle.type3.specs.Codec.{namesBytes}
 use Rattle.type3.proofs.Encoding.{command-stored}
-use borrow.Author.Needs.{needs}
 use Rattle.type3.proofs.commands.put.Statement.{statement}
 use Rattle.type3.proofs.commands.put.Tie as tie
 

@@ -3,18 +3,18 @@ use mathlib.Core.Path.{sym, ap, _∙_}
 use mathlib.Core.Bool.{_&&_}
 use Prim.Native.Nat.{_≤_}
 use native.Mathlib.Omega.{arith}
+use borrow.Author.Needs.{needs}
 use lib.Seq.{length-take-le}
 use lib.ListN.{take}
 use Rattle.type3.specs.Codec.{nameable}
-use Rattle.type3.proofs.Encoding.{counted, well-named-by}
-use borrow.Author.Needs.{needs}
+use Rattle.type3.proofs.Encoding.{count-bounds, well-named-by}
 use Rattle.type3.proofs.commands.well_named.Statement.{statement}
 use Rattle.type3.proofs.commands.well_named.Tie as tie
 
 slice-aggregate-nameable : tie.Need-slice-aggregate-nameable
 slice-aggregate-nameable c =
     let a = c .before .before .before .before .args in
-    let few : a .count ≤ 8 = counted (a .nbw) (a .count) (sym (c .before .before .countable .ensures) ∙ c .before .if1 .taken) .few in
+    let few : a .count ≤ 8 = count-bounds (a .nbw) (a .count) (sym (c .before .before .countable .ensures) ∙ c .before .if1 .taken) .few in
     sym (length-take-le (a .count) (a .blocks .now) (omega arith))
 
 returns : tie.Need-returns

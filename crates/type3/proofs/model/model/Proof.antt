@@ -10,7 +10,7 @@ use Rattle.type3.specs.Attributes.{nmaxbOf}
 use Rattle.type3.specs.Codec.{decode, commandOf}
 use Rattle.type3.specs.CodecViews.{isCommand}
 use Rattle.type3.specs.Views.{checkedAs, Known}
-use Rattle.type3.proofs.Giving.{decode-by, ill-command, model-refused, model-ill, model-stored}
+use Rattle.type3.proofs.Modelling.{decode-by, ill-command, model-refused, model-ill, model-stored}
 use Rattle.type3.proofs.model.model.Statement.{statement}
 use Rattle.type3.proofs.model.model.Tie as tie
 

@@ -9,7 +9,7 @@ use Rattle.type3.specs.Codec.{commandOf}
 use Rattle.type3.specs.CodecViews.{isCommand}
 use Rattle.type3.proofs.Decoding.{decode-refused}
 use Rattle.type3.proofs.Storing.{command-storable, command-stores}
-use Rattle.type3.proofs.Giving.{decode-past, decode-inside}
+use Rattle.type3.proofs.Modelling.{decode-past, decode-inside}
 use Rattle.type3.proofs.model.take_command.Statement.{statement}
 use Rattle.type3.proofs.model.take_command.Tie as tie
 

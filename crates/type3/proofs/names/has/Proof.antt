@@ -2,10 +2,10 @@
 use mathlib.Core.Path.{_≡_, refl, sym, _∙_}
 use Prim.Native.Nat.{_-_, _≤_}
 use native.Mathlib.Omega.{arith}
+use borrow.Author.Needs.{needs}
 use lib.ListN.{length, drop}
 use Rattle.tag.specs.Bytes.{has}
 use Rattle.type3.proofs.Naming.{has-found, has-more, has-end}
-use borrow.Author.Needs.{needs}
 use Rattle.type3.proofs.names.has.Statement.{statement}
 use Rattle.type3.proofs.names.has.Tie as tie
 

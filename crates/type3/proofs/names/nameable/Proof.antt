@@ -3,14 +3,13 @@ use mathlib.Core.Path.{_≡_, refl, sym, ap, _∙_}
 use mathlib.Core.Bool.{true, false}
 use Prim.Native.Nat.{_+_, _-_, _≤_}
 use native.Mathlib.Omega.{arith}
+use borrow.Author.Needs.{needs}
 use borrow.Author.Tests.{le-leb, lt-leb}
 use lib.ListN.{length, drop, length-drop}
 use lib.Seq.{take-all}
-use Rattle.tag.specs.Bytes.{byte}
-use Rattle.tag.specs.Bytes.{has}
+use Rattle.tag.specs.Bytes.{byte, has}
 use Rattle.type3.specs.Codec.{nameable}
 use Rattle.type3.proofs.Naming.{nameable-at, nameable-end}
-use borrow.Author.Needs.{needs}
 use Rattle.type3.proofs.names.nameable.Statement.{statement}
 use Rattle.type3.proofs.names.nameable.Tie as tie
 

@@ -2,12 +2,12 @@
 use mathlib.Core.Path.{_≡_, refl, ap, _∙_}
 use Prim.Native.Nat.{_+_, _-_, _*_, _≤_}
 use native.Mathlib.Omega.{arith}
+use borrow.Author.Needs.{needs}
 use lib.ListN.{length, drop, set, length-set}
 use lib.Seq.{sets}
 use Rattle.tag.specs.Bytes.{byte}
 use Rattle.type3.specs.InPlace.{numbers}
 use Rattle.type3.proofs.Naming.{numbers-more}
-use borrow.Author.Needs.{needs}
 use Rattle.type3.proofs.names.read.Statement.{statement}
 use Rattle.type3.proofs.names.read.Tie as tie
 

@@ -2,7 +2,7 @@
 use mathlib.Core.Path.{sym, ap, subst, _∙_}
 use borrow.Author.Needs.{needs}
 use Rattle.type3.specs.Views.{checkedAs, Known}
-use Rattle.type3.proofs.Answers.{answer-refused, answer-known}
+use Rattle.type3.proofs.Reading.{answer-refused, answer-known}
 use Rattle.type3.proofs.read.read.Statement.{statement}
 use Rattle.type3.proofs.read.read.Tie as tie
 

@@ -2,10 +2,10 @@
 use mathlib.Core.Path.{_≡_, ap, _∙_}
 use Prim.Native.Nat.{_+_, _-_, _*_}
 use native.Mathlib.Omega.{arith}
+use borrow.Author.Needs.{needs}
 use lib.ListN.{take, drop}
 use lib.Seq.{sets}
 use Rattle.tag.specs.Bytes.{byte}
-use borrow.Author.Needs.{needs}
 use Rattle.type3.proofs.stores.store_block.Statement.{statement}
 use Rattle.type3.proofs.stores.store_block.Tie as tie
 

@@ -3,7 +3,7 @@ use mathlib.Core.Path.{sym, ap, subst, _∙_}
 use Rattle.tag.specs.Judge.{judgeBy}
 use Rattle.type3.specs.Type3.{type3}
 use Rattle.type3.specs.Views.{checkedAs, Known}
-use Rattle.type3.proofs.Refusing.{writing-unread}
+use Rattle.type3.proofs.Deciding.{writing-unread}
 use borrow.Author.Needs.{needs}
 use Rattle.type3_judge.proofs.judge.judge.Statement.{statement}
 use Rattle.type3_judge.proofs.judge.judge.Tie as tie

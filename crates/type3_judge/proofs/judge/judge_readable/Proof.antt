@@ -11,7 +11,7 @@ use Rattle.tag.proofs.Laws.{written-ready, ready-reads}
 use Rattle.type3.specs.Attributes.{nmaxbOf}
 use Rattle.type3.specs.Update.{plan}
 use Rattle.type3.specs.Type3.{type3}
-use Rattle.type3.proofs.Refusing.{writing-refused, writing-planned}
+use Rattle.type3.proofs.Deciding.{writing-refused, writing-planned}
 use Rattle.type3_judge.proofs.judge.judge_readable.Statement.{statement}
 use Rattle.type3_judge.proofs.judge.judge_readable.Tie as tie
 

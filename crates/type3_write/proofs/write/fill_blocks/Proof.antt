@@ -6,8 +6,8 @@ use native.Mathlib.Omega.{arith}
 use borrow.Author.Needs.{needs}
 use lib.ListN.{length, take, drop, replicate, length-take, length-drop}
 use lib.Seq.{length-take-le, take-length, take-append-le, take-append-add}
-use Rattle.type3_write.specs.Listing.{filled}
 use Rattle.tag.proofs.Filling.{lay-part}
+use Rattle.type3_write.specs.Listing.{filled}
 use Rattle.type3_write.proofs.write.fill_blocks.Statement.{statement}
 use Rattle.type3_write.proofs.write.fill_blocks.Tie as tie
 

@@ -6,11 +6,11 @@ use native.Mathlib.Omega.{arith}
 use borrow.Author.Needs.{needs}
 use lib.ListN.{length, drop, length-set}
 use Rattle.tag.specs.Bytes.{run}
+use Rattle.tag.proofs.Filling.{lay-two}
 use Rattle.tag.proofs.Runs.{length-run}
 use Rattle.type3.specs.Codec.{namesBytes}
 use Rattle.type3.proofs.Codec.{length-names}
-use Rattle.tag.proofs.Filling.{lay-two}
-use Rattle.type3_write.proofs.Laying.{names-more}
+use Rattle.type3_write.proofs.Laying.{names-run-more}
 use Rattle.type3_write.proofs.write.put_names.Statement.{statement}
 use Rattle.type3_write.proofs.write.put_names.Tie as tie
 
@@ -37,7 +37,7 @@ loop-again c =
       search needs,
       search needs,
       simp length-set (search needs),
-      two ∙ rw (next, names-more b (l .j)),
+      two ∙ rw (next, names-run-more b (l .j)),
     )
 
 returns : tie.Need-returns Inv-loop μ-loop

@@ -6,9 +6,9 @@ use borrow.Author.Needs.{needs}
 use lib.ListN.{length}
 use Rattle.tag.specs.TagType.{outputInto}
 use Rattle.tag.specs.Answers.{countOf}
+use Rattle.type3.proofs.Deciding.{writing-refused, writing-planned}
 use Rattle.type3_write.specs.Listing.{Dealt}
-use Rattle.type3.proofs.Refusing.{writing-refused, writing-planned}
-use Rattle.type3_write.proofs.Writing.{write-refused, Goes, goes-few, write-short, write-list, write-laid}
+use Rattle.type3_write.proofs.Writing.{write-refused, Planned, planned-bounds, write-short, write-list, write-laid}
 use Rattle.type3_write.proofs.write.write_to.Statement.{statement}
 use Rattle.type3_write.proofs.write.write_to.Tie as tie
 
@@ -26,13 +26,13 @@ turns-for-requires c κs =
     let s = c .before .before .before .before .before .before .before in
     let a = s .args in
     let refusal = c .before .before .before .refusal in
-    let few = goes-few (a .number) (a .image .now) (a .message .now)
+    let few = planned-bounds (a .number) (a .image .now) (a .message .now)
     (writing-planned (a .number) (a .image .now) (a .message .now) (a .a) (s .pre) (refusal .result) (refusal .ensures) (c .before .before .if1 .left)) in
     (omega (arith, few .0), omega (arith, few .1, s .pre .known .nbw-is), omega arith)
 
 -- past the counting
-goes : (c : tie.After-turns-for) → Goes (c .before .before .before .before .before .before .before .before .args .number) (c .before .before .before .before .before .before .before .before .args .image .now) (c .before .before .before .before .before .before .before .before .args .message .now) (c .before .smaller .result) (c .turns-for .result)
-goes c =
+list-planned : (c : tie.After-turns-for) → Planned (c .before .before .before .before .before .before .before .before .args .number) (c .before .before .before .before .before .before .before .before .args .image .now) (c .before .before .before .before .before .before .before .before .args .message .now) (c .before .smaller .result) (c .turns-for .result)
+list-planned c =
     let s = c .before .before .before .before .before .before .before .before in
     let a = s .args in
     let refusal = c .before .before .before .before .refusal in
@@ -51,7 +51,7 @@ goes c =
 returns-2 : tie.Need-returns-2
 returns-2 c =
     let a = c .before .before .before .before .before .before .before .before .before .args in
-    let e = write-short (a .number) (a .image .now) (a .message .now) (length (a .list .now)) (c .before .before .smaller .result) (c .before .turns-for .result) (goes (c .before)) (omega arith) in
+    let e = write-short (a .number) (a .image .now) (a .message .now) (length (a .list .now)) (c .before .before .smaller .result) (c .before .turns-for .result) (list-planned (c .before)) (omega arith) in
     (sym (ap countOf e), sym (ap (outputInto (a .list .now)) e))
 
 returns-3 : tie.Need-returns-3
@@ -60,7 +60,7 @@ returns-3 c =
     let a = s .args in
     let w = c .before .before .before .before .before .before .smaller .result in
     let t = c .before .before .before .before .before .turns-for .result in
-    let g = goes (c .before .before .before .before .before) in (
+    let g = list-planned (c .before .before .before .before .before) in (
       sym (ap countOf (write-list (a .number) (a .image .now) (a .message .now) (length (a .list .now)) w t g (omega arith))),
       write-laid (a .number) (a .image .now) (a .message .now) (a .list .now) _ (a .a .ln) w t g (s .pre .known .ln-is) (omega arith) (c .before .before .put-list .ensures),
     )

@@ -1,12 +1,11 @@
 -- Commands given to a tag: which the code takes, and what the model answers.
 -- Assumes nothing.
 use mathlib.Core.Path.{_≡_, refl, ap, _∙_}
-use mathlib.Core.Bool.{Bool, true, false, cond}
+use mathlib.Core.Bool.{true, false}
 use mathlib.Core.List.{List}
-use Prim.Native.Nat.{ℕ, zero, suc, _+_, _*_, _/_, _<_, _≤_}
+use Prim.Native.Nat.{ℕ, _+_, _*_, _/_, _<_, _≤_}
 use native.Mathlib.Omega.{arith}
 use borrow.Author.Tests.{lt-ltb, le-ltb}
-use lib.Dec.{eqb}
 use lib.ListN.{length}
 use Rattle.tag.specs.Bytes.{byte}
 use Rattle.tag.specs.Refusals.{not-well-formed}
@@ -14,12 +13,12 @@ use Rattle.tag.specs.Checks.{fine, fault, firstOf}
 use Rattle.tag.specs.Stores.{Store, ill, stores, done}
 use Rattle.tag.specs.Model.{unstored, stored, given, modelBy, model}
 use Rattle.tag.proofs.Logic.{true-false}
-use Rattle.type3.specs.Attributes.{nmaxbOf, attributes, attributeChecks, mayWrite}
-use Rattle.type3.specs.Message.{busy, view, viewBy, readingOf, reading}
+use Rattle.type3.specs.Attributes.{nmaxbOf, attributes, attributeChecks}
 use Rattle.type3.specs.Codec.{Decoded, undecoded, decoded, decode, storesOf, commandOf}
 use Rattle.type3.specs.Type3.{type3}
 use Rattle.type3.specs.CodecViews.{isCommand}
 use Rattle.type3.specs.Model.{decodeFor}
+use Rattle.type3.proofs.Message.{unread, passes-reads}
 
 -- ---- which commands are taken
 
@@ -53,17 +52,10 @@ module _ (number i bytes : List ℕ) where
   d = decode number (byte i 2) (nmaxbOf i) bytes
 
   pub model-refused : (r : ℕ) → firstOf (attributeChecks (length i) (attributes i)) ≡ fault r → model (type3 number) i bytes ≡ unstored r
-  unfolding reading viewBy
-  model-refused r e = rw e
+  model-refused r e = ap (λ v. modelBy i v (commandOf d)) (unread i r e)
 
   model-given : firstOf (attributeChecks (length i) (attributes i)) ≡ fine → model (type3 number) i bytes ≡ given i (commandOf d)
-  unfolding reading viewBy
-  model-given e = rw e (go (eqb (byte i 9) 0x0F) (attributes i .ln))
-    where
-      go : (b : Bool) (n : ℕ) → modelBy i (readingOf (mayWrite i) i (cond b busy (view n))) (commandOf d) ≡ given i (commandOf d)
-      go true n = refl
-      go false zero = refl
-      go false (suc n) = refl
+  model-given e = ap (λ v. modelBy i v (commandOf d)) (passes-reads i e .1)
 
   pub model-ill : firstOf (attributeChecks (length i) (attributes i)) ≡ fine → isCommand d ≡ false → model (type3 number) i bytes ≡ unstored not-well-formed
   model-ill e q = model-given e ∙ ap (given i) (ill-command d q)

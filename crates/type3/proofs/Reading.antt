@@ -16,11 +16,11 @@ use Rattle.type3.specs.declared.read.Attributes.{Attributes}
 use Rattle.type3.specs.Attributes.{attributes, attributeChecks, mayWrite}
 use Rattle.type3.specs.Message.{busy, view, viewBy, readingOf, reading}
 use Rattle.type3.specs.Views.{Attests, answerFor}
+use Rattle.type3.proofs.Message.{unread}
 
 -- a test that fails gives its refusal
 pub answer-refused : (i : List ℕ) (r : ℕ) → firstOf (attributeChecks (length i) (attributes i)) ≡ fault r → answerOf 0 (reading i) ≡ refusal r
-unfolding reading viewBy
-answer-refused i r e = rw e
+answer-refused i r e = ap (answerOf 0) (unread i r e)
 
 -- the attributes say the rest
 pub answer-known : (i : List ℕ) (a : Attributes) → firstOf (attributeChecks (length i) (attributes i)) ≡ fine → Attests i a

@@ -6,17 +6,16 @@ use mathlib.Core.List.{List, [], _∷_}
 use Prim.Native.Nat.{ℕ, zero, suc}
 use lib.Dec.{eqb}
 use lib.ListN.{length}
-use Rattle.tag.specs.Bytes.{byte}
 use Rattle.tag.specs.Refusals.{nothing-to-write, not-writable, too-long}
 use Rattle.tag.specs.Checks.{Checked, check, fine, fault, firstOf}
 use Rattle.tag.specs.TagType.{unwritten, written, planned, writingBy, writing}
 use Rattle.type3.specs.declared.read.Attributes.{Attributes}
 use Rattle.type3.specs.Attributes.{attributes, attributeChecks, mayWrite}
-use Rattle.type3.specs.Message.{busy, view, viewBy, readingOf, reading}
 use Rattle.type3.specs.Update.{fits, plan}
 use Rattle.type3.specs.Type3.{type3}
 use Rattle.type3.specs.Views.{Readable}
 use Rattle.type3.specs.Space.{refusalFor}
+use Rattle.type3.proofs.Message.{unread, passes-reads, reads-writable}
 
 -- a refusal as the checks have it; 0 is none
 abbrev checked : ℕ → Checked
@@ -25,21 +24,18 @@ checked (suc r) = fault (suc r)
 
 module _ (number i m : List ℕ) where
   pub writing-unread : (r : ℕ) → firstOf (attributeChecks (length i) (attributes i)) ≡ fault r → writing (type3 number) i m ≡ unwritten r
-  unfolding writing reading viewBy
-  writing-unread r e = rw e
+  unfolding writing
+  writing-unread r e = ap (writingBy (type3 number) i m) (unread i r e)
 
   -- the tests that are left for a tag that reads
   abbrev left : Checked
   left = firstOf (check (not (eqb (length m) 0)) nothing-to-write ∷ check (mayWrite i) not-writable ∷ check (fits i (length m)) too-long ∷ [])
 
   writing-left : firstOf (attributeChecks (length i) (attributes i)) ≡ fine → writing (type3 number) i m ≡ planned (plan i m) left
-  unfolding writing reading viewBy
-  writing-left e = rw e (go (eqb (byte i 9) 0x0F) (attributes i .ln))
-    where
-      go : (b : Bool) (n : ℕ) → writingBy (type3 number) i m (readingOf (mayWrite i) i (cond b busy (view n))) ≡ planned (plan i m) left
-      go true n = refl
-      go false zero = refl
-      go false (suc n) = refl
+  unfolding writing
+  writing-left e =
+      let (p, q) = passes-reads i e in
+      ap (writingBy (type3 number) i m) q ∙ rw (reads-writable i p q)
 
   module _ (a : Attributes) (known : Readable i a) where
     left-is : left ≡ checked (refusalFor a (length m))
