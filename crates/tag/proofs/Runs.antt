@@ -1,13 +1,18 @@
--- Runs of numbers: how long they are, one more at the end, and parts of them; and the bytes of a list by their places.
+-- Runs of numbers: how long they are, one more at the end, and parts of them; the bytes of a list by their places; and what an
+-- overlay over a run sets.
 -- Assumes nothing.
 use mathlib.Core.Path.{_≡_, refl, ap, _∙_}
+use mathlib.Core.Bool.{true, false, _||_}
 use mathlib.Core.List.{List, [], _∷_, _++_, map}
-use Prim.Native.Nat.{ℕ, zero, suc, _+_, _-_, _≤_, min}
+use Prim.Native.Nat.{ℕ, zero, suc, _+_, _-_, _<_, _≤_, min}
 use native.Mathlib.Numerals.{add-one}
 use native.Mathlib.Omega.{arith}
+use native.Mathlib.Decide.{ℕ-discrete}
+use borrow.Author.Tests.{eq-eqb, ne-eqb}
+use lib.Dec.{eqb}
 use lib.ListN.{length, take, drop}
 use lib.Seq.{take-all, take-nil, drop-nil, drop-cons}
-use Rattle.tag.specs.Bytes.{byte, run}
+use Rattle.tag.specs.Bytes.{byte, run, isSet}
 
 pub length-run : (n s : ℕ) → length (run s n) ≡ n
 length-run zero s = refl
@@ -64,3 +69,25 @@ map-drop f (suc n) (x ∷ xs) = map-drop f n xs
 pub run-part : {B : Type 0} (f : ℕ → B) (s k d w : ℕ) → take w (drop d (map f (run s k))) ≡ map f (run (s + d) (min w (k - d)))
 run-part f s k d w =
     rw (map-drop f d (run s k), map-take f w (drop d (run s k)), drop-of-run k d s) (ap (map f) (take-of-run (k - d) w (s + d)))
+
+-- ---- an overlay over a run
+
+-- a run of addresses sets each of them, and nothing else
+pub run-in : (s n : ℕ) (vs : List ℕ) (a : ℕ) → n ≤ length vs → s ≤ a → a < s + n → isSet (run s n) vs a ≡ true
+run-in s zero vs a l h u = absurd (omega arith)
+run-in s (suc n) [] a l h u = absurd (omega arith)
+run-in s (suc n) (v ∷ vs) a l h u = go (ℕ-discrete s a) (run-in (suc s) n vs a (omega arith))
+  where
+    go : Dec (s ≡ a) → (suc s ≤ a → a < suc s + n → isSet (run (suc s) n) vs a ≡ true) → eqb s a || isSet (run (suc s) n) vs a ≡ true
+    go (yes e) ih = rw (eq-eqb s a e)
+    go (no e) ih = rw (ne-eqb s a e) (ih (omega arith) (omega arith))
+
+pub run-below : (s n : ℕ) (vs : List ℕ) (a : ℕ) → a < s → isSet (run s n) vs a ≡ false
+run-below s zero vs a h = refl
+run-below s (suc n) [] a h = refl
+run-below s (suc n) (v ∷ vs) a h = rw (ne-eqb s a (λ e. omega arith)) (run-below (suc s) n vs a (omega arith))
+
+pub run-above : (s n : ℕ) (vs : List ℕ) (a : ℕ) → s + n ≤ a → isSet (run s n) vs a ≡ false
+run-above s zero vs a h = refl
+run-above s (suc n) [] a h = refl
+run-above s (suc n) (v ∷ vs) a h = rw (ne-eqb s a (λ e. omega arith)) (run-above (suc s) n vs a (omega arith))

@@ -3,33 +3,23 @@
 -- Assumes nothing.
 use mathlib.Core.Path.{_≡_, refl, _∙_}
 use mathlib.Core.Bool.{Bool, true, false}
-use mathlib.Core.List.{List, [], _∷_}
-use Prim.Native.Nat.{ℕ, zero, suc, _+_, _-_, _*_, _/_, _<_, _≤_}
-use native.Mathlib.Nat.{not-suc-le-zero}
+use mathlib.Core.List.{List}
+use Prim.Native.Nat.{ℕ, _+_, _-_, _*_, _/_, _<_, _≤_}
 use native.Mathlib.Omega.{arith}
-use native.Mathlib.Decide.{ℕ-discrete}
 use borrow.Author.Tests.{eq-eqb, ne-eqb}
 use lib.ListN.{length}
 use Rattle.tag.specs.Bytes.{byte, run}
 use Rattle.tag.specs.Plan.{inBlock, touches, between, list, counted}
 use Rattle.tag.specs.Cuts.{Ready}
-use Rattle.tag.proofs.Logic.{or-l, or-r}
+use Rattle.tag.proofs.Logic.{or-r}
 use Rattle.tag.proofs.Blocks.{in-block}
+use Rattle.tag.proofs.Writes.{touch-of}
+use Rattle.tag.proofs.Runs.{run-in}
 use Rattle.tag.proofs.Counts.{counted-run, length-list}
 use Rattle.type3.specs.Update.{blocksFor, blocksPerCommand, addresses, body, values, plan}
 use Rattle.type3.specs.Type3.{type3}
 use Rattle.type3.proofs.Update.{length-body, HasRoom, inside}
 use Rattle.type3.proofs.Laws.{ready-room, touched-most}
-
--- a run of addresses touches every block that it has the first address of
-run-touches : (z n s b : ℕ) (vs : List ℕ) → 0 < z → n ≤ length vs → s ≤ z * b → z * b < s + n → touches z (run s n) vs b ≡ true
-run-touches z zero s b vs p l lo up = absurd (omega arith)
-run-touches z (suc n) s b [] p l lo up = absurd (not-suc-le-zero l)
-run-touches z (suc n) s b (v ∷ vs) p l lo up = go (ℕ-discrete s (z * b)) (λ m. run-touches z n (suc s) b vs p (omega arith) m (omega arith))
-  where
-    go : Dec (s ≡ z * b) → (suc s ≤ z * b → touches z (run (suc s) n) vs b ≡ true) → touches z (run s (suc n)) (v ∷ vs) b ≡ true
-    go (yes e) ih = or-l (inBlock z b s) (touches z (run (suc s) n) vs b) (in-block z b s .1 (omega arith, omega arith))
-    go (no e) ih = or-r (inBlock z b s) (touches z (run (suc s) n) vs b) (ih (omega arith))
 
 module _ (i m : List ℕ) where
   -- not block 0, blocks 1 to k, none above
@@ -40,7 +30,9 @@ module _ (i m : List ℕ) where
   between-on b lo up =
       rw (ne-eqb b 0 (λ e. omega arith))
       (or-r (inBlock 16 b 9) _ (or-r (inBlock 16 b 11) _ (or-r (inBlock 16 b 12) _ (or-r (inBlock 16 b 13) _ (or-r (inBlock 16 b 14) _ (or-r (inBlock 16 b 15) _
-      (run-touches 16 (16 * blocksFor (length m)) 16 b (body m) (omega arith) (omega (arith, length-body m)) (omega arith) (omega arith))))))))
+      (touch-of 16 (run 16 (16 * blocksFor (length m))) (body m) (16 * b) b
+      (run-in 16 (16 * blocksFor (length m)) (body m) (16 * b) (omega (arith, length-body m)) (omega arith) (omega arith))
+      (in-block 16 b (16 * b) .1 (omega arith, omega arith)))))))))
 
   pub between-past : (b : ℕ) → 1 + blocksFor (length m) ≤ b → between (plan i m) b ≡ false
   between-past b l = go (touches 16 (addresses m) (values i m) b) refl

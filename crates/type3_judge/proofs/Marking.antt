@@ -1,9 +1,9 @@
 -- The marks are the addresses that writing sets.
 -- Assumes nothing.
 use mathlib.Core.Path.{_≡_, refl, sym, _∙_}
-use mathlib.Core.Bool.{Bool, true, false, not, _||_}
-use mathlib.Core.List.{List, [], _∷_}
-use Prim.Native.Nat.{ℕ, zero, suc, _+_, _*_, _<_, _≤_}
+use mathlib.Core.Bool.{Bool, true, false, not}
+use mathlib.Core.List.{List, _∷_}
+use Prim.Native.Nat.{ℕ, suc, _+_, _*_, _<_, _≤_}
 use native.Mathlib.Omega.{arith}
 use native.Mathlib.Decide.{ℕ-discrete}
 use borrow.Author.Tests.{eq-eqb, ne-eqb, le-ltb, ltb-true, ltb-false, leb-true, leb-false}
@@ -11,29 +11,10 @@ use lib.Dec.{leb, ltb, eqb}
 use lib.ListN.{length, drop, set}
 use lib.Seq.{getD-set-same, getD-set-other}
 use Rattle.tag.specs.Bytes.{byte, run, isSet}
+use Rattle.tag.proofs.Runs.{run-in, run-below, run-above}
 use Rattle.type3.specs.Update.{blocksFor, addresses, values}
 use Rattle.type3.proofs.Update.{length-body}
 use Rattle.type3_judge.specs.Views.{markAt}
-
--- a run of addresses sets each of them, and nothing else
-run-in : (s n : ℕ) (vs : List ℕ) (a : ℕ) → n ≤ length vs → s ≤ a → a < s + n → isSet (run s n) vs a ≡ true
-run-in s zero vs a l h u = absurd (omega arith)
-run-in s (suc n) [] a l h u = absurd (omega arith)
-run-in s (suc n) (v ∷ vs) a l h u = go (ℕ-discrete s a) (run-in (suc s) n vs a (omega arith))
-  where
-    go : Dec (s ≡ a) → (suc s ≤ a → a < suc s + n → isSet (run (suc s) n) vs a ≡ true) → eqb s a || isSet (run (suc s) n) vs a ≡ true
-    go (yes e) ih = rw (eq-eqb s a e)
-    go (no e) ih = rw (ne-eqb s a e) (ih (omega arith) (omega arith))
-
-run-below : (s n : ℕ) (vs : List ℕ) (a : ℕ) → a < s → isSet (run s n) vs a ≡ false
-run-below s zero vs a h = refl
-run-below s (suc n) [] a h = refl
-run-below s (suc n) (v ∷ vs) a h = rw (ne-eqb s a (λ e. omega arith)) (run-below (suc s) n vs a (omega arith))
-
-run-above : (s n : ℕ) (vs : List ℕ) (a : ℕ) → s + n ≤ a → isSet (run s n) vs a ≡ false
-run-above s zero vs a h = refl
-run-above s (suc n) [] a h = refl
-run-above s (suc n) (v ∷ vs) a h = rw (ne-eqb s a (λ e. omega arith)) (run-above (suc s) n vs a (omega arith))
 
 -- 9, and a run from 11 on
 mark-is : (n v : ℕ) (vs : List ℕ) (a : ℕ) → 5 + n ≤ length vs → eqb (markAt (16 + n) a) 0 ≡ not (isSet (9 ∷ run 11 (suc (suc (suc (suc (suc n)))))) (v ∷ vs) a)

@@ -1,11 +1,11 @@
 -- `judge::judge_area` meets its contract. Assumes nothing.
 use mathlib.Core.Path.{sym, ap, _∙_, subst}
-use native.Mathlib.Omega.{arith}
 use borrow.Author.Needs.{needs}
 use lib.ListN.{length}
 use Rattle.tag.specs.Judge.{judgeBy}
 use Rattle.tlv_tag.specs.Space.{spaceAs, SpacePlaced}
 use Rattle.type2.specs.Type2.{type2}
+use Rattle.type2.proofs.Reading.{blank}
 use Rattle.type2.proofs.Deciding.{no-space-writing}
 use Rattle.type2_judge.proofs.Preparing.{writable-at, addresses-at}
 use Rattle.type2_judge.proofs.judge.judge_area.Statement.{statement}
@@ -13,14 +13,8 @@ use Rattle.type2_judge.proofs.judge.judge_area.Tie as tie
 
 find-space-requires : tie.Need-find-space-requires
 find-space-requires c κs =
-    let p = c .before .before .before .before .before .pre in
-    record {
-      clear = p .0 .zeros;
-      ordered = omega (arith, p .1 .area .ends);
-      in-table = omega (arith, p .1 .area .inside, p .1 .area .short, p .0 .size);
-      in-image = p .1 .area .inside;
-      short = omega (arith, p .0 .size);
-    }
+    let s = c .before .before .before .before .before in
+    blank (s .args .image .now) (s .args .table .now) (s .args .end .0) (s .args .writable) (s .pre .1 .area) (s .pre .0)
 
 judge-space-requires : tie.Need-judge-space-requires
 judge-space-requires c κs =
