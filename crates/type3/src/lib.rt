@@ -3,7 +3,7 @@
 
 pub mod commands;
 pub mod model;
-mod names;
+pub mod names;
 pub mod read;
 pub mod space;
 mod stores;

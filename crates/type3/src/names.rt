@@ -5,8 +5,15 @@ ghost use Prim.Native.Nat.{ℕ, _+_, _*_, _<_, _≤_};
 ghost use lib.ListN.{length, drop, getD};
 ghost use lib.Seq.{sets};
 ghost use Rattle.tag.specs.Bytes.{has};
-ghost use Rattle.type3.specs.Codec.{namesBytes, nameable};
+ghost use Rattle.type3.specs.Codec.{nameBytes, namesBytes, nameable};
 ghost use Rattle.type3.specs.InPlace.{marked, numbers};
+
+// How a command names the block.
+pub fn name(block: u8) -> [u8; 2]
+    ensures { λ r. ⌜ r ≡ nameBytes block ⌝ }
+{
+    [0x80, block]
+}
 
 // Whether the block is among `blocks`.
 fn has(blocks: &[usize], block: usize) -> bool
@@ -51,8 +58,9 @@ pub(crate) fn put(blocks: &[usize], bytes: &mut [u8])
     let mut i = 0usize;
     while i < blocks.len() {
         let at = 13 + 2 * i;
-        bytes[at] = 0x80;
-        bytes[at + 1] = blocks[i] as u8;
+        let two = name(blocks[i] as u8);
+        bytes[at] = two[0];
+        bytes[at + 1] = two[1];
         i += 1;
     }
 }

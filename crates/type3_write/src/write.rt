@@ -4,6 +4,7 @@ use tag::Block;
 use tag::CountAnswer;
 use tag::numbers;
 use type3::commands;
+use type3::names;
 use type3::read;
 use type3::read::Attributes;
 use type3::read::Checked;
@@ -31,7 +32,7 @@ fn put_opening(number: [u8; 8], count: usize, out: &mut [u8])
     bytes::copy(&front, out);
 }
 
-// The names of `count` blocks from `first` on: 80h and the number.
+// The names of `count` blocks from `first` on.
 fn put_names(first: Block, count: usize, out: &mut [u8])
     requires { ⌜ (first .0 + count ≤ 256) × (2 * count ≤ length (now out)) ⌝ }
     ensures { λ _. ⌜ now (out .exit) ≡ namesBytes (run (first .0) count) ++ drop (2 * count) (now (out .entry)) ⌝ }
@@ -39,8 +40,9 @@ fn put_names(first: Block, count: usize, out: &mut [u8])
     let b = first.0;
     let mut j = 0usize;
     while j < count {
-        out[2 * j] = 0x80;
-        out[2 * j + 1] = (b + j) as u8;
+        let two = names::name((b + j) as u8);
+        out[2 * j] = two[0];
+        out[2 * j + 1] = two[1];
         j += 1;
     }
 }

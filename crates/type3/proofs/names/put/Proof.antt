@@ -20,27 +20,28 @@ abbrev μ-loop : tie.MeasureT-loop
 loop-holds : tie.Need-loop-holds Inv-loop μ-loop
 loop-holds c = (search needs, refl, refl)
 
-cast-bytes : tie.Need-cast-bytes Inv-loop μ-loop
-cast-bytes c = record { fits = omega (arith, c .before .before .before .pre .1 (c .before .before .loop .i) (omega arith)) }
+cast-name : tie.Need-cast-name Inv-loop μ-loop
+cast-name c = record { fits = omega (arith, c .before .before .before .before .before .pre .1 (c .before .before .loop .i) (omega arith)) }
 
 slice-write-bytes-2 : tie.Need-slice-write-bytes-2 Inv-loop μ-loop
 slice-write-bytes-2 c = simp length-set (omega arith)
 
 loop-again : tie.Need-loop-again Inv-loop μ-loop
 loop-again c =
-    let l = c .before .before .loop in
-    let a = c .before .before .before .args in
+    let l = c .before .before .before .loop in
+    let a = c .before .before .before .before .before .before .args in
     let b = byte (a .blocks .now) (l .i) in
     let at = 13 + 2 * l .i in (
       search needs,
       simp length-set (l .inv .1),
-      ap (λ t. set (set t at 0x80) (at + 1) b) (l .inv .2) ∙ names-more (a .bytes .now) (a .blocks .now) (l .i) at (omega arith) refl,
+      ap (λ two. set (set (l .bytes) at (byte two 0)) (at + 1) (byte two 1)) (c .name .ensures)
+          ∙ ap (λ t. set (set t at 0x80) (at + 1) b) (l .inv .2) ∙ names-more (a .bytes .now) (a .blocks .now) (l .i) at (omega arith) refl,
     )
 
 returns : tie.Need-returns Inv-loop μ-loop
 returns c =
     let l = c .before .loop in
-    let a = c .before .before .args in
+    let a = c .before .before .before .before .args in
     l .inv .2 ∙ ap (λ r. sets (a .bytes .now) 13 (namesBytes r)) (take-all (l .i) (a .blocks .now) (omega arith))
 
 pub put-spec : {M : Type 1} → statement M
@@ -54,8 +55,11 @@ put-spec =
     (λ c. search needs)
     (λ c. search needs)
     (λ c. search needs)
+    cast-name
+    (λ c κs. search needs)
     (λ c. search needs)
-    cast-bytes
+    (λ c. search needs)
+    (λ c. search needs)
     (λ c. search needs)
     slice-write-bytes-2
     (λ c. search needs)

@@ -4,8 +4,8 @@ use mathlib.Core.List.{_++_}
 use Prim.Native.Nat.{_+_, _-_, _*_, _≤_}
 use native.Mathlib.Omega.{arith}
 use borrow.Author.Needs.{needs}
-use lib.ListN.{length, drop, length-set}
-use Rattle.tag.specs.Bytes.{run}
+use lib.ListN.{length, drop, set, length-set}
+use Rattle.tag.specs.Bytes.{byte, run}
 use Rattle.tag.proofs.Filling.{lay-two}
 use Rattle.tag.proofs.Runs.{length-run}
 use Rattle.type3.specs.Codec.{namesBytes}
@@ -26,8 +26,8 @@ loop-holds c = (search needs, search needs, search needs, refl, refl)
 
 loop-again : tie.Need-loop-again Inv-loop μ-loop
 loop-again c =
-    let a = c .before .before .args in
-    let l = c .before .loop in
+    let a = c .before .before .before .before .args in
+    let l = c .before .before .loop in
     let b = a .first .0 in
     let names = namesBytes (run b (l .j)) in
     let long : length names ≡ 2 * l .j = length-names (run b (l .j)) ∙ ap (λ n. 2 * n) (length-run (l .j) b) in
@@ -37,12 +37,12 @@ loop-again c =
       search needs,
       search needs,
       simp length-set (search needs),
-      two ∙ rw (next, names-run-more b (l .j)),
+      ap (λ n. set (set (l .out) (2 * l .j) (byte n 0)) (2 * l .j + 1) (byte n 1)) (c .name .ensures) ∙ two ∙ rw (next, names-run-more b (l .j)),
     )
 
 returns : tie.Need-returns Inv-loop μ-loop
 returns c =
-    let all : c .before .loop .j ≡ c .before .before .args .count = omega arith in
+    let all : c .before .loop .j ≡ c .before .before .before .args .count = omega arith in
     rw all at (c .before .loop .inv .4)
 
 pub put-names-spec : {M : Type 1} → statement M
@@ -54,6 +54,9 @@ put-names-spec =
     loop-holds
     (λ c. search needs)
     (λ c. omega arith)
+    (λ c κs. search needs)
+    (λ c. search needs)
+    (λ c. search needs)
     (λ c. search needs)
     (λ c. search needs)
     (λ c. search needs)
