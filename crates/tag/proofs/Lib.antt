@@ -22,3 +22,4 @@ pub mod Same
 pub mod Storing
 pub mod Filling
 pub mod Showing
+pub mod Flags

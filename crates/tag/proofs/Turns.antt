@@ -1,61 +1,59 @@
 -- The judge along the bytes of a list, command by command, for every type of tag: a command's fault by the tests that were made of
 -- the tag that it leaves, and the judge from the next command on.
 -- Assumes nothing.
-use mathlib.Core.Path.{_≡_, sym, ap, _∙_}
+use mathlib.Core.Path.{_≡_, refl, sym, ap, _∙_}
 use mathlib.Core.Bool.{Bool, true, false}
 use mathlib.Core.List.{List, [], _∷_, map}
 use Prim.Native.Nat.{ℕ, _+_, _<_, _≤_}
 use native.Mathlib.Numerals.{add-one}
 use native.Mathlib.Omega.{arith}
-use lib.Dec.{eqb}
 use lib.ListN.{length, take, drop, length-drop, drop-of-length-le}
-use Rattle.tag.specs.Bytes.{byte, run}
 use Rattle.tag.specs.Refusals.{ends-otherwise}
-use Rattle.tag.specs.Stores.{Store, Command, ill, stores, puts, done}
-use Rattle.tag.specs.Plan.{protected}
+use Rattle.tag.specs.Stores.{Store, Command, ill, stores, formed, puts, done}
 use Rattle.tag.specs.TagType.{TagType, held, cutUp}
-use Rattle.tag.specs.Judge.{accepted, refused, holdsAs, readsAs, equalAt, keeps, fault, judge, task}
+use Rattle.tag.specs.Judge.{accepted, refused, holdsAs, readsAs, keeps, fault, judge, task}
 use Rattle.tag.specs.Answers.{oldHeld}
+use Rattle.tag.proofs.Logic.{true-false}
 use Rattle.tag.proofs.Pieces.{cut-none, cut-more}
-use Rattle.tag.proofs.Judging.{fault-ill, fault-change, fault-misread, fault-none, judge-next, judge-stop, judge-good, judge-bad, equal-same}
+use Rattle.tag.proofs.Judging.{fault-ill, fault-change, fault-misread, fault-none, judge-next, judge-stop, judge-good, judge-bad}
 
 -- ---- a command's fault
 
--- a command that is not well formed, on the tag j
-pub step-ill : (T : TagType) (i m j : List ℕ) (c : Command) → c ≡ ill → 20 ≡ fault (task T i m) j c
-step-ill T i m j c e = sym (ap (fault (task T i m) j) e ∙ fault-ill (task T i m) j)
+formed-ill : (c : Command) → formed c ≡ false → c ≡ ill
+formed-ill ill q = refl
+formed-ill (stores ss) q = absurd (true-false refl q)
 
--- the addresses that are not marked in set are protected, and old is the old message, where there was one
-module _ (T : TagType) (i m set old : List ℕ) (had : Bool)
-    (marks : (a : ℕ) → a < length i → eqb (byte set a) 0 ≡ protected ((T .plan) i m) a) (old-is : oldHeld had old ≡ held T i) where
-  -- the two tests of a tag
-  abbrev pub kept : List ℕ → Bool
-  kept j = equalAt (λ a. eqb (byte set a) 0) i j (run 0 (length i))
+formed-stores : (c : Command) → formed c ≡ true → (ss : List Store) × (c ≡ stores ss)
+formed-stores ill q = absurd (true-false q refl)
+formed-stores (stores ss) q = (ss, refl)
 
-  abbrev pub safe : List ℕ → Bool
-  safe j = readsAs m (oldHeld had old) (held T j)
+-- the command c, given to j, leaves j′
+module _ (T : TagType) (i m j j′ : List ℕ) (c : Command) (left : j′ ≡ done j c) where
+  abbrev Is : ℕ → Type 0
+  Is r = (r ≡ fault (task T i m) j c) × (j′ ≡ done j c)
 
-  -- a command that stores ss leaves j as j′
-  module _ (j j′ : List ℕ) (c : Command) (ss : List Store) (e : c ≡ stores ss) (left : j′ ≡ done j c) where
-    stored : j′ ≡ puts j ss
-    stored = left ∙ ap (done j) e
+  pub step-ill : formed c ≡ false → Is 20
+  step-ill q = (sym (ap (fault (task T i m) j) (formed-ill c q) ∙ fault-ill (task T i m) j), left)
 
-    keeps-is : (b : Bool) → kept j′ ≡ b → keeps (task T i m) (puts j ss) ≡ b
-    keeps-is b q =
-        sym (equal-same (λ a. eqb (byte set a) 0) (protected ((T .plan) i m)) i (puts j ss) 0 (length i) (λ a l u. marks a (omega arith)))
-        ∙ ap kept (sym stored) ∙ q
+  module _ (old : List ℕ) (had : Bool) (old-is : oldHeld had old ≡ held T i) (q : formed c ≡ true) where
+    e : (ss : List Store) × (c ≡ stores ss)
+    e = formed-stores c q
 
-    reads-is : (b : Bool) → safe j′ ≡ b → readsAs m (held T i) (held T (puts j ss)) ≡ b
-    reads-is b q = ap (λ h. readsAs m h (held T (puts j ss))) (sym old-is) ∙ ap safe (sym stored) ∙ q
+    stored : j′ ≡ puts j (e .0)
+    stored = left ∙ ap (done j) (e .1)
 
-    pub step-change : kept j′ ≡ false → 21 ≡ fault (task T i m) j c
-    step-change q = sym (ap (fault (task T i m) j) e ∙ fault-change (task T i m) j ss (keeps-is false q))
+    pub step-change : keeps (task T i m) j′ ≡ false → Is 21
+    step-change k = (sym (ap (fault (task T i m) j) (e .1) ∙ fault-change (task T i m) j (e .0) (ap (keeps (task T i m)) (sym stored) ∙ k)), left)
 
-    pub step-misread : kept j′ ≡ true → safe j′ ≡ false → 22 ≡ fault (task T i m) j c
-    step-misread q r = sym (ap (fault (task T i m) j) e ∙ fault-misread (task T i m) j ss (keeps-is true q) (reads-is false r))
+    module _ (k : keeps (task T i m) j′ ≡ true) where
+      reads-is : (b : Bool) → readsAs m (oldHeld had old) (held T j′) ≡ b → readsAs m (held T i) (held T (puts j (e .0))) ≡ b
+      reads-is b r = ap (λ h. readsAs m h (held T (puts j (e .0)))) (sym old-is) ∙ ap (λ x. readsAs m (oldHeld had old) (held T x)) (sym stored) ∙ r
 
-    pub step-none : kept j′ ≡ true → safe j′ ≡ true → 0 ≡ fault (task T i m) j c
-    step-none q r = sym (ap (fault (task T i m) j) e ∙ fault-none (task T i m) j ss (keeps-is true q) (reads-is true r))
+      pub step-misread : readsAs m (oldHeld had old) (held T j′) ≡ false → Is 22
+      step-misread r = (sym (ap (fault (task T i m) j) (e .1) ∙ fault-misread (task T i m) j (e .0) (ap (keeps (task T i m)) (sym stored) ∙ k) (reads-is false r)), left)
+
+      pub step-none : readsAs m (oldHeld had old) (held T j′) ≡ true → Is 0
+      step-none r = (sym (ap (fault (task T i m) j) (e .1) ∙ fault-none (task T i m) j (e .0) (ap (keeps (task T i m)) (sym stored) ∙ k) (reads-is true r)), left)
 
 -- ---- the judge along the list
 

@@ -13,3 +13,4 @@ pub mod Cuts
 pub mod Answers
 pub mod Contracts
 pub mod Numbers
+pub mod Flags

@@ -1,6 +1,7 @@
 -- Commands and what they store. A command stores whole blocks; a store says from which address on, so that nothing here
 -- depends on the size of a block: the type of tag turns a block's number into its first address.
 -- Assumes nothing.
+use mathlib.Core.Bool.{Bool, true, false}
 use mathlib.Core.List.{List, [], _∷_}
 use Prim.Native.Nat.{ℕ, zero, suc}
 use lib.Seq.{sets}
@@ -14,6 +15,11 @@ pub record Store : Type 0 where
 pub data Command : Type 0 where
   ill : Command
   stores : List Store → Command
+
+-- is a command well formed
+abbrev pub formed : Command → Bool
+formed ill = false
+formed (stores ss) = true
 
 -- an image with a store made, with several made in order
 abbrev pub put : List ℕ → Store → List ℕ

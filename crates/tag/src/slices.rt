@@ -8,6 +8,7 @@ ghost use Prim.Native.Nat.{_+_, _≤_};
 ghost use lib.ListN.{length};
 ghost use lib.Seq.{sets};
 ghost use Rattle.tag.specs.Bytes.{same};
+ghost use Rattle.tag.specs.Flags.{marked, offTo};
 ghost use Rattle.tag.specs.Reading.{part, shown};
 ghost use Rattle.tag.specs.Answers.{readAs};
 
@@ -55,6 +56,30 @@ pub fn shown<'a>(image: &'a [u8], gathered: &'a [u8], answer: ReadAnswer) -> &'a
     }
 }
 
+// 1 where two bytes differ, else the flag as it was.
+fn mark(n: u8, x: u8, y: u8) -> u8
+    ensures { λ r. ⌜ r ≡ marked n x y ⌝ }
+{
+    if x != y {
+        return 1;
+    }
+    n
+}
+
+// 1 where the slices, which are equally long, differ, else 0. A byte as the flag and no exit inside: many bytes are done at once.
+fn differ(a: &[u8], b: &[u8]) -> u8
+    requires { ⌜ length (now a) ≤ length (now b) ⌝ }
+    ensures { λ r. ⌜ r ≡ offTo (now (a .entry)) (now (b .entry)) (length (now (a .entry))) ⌝ }
+{
+    let mut n = 0u8;
+    let mut k = 0usize;
+    while k < a.len() {
+        n = mark(n, a[k], b[k]);
+        k += 1;
+    }
+    n
+}
+
 // Whether two slices have the same bytes.
 pub fn same(a: &[u8], b: &[u8]) -> bool
     ensures { λ r. ⌜ r ≡ same (now (a .entry)) (now (b .entry)) ⌝ }
@@ -62,14 +87,7 @@ pub fn same(a: &[u8], b: &[u8]) -> bool
     if a.len() != b.len() {
         return false;
     }
-    let mut i = 0usize;
-    while i < a.len() {
-        if a[i] != b[i] {
-            return false;
-        }
-        i += 1;
-    }
-    true
+    differ(a, b) == 0
 }
 
 // Stores the bytes of `from` in `to`, from `at` on.

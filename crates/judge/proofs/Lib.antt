@@ -1,0 +1,2 @@
+-- Laws of the judge.
+pub mod Preparing

@@ -1,0 +1,3 @@
+-- The judge: what its functions hand on.
+pub mod Task
+pub mod Two

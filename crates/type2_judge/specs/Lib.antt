@@ -1,2 +1,0 @@
--- The judge of Type 2 tags: what its functions hand on.
-pub mod Task
