@@ -1,6 +1,7 @@
 /*
- * Zanfirotta: reading and writing NFC Type 2 and Type 3 tag images so that a write that breaks
- * off leaves the old message, none, or the new one. The rules are in docs/01-scope.md.
+ * The C interface of Zanfirotta, which reads and writes NFC Type 2 and Type 3 tag images so that a
+ * write that breaks off leaves the old message, none, or the new one. The rules are in
+ * docs/01-scope.md.
  *
  * No function allocates, keeps a pointer, or fails in any other way than by its answer:
  *

@@ -1,5 +1,5 @@
-//! The C interface. All that is unsafe in this crate is here: every function below hands on
-//! pointers and lengths of slices and arrays that live through the call.
+//! The C interface, and all that is unsafe in this crate: every function below hands on pointers
+//! and lengths of slices and arrays that live through the call.
 
 mod c {
     unsafe extern "C" {

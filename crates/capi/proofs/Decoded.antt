@@ -1,4 +1,4 @@
--- How many blocks a command has that was read.
+-- A command that was decoded has at most eight blocks.
 -- Assumes nothing.
 use mathlib.Core.Path.{_≡_, sym, ap, _∙_}
 use mathlib.Core.Bool.{true}

@@ -1,5 +1,5 @@
--- The answers as C gets them. An answer is one number: a refusal in its low byte, and above it the position, or on success the
--- count. Of a count or a position 56 bits are kept, which is all of it: no list that a machine holds has 2^56 commands.
+-- The answers as C gets them, each one number: a refusal in its low byte, and above it the position, or on success the count. Of
+-- a count or a position 56 bits are kept, which is all of it: no list that a machine holds has 2^56 commands.
 -- Assumes nothing.
 use mathlib.Core.Bool.{Bool, true, false}
 use mathlib.Core.List.{List, [], _∷_}

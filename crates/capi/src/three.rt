@@ -1,4 +1,4 @@
-// Type 3 for C.
+// The C functions for Type 3 tags.
 
 use crate::answers;
 use tag::slices;

@@ -1,4 +1,4 @@
-// Type 2 for C.
+// The C functions for Type 2 tags.
 
 use crate::answers;
 use tag::Block;

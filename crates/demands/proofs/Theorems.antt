@@ -1,4 +1,4 @@
--- The theorems, for both types of tag. What each says is in `specs/Demand2.antt`, `specs/Demand3.antt`
+-- The theorems of demands 2 and 3 by name, for both types of tag. What each says is in `specs/Demand2.antt`, `specs/Demand3.antt`
 -- and `specs/ByContract.antt`.
 -- Assumes nothing.
 use mathlib.Core.Path.{_≡_, refl}

@@ -1,3 +1,5 @@
+// A first use of the library: asks whether a Type 2 tag holds a message.
+
 use tag::holding;
 use type2::read;
 ghost use mathlib.Core.Path.{_≡_};

@@ -1,4 +1,4 @@
--- What holds of each element of a list.
+-- What holds of each element of a list, of its parts, of lists joined and of lists mapped.
 -- Assumes nothing.
 use mathlib.Core.List.{List, [], _∷_, _++_, map}
 use Prim.Native.Nat.{ℕ, zero, suc}

@@ -1,4 +1,4 @@
--- What the flags of loops say.
+-- What the flags that loops keep say: one turn more, and all of the bytes compared.
 -- Assumes nothing.
 use mathlib.Core.Path.{_≡_, refl, sym, ap, _∙_}
 use mathlib.Core.Bool.{Bool, true, false, not, _&&_, _||_, cond, and-assoc}

@@ -1,6 +1,6 @@
--- The guarded list, once for every type of tag. It shuts a guard block, so that the tag holds none; it stores the other blocks
--- from the new image; it opens the guard block last. It is accepted and ends in the new image. Stores that would change
--- nothing may be left out.
+-- The guarded list is accepted and ends in the new image, for every type of tag. It shuts a guard block, so that the tag
+-- holds none; it stores the other blocks from the new image; it opens the guard block last. Stores that would change nothing
+-- may be left out.
 -- The invariant is byte by byte: while the guard is shut, a byte of the guard block is as closed, any other is old or new.
 -- Assumes nothing.
 use mathlib.Core.Path.{_≡_, refl, sym, ap, _∙_}

@@ -1,4 +1,4 @@
--- Numbers from bytes.
+-- The sum of the first bytes, for checksums.
 -- Assumes nothing.
 use mathlib.Core.List.{List}
 use Prim.Native.Nat.{ℕ, zero, suc, _+_}

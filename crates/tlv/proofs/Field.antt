@@ -1,4 +1,4 @@
--- The length field. What writing sets at rising addresses with room reads back as the length and the message; and where a
+-- The length field: what writing sets at rising addresses with room reads back as the length and the message; and where a
 -- length reads back with as many bytes after it, `fitsIn` says that there is room.
 -- Assumes nothing.
 use mathlib.Core.Path.{_≡_, refl, ap, _∙_}

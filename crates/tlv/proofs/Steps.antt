@@ -1,4 +1,4 @@
--- What the code's steps found, as the definitions have it.
+-- What the steps of the code's walk found, as the definitions have it: a byte taken, a length field, a TLV passed.
 -- Assumes nothing.
 use mathlib.Core.Path.{_≡_, sym, ap, _∙_, subst}
 use mathlib.Core.Bool.{Bool, true, false, cond}

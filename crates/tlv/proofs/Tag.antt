@@ -1,7 +1,7 @@
--- Tags with a TLV area, for every type of tag that shows the laws `TlvLaws` of itself. Reading looks up to the type byte of
--- the message TLV and then at the usable addresses after it. So an image that agrees up to that byte is read by its length
--- field alone: what writing sets holds the message, a first length byte 00h holds none, and a message that does not fit is
--- held by no such image.
+-- What writing sets on a tag with a TLV area holds the message, a first length byte 00h holds none, and a message that does
+-- not fit is held by no image that agrees up to the message TLV's type byte. So it is for every type of tag that shows the
+-- laws `TlvLaws` of itself: reading looks up to that byte and then at the usable addresses after it, and an image that agrees
+-- up to there is read by its length field alone.
 -- Assumes nothing.
 use mathlib.Core.Path.{_≡_, refl, sym, ap, _∙_}
 use mathlib.Core.Bool.{Bool, true, false, not}

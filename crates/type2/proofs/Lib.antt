@@ -1,4 +1,4 @@
--- Laws of Type 2.
+-- Laws about the definitions of `type2`, and what the code needs of them. Nothing here states a rule.
 pub mod Memory
 pub mod Refusing
 pub mod Codec

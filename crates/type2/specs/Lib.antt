@@ -1,4 +1,4 @@
--- Type 2 tags. Read them in this order.
+-- The definitions of Type 2 tags. Read them in this order.
 pub mod Memory
 pub mod Codec
 pub mod Type2

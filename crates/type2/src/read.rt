@@ -1,4 +1,4 @@
-// Reading a Type 2 tag.
+// Reading a Type 2 tag: the answer, the part shown, and the refusal by itself.
 //
 // The skip table is an array of the public function's frame, zeros at the start of each call.
 

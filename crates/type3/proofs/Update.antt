@@ -1,5 +1,5 @@
--- What writing sets on a Type 3 tag. With block 0 closed the tag holds none, whatever its other blocks hold; the new image
--- reads as the message; and refusal 11 is exact: a message that does not fit is held by no image of equal length with the
+-- What writing sets on a Type 3 tag: with block 0 closed the tag holds none, whatever its other blocks hold; the new image
+-- reads as the message; and refusal 11 is exact. A message that does not fit is held by no image of equal length with the
 -- same bytes 0 to 8 and 10, and one that fits is held by the new image, which is such an image.
 -- Assumes nothing.
 use mathlib.Core.Path.{_≡_, refl, sym, ap, _∙_}

@@ -1,4 +1,4 @@
--- Type 3 tags. Read them in this order.
+-- The definitions of Type 3 tags. Read them in this order.
 pub mod Attributes
 pub mod Message
 pub mod Update

@@ -1,2 +1,2 @@
--- What the code of the Type 3 writer goes by.
+-- The writer of Type 3 tags: the list as its code lays it.
 pub mod Listing

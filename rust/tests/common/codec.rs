@@ -1,4 +1,4 @@
-//! Cases for the codec.
+//! Random commands and bytes for the codec of each type.
 
 use super::{lists3, Rng};
 use crate::reference::type3::Command;

@@ -1,4 +1,4 @@
-//! Laying out the TLVs of Type 2 tags.
+//! Lays out the TLVs of random Type 2 tags.
 
 use super::tags2::END;
 use super::Rng;

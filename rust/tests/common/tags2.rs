@@ -1,4 +1,4 @@
-//! Type 2 tags.
+//! Type 2 tags to test with: the specimens, and random ones, valid or damaged.
 
 use super::layout2::Layout;
 use super::Rng;

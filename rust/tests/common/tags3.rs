@@ -1,4 +1,4 @@
-//! Type 3 tags.
+//! Type 3 tags to test with: the specimens, and random ones, valid or damaged.
 
 use super::Rng;
 use crate::reference::type3;

@@ -1,4 +1,4 @@
-//! The operations on Type 2 tags.
+//! The library against the reference, operation by operation, on Type 2 tags.
 
 use zanfirotta::raw;
 

@@ -1,4 +1,4 @@
-//! The operations on Type 3 tags.
+//! The library against the reference, operation by operation, on Type 3 tags.
 
 use zanfirotta::raw;
 

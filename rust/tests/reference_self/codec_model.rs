@@ -1,4 +1,4 @@
-//! The codec round trips, and the model stores exactly the well-formed commands.
+//! The reference's codec loses nothing, and its model stores exactly the well-formed commands.
 
 use crate::common::{codec, lists2, lists3, message, tags2, tags3, Lent, Rng, Tally};
 use crate::reference::{type2, type3, Refusal};

@@ -1,4 +1,4 @@
-//! The judge against the page said once more; cuts of accepted lists.
+//! The reference's judge against the naive form, and cuts of accepted lists.
 
 use crate::common::{lists2, lists3, message, tags2, tags3, Rng, Tally};
 use crate::reference::{type2, type3};

@@ -1,4 +1,4 @@
-//! Reading against the page said once more; our list.
+//! The reference's reading against the naive form, and what its write lists promise.
 
 use crate::common::{buffer_len, hex, lists2, lists3, message, tags2, tags3, Lent, Rng, Tally};
 use crate::reference::{type2, type3, Kind, Refusal};

@@ -1,4 +1,4 @@
-//! The specimen tags of the page, and tags as they leave the factory.
+//! The reference on the specimens of docs/01-scope.md, and on tags as they leave the factory.
 
 use crate::common::tags2::{defaults, plain, with_usable};
 use crate::common::tags3;

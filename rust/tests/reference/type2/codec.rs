@@ -1,4 +1,4 @@
-//! Single commands, and the tag as a model that takes them.
+//! Type 2: single commands, and the tag as a model that takes them.
 
 use super::tag::Tag;
 use super::{BLOCK, COMMAND, WRITE};

@@ -1,4 +1,4 @@
-//! The write list, and the judge of foreign lists.
+//! Type 2: the write list, and the judge of foreign lists.
 
 use super::tag::Tag;
 use super::{decode, BLOCK, COMMAND, TERMINATOR, WRITE};

@@ -1,4 +1,4 @@
-//! Reading: the tests 1 to 5, the walk to the message TLV, and the message.
+//! Type 2: reading, which is the tests 1 to 5, the walk to the message TLV, and the message.
 
 use super::{BLOCK, DATA_START, MAX_IMAGE, TERMINATOR};
 use crate::reference::{Kind, ReadAnswer, Refusal};

@@ -1,4 +1,4 @@
-//! Single commands, and the tag as a model that takes them.
+//! Type 3: single commands, and the tag as a model that takes them.
 
 use super::tag::Attributes;
 use super::{command_len, BLOCK, HEADER, MAX_COUNT};

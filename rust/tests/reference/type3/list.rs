@@ -1,4 +1,4 @@
-//! The write list, and the judge of foreign lists.
+//! Type 3: the write list, and the judge of foreign lists.
 
 use super::codec::{well_formed, Limits};
 use super::tag::{checksum, Attributes};

@@ -1,4 +1,4 @@
-//! Reading: the attributes in block 0.
+//! Type 3: reading, by the attributes in block 0.
 
 use super::{BEING_WRITTEN, BLOCK, MAX_IMAGE, WRITE_FLAG};
 use crate::reference::{Kind, ReadAnswer, Refusal};
