@@ -51,7 +51,7 @@ pub extern "C" fn zan_type3_judge(
 ) -> u64
     ensures { λ r. ⌜ r ≡ packedVerdict (judged (type3 (now (number .entry))) (now (image .entry)) (now (message .entry)) (now (list .entry))) ⌝ }
 {
-    let answer = judge::three::judge(image, message, number, list);
+    let answer = judge::type3_lists::judge(image, message, number, list);
     answers::verdict(answer)
 }
 

@@ -38,7 +38,7 @@ pub extern "C" fn zan_type2_write(image: &[u8], message: &[u8], list: &mut [u8])
 pub extern "C" fn zan_type2_judge(image: &[u8], message: &[u8], list: &[u8]) -> u64
     ensures { λ r. ⌜ r ≡ packedVerdict (judged type2 (now (image .entry)) (now (message .entry)) (now (list .entry))) ⌝ }
 {
-    let answer = judge::two::judge(image, message, list);
+    let answer = judge::type2_lists::judge(image, message, list);
     answers::verdict(answer)
 }
 

@@ -66,10 +66,10 @@ module _ (T : TagType) (i m : List ℕ) (d : Demand3 T i m) (w : writing T i m �
       accepted-is r n (j ∙ ap (judged T i m) front ∙ d .ours ∙ ap accepted k)
 
   module _ (bytes : List ℕ) (n : ℕ) (e : Judged T i m bytes (verdict.Accepted n)) (k : ℕ) where
-    follow : k < n → (r : model-answer.ModelAnswer) (j : List ℕ) → Took T (cutOf T i bytes k) (getD (pieces T bytes) k []) r j
+    follow : k < n → (r : model-answer.ModelAnswer) (j : List ℕ) → Took T (cutOf T i bytes k) (getD (pieces T i bytes) k []) r j
         → (r ≡ storing.Stored) × (j ≡ cutOf T i bytes (suc k))
     follow l r j (a, b) =
-        let s : model T (cutOf T i bytes k) (getD (pieces T bytes) k []) ≡ stored (cutOf T i bytes (suc k)) = d .refuses-none bytes n (sym e) k l in
+        let s : model T (cutOf T i bytes k) (getD (pieces T i bytes) k []) ≡ stored (cutOf T i bytes (suc k)) = d .refuses-none bytes n (sym e) k l in
         (stored-is r (a ∙ ap storingOf s), b ∙ ap (imageAfter (cutOf T i bytes k)) s)
 
     afresh : k ≤ n → (buffer out : List ℕ) (r : count.CountAnswer) → length (ourBytes T (cutOf T i bytes k) m) ≤ length buffer

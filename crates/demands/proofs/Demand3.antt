@@ -50,11 +50,11 @@ command-stores j (stores ss) h = (ss, refl, refl)
 module _ (T : TagType) (L : Laws T) where
   -- ---- our list's bytes are cut into just our commands
 
-  our-pieces : (i m : List ℕ) → Ready T i m → pieces T (ourBytes T i m) ≡ map (T .encoded) (list ((T .plan) i m) i)
+  our-pieces : (i m : List ℕ) → Ready T i m → pieces T i (ourBytes T i m) ≡ map (T .encoded) (list ((T .plan) i m) i)
   our-pieces i m r =
-      pieces-joined (T .span) (map (T .encoded) (list ((T .plan) i m) i)) _
-      (each-map (SelfDelimiting (T .span)) (T .encoded) (list ((T .plan) i m) i)
-      (each-of (Sent T i) (λ ss. SelfDelimiting (T .span) ((T .encoded) ss)) (list ((T .plan) i m) i) (λ ss s. (s .whole, s .some-bytes)) (L .sent i m r)))
+      pieces-joined ((T .span) i) (map (T .encoded) (list ((T .plan) i m) i)) _
+      (each-map (SelfDelimiting ((T .span) i)) (T .encoded) (list ((T .plan) i m) i)
+      (each-of (Sent T i) (λ ss. SelfDelimiting ((T .span) i) ((T .encoded) ss)) (list ((T .plan) i m) i) (λ ss s. (s .whole, s .some-bytes)) (L .sent i m r)))
       (le-refl _)
 
   taken : (i : List ℕ) (sss : List (List Store)) → Each (Sent T i) sss → map ((T .command) i) (map (T .encoded) sss) ≡ map stores sss
@@ -92,31 +92,31 @@ module _ (T : TagType) (L : Laws T) where
             readable = safe-readable t (cutOf T i bytes k) (all-three .1 .safe k l);
           }
 
-      stores-next : (k : ℕ) → k < n → model T (cutOf T i bytes k) (getD (pieces T bytes) k []) ≡ stored (cutOf T i bytes (suc k))
+      stores-next : (k : ℕ) → k < n → model T (cutOf T i bytes k) (getD (pieces T i bytes) k []) ≡ stored (cutOf T i bytes (suc k))
       stores-next k h =
           let l : k < length (commands T i bytes) = omega (arith, all-three .0) in
-          let l′ : k < length (pieces T bytes) = omega (arith, length-map (pieces T bytes) ((T .command) i)) in
+          let l′ : k < length (pieces T i bytes) = omega (arith, length-map (pieces T i bytes) ((T .command) i)) in
           let (ss, c, p) = command-stores (cutOf T i bytes k) (getD (commands T i bytes) k ill) (all-three .1 .formed k l) in
-          let d : (T .command) (cutOf T i bytes k) (getD (pieces T bytes) k []) ≡ stores ss
-          = L .same-command i m (cutOf T i bytes k) r (near k (omega arith)) (getD (pieces T bytes) k []) ∙ sym (getD-command T i (pieces T bytes) k l′) ∙ c in
-          model-stores T (cutOf T i bytes k) (getD (pieces T bytes) k []) ss (near k (omega arith) .readable) d
+          let d : (T .command) (cutOf T i bytes k) (getD (pieces T i bytes) k []) ≡ stores ss
+          = L .same-command i m (cutOf T i bytes k) r (near k (omega arith)) (getD (pieces T i bytes) k []) ∙ sym (getD-command T i (pieces T i bytes) k l′) ∙ c in
+          model-stores T (cutOf T i bytes k) (getD (pieces T i bytes) k []) ss (near k (omega arith) .readable) d
           ∙ ap stored (p ∙ sym (cut-done k i (commands T i bytes)))
 
-      some-pieces : length (pieces T bytes) ≡ n
-      some-pieces = sym (length-map (pieces T bytes) ((T .command) i)) ∙ sym (all-three .0)
+      some-pieces : length (pieces T i bytes) ≡ n
+      some-pieces = sym (length-map (pieces T i bytes) ((T .command) i)) ∙ sym (all-three .0)
 
       -- a run of calls from cut k on, for the next g commands
       calls-from : {j : List ℕ} {given calls : List (List ℕ)} → Calls T j given calls → (k g : ℕ) → j ≡ cutOf T i bytes k → k + g ≤ n
-          → given ≡ take g (drop k (pieces T bytes)) → imageOf T j calls ≡ cutOf T i bytes (k + g)
+          → given ≡ take g (drop k (pieces T i bytes)) → imageOf T j calls ≡ cutOf T i bytes (k + g)
       calls-from end k g q h u =
-          let z : 0 ≡ g = ap length u ∙ length-take-le g (drop k (pieces T bytes)) (rw length-drop (omega (arith, some-pieces))) in
+          let z : 0 ≡ g = ap length u ∙ length-take-le g (drop k (pieces T i bytes)) (rw length-drop (omega (arith, some-pieces))) in
           let w : k + g ≡ k = omega arith in
           rw w q
       calls-from (give c) k zero q h u = absurd (nope (cc))
       calls-from (give {j} {b} {given} c) k (suc g) q h u =
-          let d : drop k (pieces T bytes) ≡ getD (pieces T bytes) k [] ∷ drop (suc k) (pieces T bytes)
-          = drop-cons (pieces T bytes) k [] (omega (arith, some-pieces)) in
-          let u′ : b ∷ given ≡ getD (pieces T bytes) k [] ∷ take g (drop (suc k) (pieces T bytes)) = u ∙ rw d in
+          let d : drop k (pieces T i bytes) ≡ getD (pieces T i bytes) k [] ∷ drop (suc k) (pieces T i bytes)
+          = drop-cons (pieces T i bytes) k [] (omega (arith, some-pieces)) in
+          let u′ : b ∷ given ≡ getD (pieces T i bytes) k [] ∷ take g (drop (suc k) (pieces T i bytes)) = u ∙ rw d in
           let v : model T j b ≡ stored (cutOf T i bytes (suc k)) = ap₂ (model T) q (cc u′) ∙ stores-next k (omega arith) in
           let w : suc k + g ≡ k + suc g = omega arith in
           calls-from c (suc k) g (ap (imageAfter j) v) (omega arith) (cc u′) ∙ ap (cutOf T i bytes) w

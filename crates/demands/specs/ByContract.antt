@@ -29,7 +29,7 @@ pub record Code3 (T : TagType) (i m : List ℕ) : Type 0 where
       → (r : judge.JudgeAnswer) → Judged T i m (take (length (ourBytes T i m)) out) r → r ≡ verdict.Accepted n
   -- the model takes cut k of an accepted list to cut k + 1 by its command k
   pub followed : (bytes : List ℕ) (n : ℕ) → Judged T i m bytes (verdict.Accepted n) → (k : ℕ) → k < n
-      → (r : model-answer.ModelAnswer) (j : List ℕ) → Took T (cutOf T i bytes k) (getD (pieces T bytes) k []) r j → (r ≡ storing.Stored) × (j ≡ cutOf T i bytes (suc k))
+      → (r : model-answer.ModelAnswer) (j : List ℕ) → Took T (cutOf T i bytes k) (getD (pieces T i bytes) k []) r j → (r ≡ storing.Stored) × (j ≡ cutOf T i bytes (suc k))
   -- a call that the model refuses changes nothing
   pub unchanged : (j command : List ℕ) (f : ℕ) (k : List ℕ) → Took T j command (storing.Refused f) k → k ≡ j
   -- from every cut of an accepted list, a buffer that is long enough gets our list for that tag, with its count, and that list

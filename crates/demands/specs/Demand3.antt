@@ -46,10 +46,10 @@ pub record Demand3 (T : TagType) (i m : List ℕ) : Type 0 where
   pub ours : judged T i m (ourBytes T i m) ≡ accepted (length (list ((T .plan) i m) i))
   -- the model, given the commands of an accepted list one a call, refuses none: it takes cut k to cut k + 1
   pub refuses-none : (bytes : List ℕ) (n : ℕ) → judged T i m bytes ≡ accepted n → (k : ℕ) → k < n
-      → model T (cutOf T i bytes k) (getD (pieces T bytes) k []) ≡ stored (cutOf T i bytes (suc k))
+      → model T (cutOf T i bytes k) (getD (pieces T i bytes) k []) ≡ stored (cutOf T i bytes (suc k))
   -- and given the first k it leaves cut k, whatever calls that it refuses come between
   pub followed : (bytes : List ℕ) (n : ℕ) → judged T i m bytes ≡ accepted n → (k : ℕ) → k ≤ n
-      → (calls : List (List ℕ)) → Calls T i (take k (pieces T bytes)) calls → imageOf T i calls ≡ cutOf T i bytes k
+      → (calls : List (List ℕ)) → Calls T i (take k (pieces T i bytes)) calls → imageOf T i calls ≡ cutOf T i bytes k
   -- from every cut of every accepted list, writing afresh is not refused and ends in the image that our list gives
   pub restart : (bytes : List ℕ) (n : ℕ) → judged T i m bytes ≡ accepted n → (k : ℕ) → k ≤ n
       → (writing T (cutOf T i bytes k) m ≡ written ((T .plan) (cutOf T i bytes k) m)) × (ourImage T (cutOf T i bytes k) m ≡ ourImage T i m)

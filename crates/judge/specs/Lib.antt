@@ -1,3 +1,3 @@
--- The judge: what its functions hand on.
+-- What the judge's functions ask of each other.
 pub mod Task
-pub mod Two
+pub mod Type2

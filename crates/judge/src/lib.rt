@@ -1,5 +1,6 @@
-// The judge of command lists, whoever made them: the loop, the step and the end once for every type of tag, and what each type adds.
+// The judge of command lists, whoever made them. The step, the loop over a list's commands and its end stand once, for every type of
+// tag; a type adds its first tests and where the bytes to set lie.
 
-mod steps;
-pub mod three;
-pub mod two;
+mod lists;
+pub mod type2_lists;
+pub mod type3_lists;

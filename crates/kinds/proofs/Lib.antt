@@ -1,5 +1,2 @@
--- Laws that the code over kinds needs.
-pub mod Stepping
-pub mod Holding
-pub mod Marking
-pub mod Keeping
+-- What holds of every kind.
+pub mod EachKind

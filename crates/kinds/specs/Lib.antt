@@ -1,4 +1,2 @@
--- A type of tag by value, and the definitions that go by it.
+-- A type of tag by value, as the definitions have it.
 pub mod Types
-pub mod Commands
-pub mod Kept

@@ -1,4 +1,4 @@
--- The type of tag that a kind stands for, with our manufacturer number as the caller states it.
+-- The type of tag that a kind stands for, and what the kind knows of the tag handed in.
 -- Assumes nothing.
 use mathlib.Core.Path.{_≡_}
 use mathlib.Core.List.{List}
@@ -7,14 +7,16 @@ use lib.ListN.{length}
 use Rattle.tag.specs.Bytes.{byte}
 use Rattle.tag.specs.TagType.{TagType}
 use Rattle.type2.specs.Type2.{type2}
+use Rattle.type2.specs.Kept.{Covered}
 use Rattle.type3.specs.Attributes.{nmaxbOf}
 use Rattle.type3.specs.Type3.{type3}
 use Rattle.kinds.specs.declared.Kind.{Kind}
 use Rattle.kinds.specs.declared.Kind.the-variants as kind
 
+-- with the IDm that the caller states
 abbrev pub typeOf : Kind → List ℕ → TagType
-typeOf kind.Type2 number = type2
-typeOf (kind.Type3 nbw nmaxb) number = type3 number
+typeOf (kind.Type2 e) idm = type2
+typeOf (kind.Type3 nbw nmaxb) idm = type3 idm
 
 -- Nbw and Nmaxb are those of the tag, whose blocks lie in the image
 pub record Attributed (i : List ℕ) (nbw nmaxb : ℕ) : Type 0 where
@@ -23,7 +25,12 @@ pub record Attributed (i : List ℕ) (nbw nmaxb : ℕ) : Type 0 where
   pub reach : 16 * (1 + nmaxb) ≤ length i
   pub most : length i ≤ 4096
 
--- what the kind says of the tag handed in is so
+-- what the kind says of the tag handed in
 abbrev pub Attested : Kind → List ℕ → Type 0
-Attested kind.Type2 i = length i ≤ 1024
+Attested (kind.Type2 e) i = length i ≤ 1024
 Attested (kind.Type3 nbw nmaxb) i = Attributed i nbw nmaxb
+
+-- what tells the protected addresses, for a message: where the bytes to set lie by the skip table, or that the message fits
+abbrev pub Protects : Kind → List ℕ → List ℕ → List ℕ → Type 0
+Protects (kind.Type2 e) i m table = Covered i m table e
+Protects (kind.Type3 nbw nmaxb) i m table = length m ≤ 16 * nmaxb

@@ -1,12 +1,15 @@
-// A type of tag by value, and what the judge asks of a tag by its type. What the caller states besides, our manufacturer number
-// (IDm), is lent beside it; Type 2 has no use for it.
+// A type of tag by value, and what every type can do: be read, take a command, cut a list into commands, tell whether a tag keeps its
+// protected bytes. Code above this crate names no type.
 
 pub mod commands;
 pub mod kept;
 pub mod reading;
 
-// A type of tag; Type 3 with Nbw and Nmaxb of the tag handed in.
+use tlv_tag::kept::Extent;
+
+// A type of tag, with what was worked out of the tag handed in: Type 2 where the bytes to set lie, Type 3 Nbw and Nmaxb. What the caller
+// states, our IDm, is lent beside the kind; Type 2 does not use it.
 pub enum Kind {
-    Type2,
+    Type2(Extent),
     Type3(usize, usize),
 }

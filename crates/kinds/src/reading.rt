@@ -1,4 +1,4 @@
-// What a tag holds, by its type: each call reads it, with a lent gathering buffer that every interrupted message fits.
+// What a tag holds, by its type. Each call reads the tag, with a lent gathering buffer that every interrupted message fits.
 
 use crate::Kind;
 use tag::ReadAnswer;
@@ -13,12 +13,12 @@ ghost use Rattle.tag.specs.TagType.{held};
 ghost use Rattle.kinds.specs.Types.{typeOf};
 
 // What the tag reads as.
-pub fn read(kind: Kind, number: &[u8; 8], image: &[u8], gathered: &mut [u8]) -> ReadAnswer
-    ensures answer { λ r. ⌜ readAs r ≡ answerOf (length (now (gathered .entry))) ((typeOf kind (now (number .entry)) .reading) (now (image .entry))) ⌝ }
-    ensures buffer { λ _. ⌜ now (gathered .exit) ≡ gatheredInto (now (gathered .entry)) ((typeOf kind (now (number .entry)) .reading) (now (image .entry))) ⌝ }
+pub fn read(kind: Kind, idm: &[u8; 8], image: &[u8], gathered: &mut [u8]) -> ReadAnswer
+    ensures answer { λ r. ⌜ readAs r ≡ answerOf (length (now (gathered .entry))) ((typeOf kind (now (idm .entry)) .reading) (now (image .entry))) ⌝ }
+    ensures buffer { λ _. ⌜ now (gathered .exit) ≡ gatheredInto (now (gathered .entry)) ((typeOf kind (now (idm .entry)) .reading) (now (image .entry))) ⌝ }
 {
     match kind {
-        Kind::Type2 => type2::read::read(image, gathered),
+        Kind::Type2(e) => type2::read::read(image, gathered),
         Kind::Type3(nbw, nmaxb) => type3::read::read(image),
     }
 }
@@ -26,7 +26,7 @@ pub fn read(kind: Kind, number: &[u8; 8], image: &[u8], gathered: &mut [u8]) -> 
 // Does the tag read as none, as the new message, or as the old one where there was one?
 pub fn is_safe(
     kind: Kind,
-    number: &[u8; 8],
+    idm: &[u8; 8],
     image: &[u8],
     new: &[u8],
     old: &[u8],
@@ -34,25 +34,19 @@ pub fn is_safe(
     gathered: &mut [u8],
 ) -> bool
     requires { ⌜ length (now gathered) ≡ 1024 ⌝ }
-    ensures { λ r. ⌜ r ≡ readsAs (now (new .entry)) (oldHeld had (now (old .entry))) (held (typeOf kind (now (number .entry))) (now (image .entry))) ⌝ }
+    ensures { λ r. ⌜ r ≡ readsAs (now (new .entry)) (oldHeld had (now (old .entry))) (held (typeOf kind (now (idm .entry))) (now (image .entry))) ⌝ }
 {
-    let answer = read(kind, number, image, gathered);
+    let answer = read(kind, idm, image, gathered);
     let shown = slices::shown(image, gathered, answer);
     holding::is_safe(answer, shown, new, old, had)
 }
 
 // Does the tag hold just this message?
-pub fn holds(
-    kind: Kind,
-    number: &[u8; 8],
-    image: &[u8],
-    message: &[u8],
-    gathered: &mut [u8],
-) -> bool
+pub fn holds(kind: Kind, idm: &[u8; 8], image: &[u8], message: &[u8], gathered: &mut [u8]) -> bool
     requires { ⌜ length (now gathered) ≡ 1024 ⌝ }
-    ensures { λ r. ⌜ r ≡ holdsAs (held (typeOf kind (now (number .entry))) (now (image .entry))) (now (message .entry)) ⌝ }
+    ensures { λ r. ⌜ r ≡ holdsAs (held (typeOf kind (now (idm .entry))) (now (image .entry))) (now (message .entry)) ⌝ }
 {
-    let answer = read(kind, number, image, gathered);
+    let answer = read(kind, idm, image, gathered);
     let shown = slices::shown(image, gathered, answer);
     holding::holds(answer, shown, message)
 }

@@ -39,5 +39,5 @@ pub fn judge(name: &[u8], front: &[u8], message: &[u8], list: &[u8]) {
     let mut image = [0u8; 112];
     lay(front, &mut image);
     print::name(name);
-    print::verdict(judge::two::judge(&image, message, list));
+    print::verdict(judge::type2_lists::judge(&image, message, list));
 }

@@ -24,5 +24,5 @@ pub fn judge(name: &[u8], attributes: &[u8], message: &[u8], list: &[u8]) {
     let mut image = [0u8; 224];
     lay(attributes, &mut image);
     print::name(name);
-    print::verdict(judge::three::judge(&image, message, &NUMBER, list));
+    print::verdict(judge::type3_lists::judge(&image, message, &NUMBER, list));
 }

@@ -24,7 +24,7 @@ use Rattle.tag.proofs.Writes.{Sound}
 pub record Sent (T : TagType) (i : List ℕ) (ss : List Store) : Type 0 where
   pub taken : (T .command) i ((T .encoded) ss) ≡ stores ss
   pub some-bytes : 0 < length ((T .encoded) ss)
-  pub whole : (r : List ℕ) → (T .span) ((T .encoded) ss ++ r) ≡ length ((T .encoded) ss)
+  pub whole : (r : List ℕ) → (T .span) i ((T .encoded) ss ++ r) ≡ length ((T .encoded) ss)
 
 -- a tag that a list, broken off, may leave: of the same length, protected bytes unchanged, and it reads
 pub record Near (T : TagType) (i m j : List ℕ) : Type 0 where

@@ -6,6 +6,7 @@ pub mod Each
 pub mod Images
 pub mod Addresses
 pub mod Judging
+pub mod Keeping
 pub mod Judge
 pub mod Guarded
 pub mod Chunks

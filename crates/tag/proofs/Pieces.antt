@@ -3,13 +3,14 @@
 -- Assumes nothing.
 use mathlib.Core.Path.{_≡_, refl, sym, ap, _∙_}
 use mathlib.Core.List.{List, [], _∷_, _++_}
-use Prim.Native.Nat.{ℕ, zero, suc, _<_, _≤_}
+use Prim.Native.Nat.{ℕ, zero, suc, _+_, _-_, _<_, _≤_}
 use native.Mathlib.Nat.{not-suc-le-zero}
 use native.Mathlib.Omega.{arith}
 use borrow.Author.Tests.{ne-eqb}
-use lib.ListN.{length, take, drop, length-append, length-drop, take-append-drop}
-use lib.Seq.{take-at, drop-at}
-use Rattle.tag.specs.TagType.{joined, cutUp}
+use lib.ListN.{length, take, drop, length-append, length-drop, take-append-drop, drop-of-length-le}
+use lib.Seq.{take-at, drop-at, take-all, drop-drop}
+use Rattle.tag.specs.TagType.{TagType, joined, cutUp}
+use Rattle.tag.specs.Judging.{Piece}
 use Rattle.tag.proofs.Each.{Each}
 
 module _ (span : List ℕ → ℕ) where
@@ -70,3 +71,34 @@ module _ (span : List ℕ → ℕ) where
     cut-more (suc k) k′ bytes h l l′ =
         cut-step k bytes h
         ∙ ap (λ r. take (span bytes) bytes ∷ r) (cut-fuel k k′ (drop (span bytes) bytes) (shorter bytes k l) l′)
+
+-- ---- the next command
+
+module _ (T : TagType) (i list : List ℕ) (at : ℕ) (h : at < length list) where
+  -- a part up to the end of the list is the rest
+  pub span-rest : (size : ℕ) → size ≡ (T .span) i (take (length list - at) (drop at list)) → size ≡ (T .span) i (drop at list)
+  span-rest size e = e ∙ ap ((T .span) i) (take-all (length list - at) (drop at list) (omega (arith, length-drop at list)))
+
+  -- a rest that is no longer than its span
+  pub piece-rest : length list - at ≤ (T .span) i (drop at list) → Piece T i list at (length list - at)
+  piece-rest l =
+      let r = drop at list in
+      let n : length r ≡ length list - at = length-drop at list in
+      let past : length r ≤ (T .span) i r = omega arith in
+      let end : length list ≤ at + (length list - at) = omega arith in
+      record {
+        cut-is = take-all ((T .span) i r) r (omega arith) ∙ sym (take-all (length list - at) r (omega arith));
+        rest-is = drop-of-length-le r past ∙ sym (drop-of-length-le list end);
+        some-bytes = omega arith;
+        inside = omega arith;
+      }
+
+  pub piece-span : (size : ℕ) → size ≡ (T .span) i (drop at list) → 0 < size → size ≤ length list - at → Piece T i list at size
+  piece-span size e z l =
+      let r = drop at list in
+      record {
+        cut-is = ap (λ n. take n r) (sym e);
+        rest-is = drop-drop ((T .span) i r) at list ∙ ap (λ n. drop (at + n) list) (sym e);
+        some-bytes = z;
+        inside = omega arith;
+      }

@@ -2,14 +2,14 @@
 -- overlay over a run sets.
 -- Assumes nothing.
 use mathlib.Core.Path.{_≡_, refl, ap, _∙_}
-use mathlib.Core.Bool.{true, false, _||_}
+use mathlib.Core.Bool.{true, false, _&&_, _||_, and-false}
 use mathlib.Core.List.{List, [], _∷_, _++_, map}
 use Prim.Native.Nat.{ℕ, zero, suc, _+_, _-_, _<_, _≤_, min}
 use native.Mathlib.Numerals.{add-one}
 use native.Mathlib.Omega.{arith}
-use native.Mathlib.Decide.{ℕ-discrete}
-use borrow.Author.Tests.{eq-eqb, ne-eqb}
-use lib.Dec.{eqb}
+use native.Mathlib.Decide.{ℕ-discrete, decLt}
+use borrow.Author.Tests.{eq-eqb, ne-eqb, le-leb, lt-leb, lt-ltb, le-ltb}
+use lib.Dec.{leb, ltb, eqb}
 use lib.ListN.{length, take, drop}
 use lib.Seq.{take-all, take-nil, drop-nil, drop-cons}
 use Rattle.tag.specs.Bytes.{byte, run, isSet}
@@ -82,12 +82,20 @@ run-in s (suc n) (v ∷ vs) a l h u = go (ℕ-discrete s a) (run-in (suc s) n vs
     go (yes e) ih = rw (eq-eqb s a e)
     go (no e) ih = rw (ne-eqb s a e) (ih (omega arith) (omega arith))
 
-pub run-below : (s n : ℕ) (vs : List ℕ) (a : ℕ) → a < s → isSet (run s n) vs a ≡ false
+run-below : (s n : ℕ) (vs : List ℕ) (a : ℕ) → a < s → isSet (run s n) vs a ≡ false
 run-below s zero vs a h = refl
 run-below s (suc n) [] a h = refl
 run-below s (suc n) (v ∷ vs) a h = rw (ne-eqb s a (λ e. omega arith)) (run-below (suc s) n vs a (omega arith))
 
-pub run-above : (s n : ℕ) (vs : List ℕ) (a : ℕ) → s + n ≤ a → isSet (run s n) vs a ≡ false
+run-above : (s n : ℕ) (vs : List ℕ) (a : ℕ) → s + n ≤ a → isSet (run s n) vs a ≡ false
 run-above s zero vs a h = refl
 run-above s (suc n) [] a h = refl
 run-above s (suc n) (v ∷ vs) a h = rw (ne-eqb s a (λ e. omega arith)) (run-above (suc s) n vs a (omega arith))
+
+pub run-set : (s n : ℕ) (vs : List ℕ) (a : ℕ) → n ≤ length vs → isSet (run s n) vs a ≡ leb s a && ltb a (s + n)
+run-set s n vs a l = go (decLt a s) (decLt a (s + n))
+  where
+    go : Dec (a < s) → Dec (a < s + n) → isSet (run s n) vs a ≡ leb s a && ltb a (s + n)
+    go (yes b) u = rw (lt-leb s a b) (run-below s n vs a b)
+    go (no b) (yes u) = rw (le-leb s a (omega arith), lt-ltb a (s + n) u) (run-in s n vs a l (omega arith) u)
+    go (no b) (no u) = rw (le-ltb a (s + n) (omega arith), and-false (leb s a)) (run-above s n vs a (omega arith))

@@ -22,6 +22,26 @@ part-front bytes buffer l =
     let k : 0 + length bytes ≤ length (overwrite bytes buffer) = rw length-append (omega arith) in
     rw (le-leb (0 + length bytes) (length (overwrite bytes buffer)) k) (take-append-seam bytes (drop (length bytes) buffer))
 
+-- a buffer that every message fits is never too short
+pub roomy : (buffer : List ℕ) (p : Report) → length (p .bytes) ≤ length buffer → tooShort (length buffer) p ≡ false
+roomy buffer p l = rw (le-ltb (length buffer) (length (p .bytes)) l) (and-false (p .interrupted))
+
+-- a message that is not interrupted needs no buffer
+module _ (v : Reading) (plain : (p : Report) → v ≡ reads p → p .interrupted ≡ false) where
+  pub plain-answer : (n k : ℕ) → answerOf n v ≡ answerOf k v
+  plain-answer n k = go v plain
+    where
+      go : (x : Reading) → ((p : Report) → x ≡ reads p → p .interrupted ≡ false) → answerOf n x ≡ answerOf k x
+      go (unreadable r) h = refl
+      go (reads p) h = rw (h p refl)
+
+  pub plain-buffer : (buffer : List ℕ) → gatheredInto buffer v ≡ buffer
+  plain-buffer buffer = go v plain
+    where
+      go : (x : Reading) → ((p : Report) → x ≡ reads p → p .interrupted ≡ false) → gatheredInto buffer x ≡ buffer
+      go (unreadable r) h = refl
+      go (reads p) h = rw (h p refl)
+
 -- the old message, of a tag that reads
 old-held : (a : Answer) (part : List ℕ) → (heldBy a part ≡ broken → ⊥) → oldHeld (isMessage a) part ≡ heldBy a part
 old-held (refusal r) part n = absurd (n refl)
@@ -46,18 +66,15 @@ module _ (T : TagType) (L : Laws T) where
       go empty q b r = rw q (sym (L .wordless i p e (λ z. let y : empty ≡ message = sym q ∙ z in nope (cc))))
       go being-written q b r = rw q (sym (L .wordless i p e (λ z. let y : being-written ≡ message = sym q ∙ z in nope (cc))))
 
-  -- with a gathering buffer that every message fits, the tag holds what its answer and the part shown say
-  pub held-shown : (i buffer : List ℕ) → ((p : Report) → (T .reading) i ≡ reads p → length (p .bytes) ≤ length buffer)
+  -- where the gathering buffer is never too short, the tag holds what its answer and the part shown say
+  pub held-shown : (i buffer : List ℕ) → ((p : Report) → (T .reading) i ≡ reads p → tooShort (length buffer) p ≡ false)
       → heldBy (answerOf (length buffer) ((T .reading) i)) (shown i (gatheredInto buffer ((T .reading) i)) (answerOf (length buffer) ((T .reading) i))) ≡ held T i
   held-shown i buffer fits = go ((T .reading) i) refl
     where
-      roomy : (p : Report) → length (p .bytes) ≤ length buffer → tooShort (length buffer) p ≡ false
-      roomy p l = rw (le-ltb (length buffer) (length (p .bytes)) l) (and-false (p .interrupted))
-
       go : (v : Reading) → (T .reading) i ≡ v
           → heldBy (answerOf (length buffer) v) (shown i (gatheredInto buffer v) (answerOf (length buffer) v)) ≡ heldOf v
       go (unreadable r) q = refl
       go (reads p) q =
-          let f : tooShort (length buffer) p ≡ false = roomy p (fits p q) in
+          let f : tooShort (length buffer) p ≡ false = fits p q in
           let s : shown i (gatheredInto buffer (reads p)) (answerOf (length buffer) (reads p)) ≡ p .bytes = shown-part i buffer p q f in
           ap (heldBy (answerOf (length buffer) (reads p))) s ∙ rw f

@@ -12,5 +12,6 @@ pub mod Model
 pub mod Cuts
 pub mod Answers
 pub mod Contracts
+pub mod Judging
 pub mod Numbers
 pub mod Flags

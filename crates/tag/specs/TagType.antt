@@ -23,8 +23,8 @@ pub record TagType : Type 0 where
   pub plan : List ℕ → List ℕ → Plan
   -- one command's bytes: what the tag handed in takes them for
   pub command : List ℕ → List ℕ → Command
-  -- how many bytes the first command of a list takes
-  pub span : List ℕ → ℕ
+  -- how many bytes the first command of a list takes, by the tag handed in and the list's bytes
+  pub span : List ℕ → List ℕ → ℕ
   -- the bytes of a command that is well formed
   pub encoded : List Store → List ℕ
 
@@ -96,9 +96,9 @@ cutUp span (suc fuel) bytes =
     ]
 
 -- a span is at least 1, so that there are at most as many commands as bytes
-abbrev pub pieces : TagType → List ℕ → List (List ℕ)
-pieces T bytes = cutUp (T .span) (length bytes) bytes
+abbrev pub pieces : TagType → List ℕ → List ℕ → List (List ℕ)
+pieces T i bytes = cutUp ((T .span) i) (length bytes) bytes
 
 -- the commands of a list's bytes, by the tag handed in
 abbrev pub commands : TagType → List ℕ → List ℕ → List Command
-commands T i bytes = map ((T .command) i) (pieces T bytes)
+commands T i bytes = map ((T .command) i) (pieces T i bytes)

@@ -4,11 +4,13 @@ use crate::ReadAnswer;
 use crate::Report;
 use crate::What;
 ghost use mathlib.Core.Path.{_≡_};
+ghost use mathlib.Core.Bool.{cond};
 ghost use Prim.Native.Nat.{_+_, _≤_};
+ghost use lib.Dec.{eqb};
 ghost use lib.ListN.{length};
 ghost use lib.Seq.{sets};
-ghost use Rattle.tag.specs.Bytes.{same};
-ghost use Rattle.tag.specs.Flags.{marked, offTo};
+ghost use Rattle.tag.specs.Bytes.{byte, same};
+ghost use Rattle.tag.specs.Flags.{flagTo};
 ghost use Rattle.tag.specs.Reading.{part, shown};
 ghost use Rattle.tag.specs.Answers.{readAs};
 
@@ -56,28 +58,29 @@ pub fn shown<'a>(image: &'a [u8], gathered: &'a [u8], answer: ReadAnswer) -> &'a
     }
 }
 
-// 1 where two bytes differ, else the flag as it was.
-fn mark(n: u8, x: u8, y: u8) -> u8
-    ensures { λ r. ⌜ r ≡ marked n x y ⌝ }
+// 1 if two bytes differ, else the flag as it was.
+fn flag(raised: u8, x: u8, y: u8) -> u8
+    ensures { λ r. ⌜ r ≡ cond (eqb x y) raised 1 ⌝ }
 {
     if x != y {
         return 1;
     }
-    n
+    raised
 }
 
-// 1 where the slices, which are equally long, differ, else 0. A byte as the flag and no exit inside: many bytes are done at once.
+// 1 if the slices differ in the bytes of the first, else 0. The flag is a byte and the loop has no exit: the compiler then compares
+// many bytes at once.
 fn differ(a: &[u8], b: &[u8]) -> u8
     requires { ⌜ length (now a) ≤ length (now b) ⌝ }
-    ensures { λ r. ⌜ r ≡ offTo (now (a .entry)) (now (b .entry)) (length (now (a .entry))) ⌝ }
+    ensures { λ r. ⌜ r ≡ flagTo (λ k. eqb (byte (now (a .entry)) k) (byte (now (b .entry)) k)) (length (now (a .entry))) ⌝ }
 {
-    let mut n = 0u8;
+    let mut differs = 0u8;
     let mut k = 0usize;
     while k < a.len() {
-        n = mark(n, a[k], b[k]);
+        differs = flag(differs, a[k], b[k]);
         k += 1;
     }
-    n
+    differs
 }
 
 // Whether two slices have the same bytes.

@@ -30,7 +30,7 @@ in-order z us i m false false f = refl
 in-order z us i m false true false = refl
 in-order z us i m false true true = refl
 
-module _ (K : TlvTag) (command : List ℕ → List ℕ → Command) (span : List ℕ → ℕ) (encoded : List Store → List ℕ) where
+module _ (K : TlvTag) (command : List ℕ → List ℕ → Command) (span : List ℕ → List ℕ → ℕ) (encoded : List Store → List ℕ) where
   pub writing-space : (i m : List ℕ) → writing (tagOf K command span encoded) i m ≡ writingIn (K .block) i m (spaceOf ((K .writable) i) (length m) (viewed K i))
   unfolding writing reading
   writing-space i m = go (viewed K i) refl

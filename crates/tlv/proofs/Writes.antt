@@ -41,7 +41,7 @@ module _ (K : TlvTag) where
       let (us, ms, q, f) = by-report K i p e in
       (rw q (view-placed K i us ms q), ap (λ r. r .writable) (sym f) ∙ report-writable ((K .writable) i) i ms)
 
-module _ (K : TlvTag) (laws : TlvLaws K) (command : List ℕ → List ℕ → Command) (span : List ℕ → ℕ) (encoded : List Store → List ℕ) where
+module _ (K : TlvTag) (laws : TlvLaws K) (command : List ℕ → List ℕ → Command) (span : List ℕ → List ℕ → ℕ) (encoded : List Store → List ℕ) where
   abbrev T : TagType
   T = tagOf K command span encoded
 

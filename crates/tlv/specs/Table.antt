@@ -4,7 +4,7 @@
 use mathlib.Core.Bool.{Bool, true, false, _&&_}
 use mathlib.Core.List.{List, [], _∷_}
 use Prim.Native.Nat.{ℕ, zero, suc}
-use lib.Dec.{eqb}
+use lib.Dec.{leb, ltb, eqb}
 use Rattle.tag.specs.Bytes.{byte}
 
 -- the usable addresses among the n from a on
@@ -16,3 +16,7 @@ unskipped table a (suc n) = elim (eqb (byte table a) 0) [ true ↦ a ∷ unskipp
 unfoldable pub noneSkipped : List ℕ → ℕ → ℕ → Bool
 noneSkipped table a zero = true
 noneSkipped table a (suc n) = eqb (byte table a) 0 && noneSkipped table (suc a) n
+
+-- is x a usable address from first up to stop
+abbrev pub usableIn : List ℕ → ℕ → ℕ → ℕ → Bool
+usableIn table first stop x = leb first x && (ltb x stop && eqb (byte table x) 0)

@@ -9,7 +9,7 @@ use Rattle.tlv.specs.Update.{fits, plan}
 
 -- by its TLV area and its commands: what the tag handed in takes a command's bytes for, how many bytes of a list one takes, and a
 -- command's bytes
-abbrev pub tagOf : TlvTag → (List ℕ → List ℕ → Command) → (List ℕ → ℕ) → (List Store → List ℕ) → TagType
+abbrev pub tagOf : TlvTag → (List ℕ → List ℕ → Command) → (List ℕ → List ℕ → ℕ) → (List Store → List ℕ) → TagType
 tagOf K command span encoded = record {
   reading = reading K;
   fits = fits K;

@@ -43,7 +43,7 @@ pub(crate) fn count_usable(table: &[u16], at: Address, end: Address) -> usize
 }
 
 // Whether every address from `at` up to `end` is usable.
-pub(crate) fn none_skipped(table: &[u16], at: Address, end: Address) -> bool
+pub fn none_skipped(table: &[u16], at: Address, end: Address) -> bool
     requires { ⌜ (at .0 ≤ end .0) × (end .0 ≤ length (now table)) ⌝ }
     ensures { λ r. ⌜ r ≡ noneSkipped (now (table .entry)) (at .0) (end .0 - at .0) ⌝ }
 {

@@ -30,7 +30,7 @@ pub fn count(w: Walk, table: &[u16]) -> usize
 
 // The usable address that comes after `k` others, or the end where there are no more than `k`. Mostly nothing is skipped on the
 // way there, so that is asked first: one sweep is quicker than going from one to the next.
-pub(crate) fn nth(w: Walk, k: usize, table: &[u16]) -> Address
+pub fn nth(w: Walk, k: usize, table: &[u16]) -> Address
     requires { ⌜ Within (now table) w ⌝ }
     ensures is { λ r. ⌜ r .0 ≡ getD (ahead (now (table .entry)) w) k (w .end .0) ⌝ }
     ensures within { λ r. ⌜ (w .at .0 ≤ r .0) × (r .0 ≤ w .end .0) ⌝ }

@@ -2,3 +2,4 @@
 pub mod Fitting
 pub mod Reading
 pub mod Content
+pub mod Keeping

@@ -3,3 +3,4 @@ pub mod Blank
 pub mod Reading
 pub mod Space
 pub mod Update
+pub mod Kept

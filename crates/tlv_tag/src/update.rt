@@ -39,7 +39,7 @@ pub fn set_content(w: Walk, message: &[u8], table: &[u16], image: &mut [u8])
 }
 
 // How many bytes that is for a message of `n` bytes, where there is room for all.
-fn content_length(n: usize) -> usize
+pub(crate) fn content_length(n: usize) -> usize
     requires { ⌜ n ≤ 65534 ⌝ }
     ensures { λ r. ⌜ r ≡ contentLength n ⌝ }
 {

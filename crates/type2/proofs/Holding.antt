@@ -8,7 +8,7 @@ use lib.ListN.{length}
 use Rattle.tag.specs.Reading.{Report, reads, Answer, answerOf, gatheredInto, shown}
 use Rattle.tag.specs.TagType.{held}
 use Rattle.tag.specs.Answers.{heldBy}
-use Rattle.tag.proofs.Showing.{held-shown}
+use Rattle.tag.proofs.Showing.{roomy, held-shown}
 use Rattle.tlv.proofs.Shown.{message-short}
 use Rattle.tlv.proofs.Writes as writes
 use Rattle.type2.specs.Memory.{memory}
@@ -25,4 +25,4 @@ pub held-read : (i before after : List ℕ) (a : Answer) (part : List ℕ) → l
     → a ≡ answerOf (length before) ((type2 .reading) i) → after ≡ gatheredInto before ((type2 .reading) i) → part ≡ shown i after a
     → heldBy a part ≡ held type2 i
 held-read i before after a part l e g s =
-    rw (s, g, e) (held-shown type2 type2-laws i before (λ p q. omega (arith, fits-gathering i p q)))
+    rw (s, g, e) (held-shown type2 type2-laws i before (λ p q. roomy before p (omega (arith, fits-gathering i p q))))

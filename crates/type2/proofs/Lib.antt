@@ -8,3 +8,4 @@ pub mod Reading
 pub mod Deciding
 pub mod Modelling
 pub mod Holding
+pub mod Keeping

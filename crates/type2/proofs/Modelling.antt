@@ -1,6 +1,6 @@
 -- The tag as a model, by the tests that the code makes: reading's refusal, and whether the command is well formed.
 -- Assumes nothing.
-use mathlib.Core.Path.{_≡_, refl, ap, _∙_}
+use mathlib.Core.Path.{_≡_, refl, sym, ap, _∙_}
 use mathlib.Core.Bool.{Bool, true, false, _||_}
 use mathlib.Core.List.{List, [], _∷_}
 use Prim.Native.Nat.{ℕ, _+_, _*_, _/_}
@@ -12,12 +12,13 @@ use Rattle.tag.specs.Bytes.{byte}
 use Rattle.tag.specs.Refusals.{not-well-formed}
 use Rattle.tag.specs.Checks.{check, firstOf}
 use Rattle.tag.specs.Reading.{Reading, unreadable, reads, refusalNumber}
-use Rattle.tag.specs.Stores.{ill, stores}
+use Rattle.tag.specs.Stores.{ill, stores, formed, done}
+use Rattle.tag.specs.Judging.{Applied}
 use Rattle.tag.specs.Model.{unstored, stored, given, modelBy, model}
 use Rattle.tag.specs.Version.{knownVersion}
 use Rattle.tlv.proofs.Refusals.{CheckNumbered, Numbered, numbered}
 use Rattle.type2.specs.Memory.{imageLength, containerChecks, memory}
-use Rattle.type2.specs.Codec.{wellFormed, commandOf}
+use Rattle.type2.specs.Codec.{wellFormed, decode, commandOf}
 use Rattle.type2.specs.Type2.{type2}
 use Rattle.type2.proofs.Encoding.{decode-formed, decode-ill}
 
@@ -46,6 +47,18 @@ command-ill i bs e = ap commandOf (decode-ill (length i / 4) bs e)
 pub command-formed : (i bs : List ℕ) → wellFormed (length i / 4) bs ≡ true
     → (type2 .command) i bs ≡ stores (record { at = 4 * byte bs 1; bytes = drop 2 bs } ∷ [])
 command-formed i bs e = ap commandOf (decode-formed (length i / 4) bs e)
+
+-- by a tag of the same length as the one handed in
+pub applied : (i j bs : List ℕ) → length j ≡ length i → (r : Bool) (after : List ℕ)
+    → r ≡ wellFormed (length j / 4) bs → after ≡ done j ((type2 .command) j bs) → Applied type2 i j bs r after
+applied i j bs size r after e f = (
+  e ∙ ap (λ n. wellFormed (n / 4) bs) size ∙ go (wellFormed (length i / 4) bs) refl,
+  f ∙ ap (λ n. done j (commandOf (decode (n / 4) bs))) size,
+)
+  where
+    go : (b : Bool) → wellFormed (length i / 4) bs ≡ b → b ≡ formed ((type2 .command) i bs)
+    go true q = sym (ap formed (command-formed i bs q))
+    go false q = sym (ap formed (command-ill i bs q))
 
 -- ---- the three answers
 

@@ -5,3 +5,4 @@ pub mod Type2
 pub mod Views
 pub mod CodecViews
 pub mod Table
+pub mod Kept

@@ -14,8 +14,8 @@ abbrev pub command : List ℕ → List ℕ → Command
 command i bs = commandOf (decode (length i / 4) bs)
 
 -- it takes six bytes of a list
-abbrev pub span : List ℕ → ℕ
-span bs = 6
+abbrev pub span : List ℕ → List ℕ → ℕ
+span i bs = 6
 
 abbrev pub type2 : TagType
 type2 = tagOf memory command span encoded

@@ -14,6 +14,9 @@ ghost use Rattle.tag.specs.TagType.{outputInto};
 ghost use Rattle.type2.specs.Codec.{nameable, commandBytes, encode, wellFormed, decode, decoded};
 ghost use Rattle.type2.specs.CodecViews.{decodedAs, commandAs};
 
+// The bytes of a command.
+pub const LENGTH: usize = 6;
+
 // The answer of `decode`: a refusal with a command of zeros, or 0 and the command.
 pub struct Decoded {
     pub refusal: u8,

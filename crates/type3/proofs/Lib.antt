@@ -12,3 +12,5 @@ pub mod Reading
 pub mod Deciding
 pub mod Storing
 pub mod Modelling
+pub mod Holding
+pub mod Keeping

@@ -1,7 +1,7 @@
 -- Commands given to a tag: which the code takes, and what the model answers.
 -- Assumes nothing.
-use mathlib.Core.Path.{_≡_, refl, ap, _∙_}
-use mathlib.Core.Bool.{true, false}
+use mathlib.Core.Path.{_≡_, refl, sym, ap, _∙_}
+use mathlib.Core.Bool.{Bool, true, false}
 use mathlib.Core.List.{List}
 use Prim.Native.Nat.{ℕ, _+_, _*_, _/_, _<_, _≤_}
 use native.Mathlib.Omega.{arith}
@@ -10,7 +10,8 @@ use lib.ListN.{length}
 use Rattle.tag.specs.Bytes.{byte}
 use Rattle.tag.specs.Refusals.{not-well-formed}
 use Rattle.tag.specs.Checks.{fine, fault, firstOf}
-use Rattle.tag.specs.Stores.{Store, ill, stores, done}
+use Rattle.tag.specs.Stores.{Store, ill, stores, formed, done}
+use Rattle.tag.specs.Judging.{Applied}
 use Rattle.tag.specs.Model.{unstored, stored, given, modelBy, model}
 use Rattle.tag.proofs.Logic.{true-false}
 use Rattle.type3.specs.Attributes.{nmaxbOf, attributes, attributeChecks}
@@ -44,6 +45,21 @@ ill-command (decoded bs bytes) q = absurd (true-false refl q)
 pub some-command : (d : Decoded) → isCommand d ≡ true → (ss : List Store) × (commandOf d ≡ stores ss)
 some-command (undecoded r) q = absurd (true-false q refl)
 some-command (decoded bs bytes) q = (storesOf bs bytes, refl)
+
+formed-is : (d : Decoded) → formed (commandOf d) ≡ isCommand d
+formed-is (undecoded r) = refl
+formed-is (decoded bs bytes) = refl
+
+-- by a tag of the same length as the one handed in, whose Nbw and Nmaxb they are
+pub applied : (number i j bytes : List ℕ) → length j ≡ length i → (nbw nmaxb : ℕ) → nbw ≡ byte i 2 → nmaxb ≡ nmaxbOf i → 16 * (1 + nmaxb) ≤ length i
+    → (r : Bool) (after : List ℕ) → r ≡ isCommand (decodeFor (length j) number nbw nmaxb bytes)
+    → after ≡ done j (commandOf (decodeFor (length j) number nbw nmaxb bytes)) → Applied (type3 number) i j bytes r after
+applied number i j bytes size nbw nmaxb p q reach r after e f =
+    let by : decodeFor (length j) number nbw nmaxb bytes ≡ decode number (byte i 2) (nmaxbOf i) bytes =
+    decode-by (length j) number nbw nmaxb bytes i p q (omega arith) in (
+      e ∙ ap isCommand by ∙ sym (formed-is (decode number (byte i 2) (nmaxbOf i) bytes)),
+      f ∙ ap (λ d. done j (commandOf d)) by,
+    )
 
 -- ---- the three answers of the model
 

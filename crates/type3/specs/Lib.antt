@@ -8,4 +8,5 @@ pub mod InPlace
 pub mod CodecViews
 pub mod Views
 pub mod Space
+pub mod Kept
 pub mod Model

@@ -16,6 +16,6 @@ type3 number = record {
   fits = fits;
   plan = plan;
   command = λ i bytes. commandOf (decode number (byte i 2) (nmaxbOf i) bytes);
-  span = span;
+  span = λ i. span;
   encoded = encoded number;
 }

@@ -4,18 +4,19 @@
 use crate::Command;
 use crate::names;
 use tag::CountAnswer;
+use tag::numbers;
 use tag::slices;
 ghost use mathlib.Core.Path.{_≡_};
 ghost use mathlib.Core.Bool.{_&&_};
 ghost use mathlib.Core.List.{_++_, _∷_, []};
-ghost use Prim.Native.Nat.{_≤_};
+ghost use Prim.Native.Nat.{_<_, _≤_};
 ghost use lib.Dec.{leb};
 ghost use lib.ListN.{length, take, drop};
 ghost use Rattle.tag.specs.Answers.{countOf, countAs};
 ghost use Rattle.tag.specs.Bytes.{byte, same, overwrite};
 ghost use Rattle.tag.specs.TagType.{outputInto};
 ghost use Rattle.type3.specs.Update.{blocksPerCommand};
-ghost use Rattle.type3.specs.Codec.{nameable, wellNamed, opening, commandBytes, encode, decode};
+ghost use Rattle.type3.specs.Codec.{nameable, wellNamed, opening, commandBytes, encode, decode, span};
 ghost use Rattle.type3.specs.InPlace.{numbers, framed, carried};
 ghost use Rattle.type3.specs.CodecViews.{decodedAs, commandAs, isCommand, PutAsked, Framed};
 
@@ -126,6 +127,17 @@ pub fn encode(
     let blocks = command.blocks;
     let sixteens = command.bytes;
     encode_parts(count, &blocks, &sixteens, *number, nbw, nmaxb, bytes)
+}
+
+// How many bytes of a list its first command takes, by the command's own count.
+pub fn span(list: &[u8]) -> usize
+    ensures is { λ r. ⌜ r ≡ span (now (list .entry)) ⌝ }
+    ensures small { λ r. ⌜ r < 4608 ⌝ }
+{
+    if list.len() < 13 {
+        return 13;
+    }
+    13 + 18 * numbers::wide(list[12])
 }
 
 // Whether the first twelve bytes are those of our commands.

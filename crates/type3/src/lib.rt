@@ -2,6 +2,7 @@
 // own.
 
 pub mod commands;
+pub mod kept;
 pub mod model;
 pub mod names;
 pub mod read;

@@ -1,23 +1,32 @@
 -- `commands::take_command` meets its contract. Assumes nothing.
-use Rattle.kinds.proofs.Stepping.{taken-two, taken-three}
+use Rattle.type2.proofs.Modelling as two
+use Rattle.type3.proofs.Modelling as three
 use borrow.Author.Needs.{needs}
 use Rattle.kinds.proofs.commands.take_command.Statement.{statement}
 use Rattle.kinds.proofs.commands.take_command.Tie as tie
 
 returns : tie.Need-returns
 returns c =
-    let s = c .before .before .before .before .before .before .before .before .before in
+    let at-taken = c .before .before in
+    let at-kind = at-taken .before .before .before in
+    let at-match = at-kind .before in
+    let s = at-match .before .before .before .before in
     let a = s .args in
-    let t = c .before .before .take-command in
-    rw (c .before .before .before .before .enum-told .given .1) (taken-two (a .number .now) (a .image .now) (a .work .now) (a .command .now) (s .pre .1) (t .result) _ (t .ensures .0) (t .ensures .1))
+    let t = at-taken .take-command in
+    rw (at-kind .kind .given .1) (two.applied (a .image .now) (a .work .now) (a .command .now) (s .pre .1) (t .result) _ (t .ensures .0) (t .ensures .1))
 
 returns-2 : tie.Need-returns-2
 returns-2 c =
-    let s = c .before .before .before .before .before .before .before .before .before .before in
+    let at-taken = c .before .before in
+    let at-kind = at-taken .before .before .before in
+    let at-match = at-kind .before in
+    let s = at-match .before .before .before .before in
     let a = s .args in
-    let t = c .before .before .take-command2 in
-    let g = c .before .before .before .before .before .kind .given in
-    rw (g .1) (taken-three (a .number .now) (a .image .now) (a .work .now) (a .command .now) (s .pre .1) (t .result) _ _ _ (rw (g .1) at (s .pre .0)) (t .ensures .0) (t .ensures .1))
+    let t = at-taken .take-command2 in
+    let g = at-kind .kind2 .given in
+    let k = rw (g .1) at (s .pre .0) in
+    rw (g .1)
+    (three.applied (a .idm .now) (a .image .now) (a .work .now) (a .command .now) (s .pre .1) _ _ (k .nbw-is) (k .nmaxb-is) (k .reach) (t .result) _ (t .ensures .0) (t .ensures .1))
 
 pub take-command-spec : {M : Type 1} → statement M
 take-command-spec =

@@ -1,59 +1,48 @@
 -- `kept::is_kept` meets its contract. Assumes nothing.
-use mathlib.Core.Path.{_≡_, _∙_}
+use mathlib.Core.Path.{_∙_}
 use native.Mathlib.Omega.{arith}
-use Prim.Native.Nat.{_+_, _*_}
-use lib.ListN.{length}
-use Rattle.type3.specs.Update.{blocksFor}
-use Rattle.kinds.proofs.Keeping.{kept-two, kept-three}
+use Rattle.type2.proofs.Keeping as two
+use Rattle.type3.proofs.Keeping as three
 use borrow.Author.Needs.{needs}
 use Rattle.kinds.proofs.kept.is_kept.Statement.{statement}
 use Rattle.kinds.proofs.kept.is_kept.Tie as tie
 
 is-kept-requires : tie.Need-is-kept-requires
 is-kept-requires c κs =
-    let s = c .before .before .before .before .before .before in
-    let m = rw (c .enum-told .given .1) at (s .pre .1) in
-    (omega (arith, s .pre .2), m .long-enough)
+    let at-kind = c .before in
+    let at-match = at-kind .before in
+    let at-slices = at-match .before in
+    let s = at-slices .before .before .before .before in
+    let k = rw (at-kind .kind .given .1) at (s .pre .1) in
+    (k .bounded, s .pre .2)
 
-address-requires : tie.Need-address-requires
-address-requires c κs =
-    let s = c .before .before .before .before .before .before .before .before in
-    let g = c .before .before .kind .given in
-    let t = rw (g .1) at (s .pre .0) in
-    let m = rw (g .1) at (s .pre .1) in
-    omega (arith, t .reach, t .most, m, c .blocks-for .ensures)
-
-three-kept-requires : tie.Need-three-kept-requires
-three-kept-requires c κs =
-    let s = c .before .before .before .before .before .before .before .before .before in
-    let g = c .before .before .before .kind .given in
-    let t = rw (g .1) at (s .pre .0) in
-    let m = rw (g .1) at (s .pre .1) in
-    (s .pre .2, omega (arith, c .address .ensures), omega (arith, t .reach, t .most, m, c .before .blocks-for .ensures, c .address .ensures))
+is-kept-requires-2 : tie.Need-is-kept-requires-2
+is-kept-requires-2 c κs =
+    let at-kind = c .before in
+    let at-match = at-kind .before in
+    let at-slices = at-match .before in
+    let s = at-slices .before .before .before .before in
+    let t = rw (at-kind .kind2 .given .1) at (s .pre .0) in
+    let m = rw (at-kind .kind2 .given .1) at (s .pre .1) in
+    (omega (arith, t .reach, m), t .most, s .pre .2)
 
 returns : tie.Need-returns
 returns c =
-    let s = c .before .before .before .before .before .before .before in
+    let at-kind = c .before .before in
+    let at-match = at-kind .before in
+    let at-slices = at-match .before in
+    let s = at-slices .before .before .before .before in
     let a = s .args in
-    rw (c .before .enum-told .given .1) (c .is-kept .ensures ∙ kept-two (a .image .now) (a .message .now) (a .set .now) (a .work .now) (rw (c .before .enum-told .given .1) at (s .pre .1)))
+    let g = at-kind .kind .given in
+    rw (g .1) (c .is-kept .ensures ∙ two.kept-is (a .image .now) (a .message .now) (a .table .now) (a .work .now) _ (rw (g .1) at (s .pre .1)))
 
 returns-2 : tie.Need-returns-2
 returns-2 c =
-    let s = c .before .before .before .before .before .before .before .before .before .before in
-    let a = s .args in
-    let past : c .before .address .result .0 ≡ 16 + 16 * blocksFor (length (a .message .now)) = omega (arith, c .before .address .ensures, c .before .before .blocks-for .ensures) in
-    rw (c .before .before .before .before .kind .given .1) (c .three-kept .ensures ∙ kept-three (a .number .now) (a .image .now) (a .message .now) (a .work .now) (c .before .address .result .0) past)
+    let at-kind = c .before .before in
+    let at-match = at-kind .before in
+    let at-slices = at-match .before in
+    let a = at-slices .before .before .before .before .args in
+    rw (at-kind .kind2 .given .1) (c .is-kept2 .ensures ∙ three.kept-is (a .idm .now) (a .image .now) (a .message .now) (a .work .now))
 
 pub is-kept-spec : {M : Type 1} → statement M
-is-kept-spec =
-    tie.close
-    (tie.spec
-    (λ c. search needs)
-    is-kept-requires
-    (λ c. search needs)
-    (λ c κs. search needs)
-    (λ c. search needs)
-    address-requires
-    three-kept-requires
-    returns
-    returns-2)
+is-kept-spec = tie.close (tie.spec (λ c. search needs) is-kept-requires (λ c. search needs) is-kept-requires-2 returns returns-2)

@@ -1,26 +1,24 @@
 -- `reading::holds` meets its contract. Assumes nothing.
-use Rattle.tag.specs.Judge.{holdsAs}
 use mathlib.Core.Path.{ap, _∙_}
+use Rattle.tag.specs.Judge.{holdsAs}
 use Rattle.tag.specs.Answers.{readAs}
-use Rattle.kinds.proofs.Holding.{held-read}
+use Rattle.kinds.proofs.EachKind.{held-read}
 use borrow.Author.Needs.{needs}
 use Rattle.kinds.proofs.reading.holds.Statement.{statement}
 use Rattle.kinds.proofs.reading.holds.Tie as tie
 
 returns : tie.Need-returns
 returns c =
-    let s = c .before .before .before .before .before .before .before .before .before .before in
+    let at-gathered = c .before .before .before .before in
+    let at-read = at-gathered .before in
+    let at-slice = at-read .before .before in
+    let s = at-slice .before .before .before in
     let a = s .args in
-    let r = c .before .before .before .before .before .read in
+    let r = at-read .read in
+    let shown = c .before .shown in
     c .holds .ensures
-    ∙ ap (λ h. holdsAs h (s .args .message .now))
-    (held-read (a .kind) (a .number .now) (a .image .now) (a .gathered .now) (r .last .1 .1 .1 .0) (readAs (r .result)) (c .before .shown .result .now) (s .pre) (r .ensures .0) (r .ensures .1) (c .before .shown .ensures))
+    ∙ ap (λ h. holdsAs h (a .message .now))
+    (held-read (a .kind) (a .idm .now) (a .image .now) (a .gathered .now) (r .last .1 .1 .1 .0) (readAs (r .result)) (shown .result .now) (s .pre) (r .ensures .0) (r .ensures .1) (shown .ensures))
 
 pub holds-spec : {M : Type 1} → statement M
-holds-spec = tie.close
-    (tie.spec
-    (λ c κs. search needs)
-    (λ c κs. search needs)
-    (λ c κs. search needs)
-    (λ c. search needs)
-    returns)
+holds-spec = tie.close (tie.spec (λ c κs. search needs) (λ c κs. search needs) (λ c κs. search needs) (λ c. search needs) returns)

@@ -1,18 +1,25 @@
 -- `reading::read` meets its contract. Assumes nothing.
-use mathlib.Core.Path.{_∙_}
+use mathlib.Core.Path.{sym, _∙_}
 use lib.ListN.{length}
-use Rattle.kinds.proofs.Holding.{answer-three, gathered-three}
+use Rattle.tag.proofs.Showing.{plain-answer, plain-buffer}
+use Rattle.type3.specs.Message.{reading}
+use Rattle.type3.proofs.Holding.{plain}
 use borrow.Author.Needs.{needs}
 use Rattle.kinds.proofs.reading.read.Statement.{statement}
 use Rattle.kinds.proofs.reading.read.Tie as tie
 
 returns : tie.Need-returns
-returns c = rw (c .before .before .before .before .enum-told .given .1) (c .before .before .read .ensures)
+returns c =
+    let at-read = c .before .before in
+    rw (at-read .before .before .before .kind .given .1) (at-read .read .ensures)
 
 returns-2 : tie.Need-returns-2
 returns-2 c =
-    let a = c .before .before .before .before .before .before .args in
-    rw (c .before .before .kind .given .1) (c .read2 .ensures ∙ answer-three (a .image .now) (length (a .gathered .now)), gathered-three (a .image .now) (a .gathered .now))
+    let at-kind = c .before .before in
+    let a = at-kind .before .before .before .before .args in
+    let i = a .image .now in
+    rw (at-kind .kind2 .given .1)
+    (c .read2 .ensures ∙ plain-answer (reading i) (plain i) 0 (length (a .gathered .now)), sym (plain-buffer (reading i) (plain i) (a .gathered .now)))
 
 pub read-spec : {M : Type 1} → statement M
 read-spec =

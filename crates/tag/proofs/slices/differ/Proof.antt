@@ -1,37 +1,44 @@
--- `slices::differ` meets its contract. Assumes nothing.
+-- `slices::differ` meets its contract: the flag is that of the bytes compared so far. Assumes nothing.
 use mathlib.Core.Path.{_≡_, refl, sym, ap, _∙_}
-use Prim.Native.Nat.{_-_, _≤_}
+use mathlib.Core.Bool.{Bool, cond}
+use mathlib.Core.List.{List}
+use Prim.Native.Nat.{ℕ, _-_, _≤_}
 use native.Mathlib.Omega.{arith}
 use borrow.Author.Needs.{needs}
+use lib.Dec.{eqb}
 use lib.ListN.{length}
 use Rattle.tag.specs.Bytes.{byte}
-use Rattle.tag.specs.Flags.{marked, offTo}
-use Rattle.tag.proofs.Flags.{off-more}
+use Rattle.tag.specs.Flags.{flagTo}
+use Rattle.tag.proofs.Flags.{flag-more}
 use Rattle.tag.proofs.slices.differ.Statement.{statement}
 use Rattle.tag.proofs.slices.differ.Tie as tie
 
+abbrev equal : List ℕ → List ℕ → ℕ → Bool
+equal a b k = eqb (byte a k) (byte b k)
+
 abbrev Inv-loop : tie.InvT-loop
-Inv-loop a b n₀ k₀ n k = (k ≤ length a) × (n ≡ offTo a b k)
+Inv-loop a b differs₀ k₀ differs k = (k ≤ length a) × (differs ≡ flagTo (equal a b) k)
 
 abbrev μ-loop : tie.MeasureT-loop
-μ-loop a b n₀ k₀ n k = length a - k
+μ-loop a b differs₀ k₀ differs k = length a - k
 
 loop-holds : tie.Need-loop-holds Inv-loop μ-loop
-unfolding offTo
+unfolding flagTo
 loop-holds c = (search needs, refl)
 
 loop-again : tie.Need-loop-again Inv-loop μ-loop
 loop-again c =
-    let x = c .before .before .before .before .before .before .before .args in
-    let l = c .before .before .before .before .loop in
-    let e = ap (λ n. marked n (byte (x .a .now) (l .k)) (byte (x .b .now) (l .k))) (l .inv .1) in
-    (search needs, c .mark .ensures ∙ e ∙ sym (off-more (x .a .now) (x .b .now) (l .k)))
+    let at-loop = c .before .before .before .before in
+    let x = at-loop .before .before .before .args in
+    let l = at-loop .loop in
+    let e = ap (λ n. cond (equal (x .a .now) (x .b .now) (l .k)) n 1) (l .inv .1) in
+    (search needs, c .flag .ensures ∙ e ∙ sym (flag-more (equal (x .a .now) (x .b .now)) (l .k)))
 
 returns : tie.Need-returns Inv-loop μ-loop
 returns c =
     let x = c .before .before .before .before .args in
     let all : c .before .loop .k ≡ length (x .a .now) = omega arith in
-    c .before .loop .inv .1 ∙ ap (offTo (x .a .now) (x .b .now)) all
+    c .before .loop .inv .1 ∙ ap (flagTo (equal (x .a .now) (x .b .now))) all
 
 pub differ-spec : {M : Type 1} → statement M
 differ-spec =

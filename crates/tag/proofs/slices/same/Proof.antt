@@ -4,7 +4,7 @@ use borrow.Author.Needs.{needs}
 use lib.Dec.{eqb}
 use Rattle.tag.specs.Bytes.{same}
 use Rattle.tag.proofs.Same.{same-lengths}
-use Rattle.tag.proofs.Flags.{off-same, zero-flag}
+use Rattle.tag.proofs.Flags.{flag-same, zero-flag}
 use Rattle.tag.proofs.slices.same.Statement.{statement}
 use Rattle.tag.proofs.slices.same.Tie as tie
 
@@ -16,7 +16,7 @@ returns c =
 returns-2 : tie.Need-returns-2
 returns-2 c =
     let x = c .before .before .before .before .args in
-    rw (c .differ .ensures, off-same (x .a .now) (x .b .now) (c .before .if1 .left)) (zero-flag (same (x .a .now) (x .b .now)))
+    rw (c .differ .ensures, flag-same (x .a .now) (x .b .now) (c .before .if1 .left)) (zero-flag (same (x .a .now) (x .b .now)))
 
 pub same-spec : {M : Type 1} → statement M
 same-spec = tie.close (tie.spec returns (λ c κs. search needs) returns-2)

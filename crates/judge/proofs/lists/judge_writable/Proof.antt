@@ -1,0 +1,36 @@
+-- `lists::judge_writable` meets its contract: the work array is long enough for an image of any kind. Assumes nothing.
+use native.Mathlib.Omega.{arith}
+use borrow.Author.Needs.{needs}
+use lib.ListN.{length-take}
+use Rattle.kinds.proofs.EachKind.{short-enough}
+use Rattle.judge.proofs.lists.judge_writable.Statement.{statement}
+use Rattle.judge.proofs.lists.judge_writable.Tie as tie
+
+array-borrow-prefix-work : tie.Need-array-borrow-prefix-work
+array-borrow-prefix-work c =
+    let s = c .before .before .before .before in
+    omega (arith, short-enough (s .args .kind) (s .args .image .now) (s .pre .attested))
+
+slice-aggregate-judge-on : tie.Need-slice-aggregate-judge-on
+slice-aggregate-judge-on c =
+    let at-first = c .before .before .before .before in
+    let s = at-first .before in
+    simp length-take (omega (arith, short-enough (s .args .kind) (s .args .image .now) (s .pre .attested)))
+
+judge-on-requires : tie.Need-judge-on-requires
+judge-on-requires c κs =
+    let at-work = c .before .before in
+    let at-first = at-work .before .before .before .before in
+    let s = at-first .before in
+    (s .pre, simp length-take (omega (arith, short-enough (s .args .kind) (s .args .image .now) (s .pre .attested))), search needs, search needs)
+
+pub judge-writable-spec : {M : Type 1} → statement M
+judge-writable-spec =
+    tie.close
+    (tie.spec
+    array-borrow-prefix-work
+    slice-aggregate-judge-on
+    (λ c. search needs)
+    (λ c. search needs)
+    judge-on-requires
+    (λ c. search needs))

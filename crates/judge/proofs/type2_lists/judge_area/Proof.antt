@@ -1,0 +1,62 @@
+-- `type2_lists::judge_area` meets its contract. Assumes nothing.
+use mathlib.Core.Path.{sym, ap, _∙_, subst}
+use borrow.Author.Needs.{needs}
+use lib.ListN.{length}
+use Rattle.tag.specs.Judge.{judgeBy}
+use Rattle.tlv_tag.specs.Space.{spaceAs, SpacePlaced}
+use Rattle.type2.specs.Type2.{type2}
+use Rattle.type2.proofs.Reading.{blank}
+use Rattle.type2.proofs.Deciding.{no-space-writing}
+use Rattle.judge.proofs.Preparing.{writable-at, addresses-at}
+use Rattle.judge.proofs.type2_lists.judge_area.Statement.{statement}
+use Rattle.judge.proofs.type2_lists.judge_area.Tie as tie
+
+find-space-requires : tie.Need-find-space-requires
+find-space-requires c κs =
+    let s = c .before .before .before .before .before in
+    blank (s .args .image .now) (s .args .table .now) (s .args .end .0) (s .args .writable) (s .pre .1 .area) (s .pre .0)
+
+judge-space-requires : tie.Need-judge-space-requires
+judge-space-requires c κs =
+    let s = c .before .before .before .before .before .before .before .before .before .before .before .before in
+    let a = s .args in
+    let f = c .before .before .before .before .before .before .find-space in
+    let g = c .before .before .w .given in
+    let e = sym (ap (spaceAs (f .last .1 .1 .0)) (g .1)) ∙ f .ensures .0 in
+    let room = subst (SpacePlaced (a .image .now) (f .last .1 .1 .0) (length (a .message .now)) 16 (a .end .0)) (g .1) (f .ensures .1) in (
+      writable-at (a .image .now) (a .message .now) (a .end .0) (a .writable) (s .pre .1) _ e,
+      room .0,
+      addresses-at (a .image .now) (a .message .now) (a .end .0) (a .writable) (s .pre .1) _ e,
+    )
+
+returns : tie.Need-returns
+returns c =
+    let s = c .before .before .before .before .before .before .before .before .before .before .before in
+    let a = s .args in
+    let f = c .before .before .before .before .before .find-space in
+    let g = c .before .r .given in
+    let e = sym (ap (spaceAs (f .last .1 .1 .0)) (g .1)) ∙ f .ensures .0 in
+    sym (ap (judgeBy type2 (a .image .now) (a .message .now) (a .list .now)) (no-space-writing (a .image .now) (a .message .now) (a .end .0) (a .writable) (s .pre .1) _ e))
+
+returns-2 : tie.Need-returns-2
+returns-2 c =
+    let s = c .before .before .before .before .before .before .before .before .before .before .before .before .before in
+    let a = s .args in
+    let f = c .before .before .before .before .before .before .before .find-space in
+    let g = c .before .before .before .w .given in
+    let e = sym (ap (spaceAs (f .last .1 .1 .0)) (g .1)) ∙ f .ensures .0 in
+    c .judge-space .ensures
+    ∙ sym (ap (judgeBy type2 (a .image .now) (a .message .now) (a .list .now)) (writable-at (a .image .now) (a .message .now) (a .end .0) (a .writable) (s .pre .1) _ e .plan-is))
+
+pub judge-area-spec : {M : Type 1} → statement M
+judge-area-spec =
+    tie.close
+    (tie.spec
+    find-space-requires
+    (λ c. search needs)
+    (λ c. search needs)
+    judge-space-requires
+    (λ c. search needs)
+    returns
+    (λ c. search needs)
+    returns-2)

@@ -1,0 +1,25 @@
+-- `type2_lists::judge_space` meets its contract. Assumes nothing.
+use borrow.Author.Needs.{needs}
+use Rattle.tag.proofs.Laws.{written-ready, ready-reads}
+use Rattle.type2.specs.Type2.{type2}
+use Rattle.type2.proofs.Keeping.{covered}
+use Rattle.judge.proofs.type2_lists.judge_space.Statement.{statement}
+use Rattle.judge.proofs.type2_lists.judge_space.Tie as tie
+
+judge-writable-requires : tie.Need-judge-writable-requires
+judge-writable-requires c κs =
+    let at-extent = c .before in
+    let at-first = at-extent .before .before .before .before in
+    let s = at-first .before in
+    let a = s .args in
+    let i = a .image .now in
+    let m = a .message .now in
+    let e = at-extent .extent-of in
+    record {
+      attested = s .pre .0 .short;
+      protects = covered i m (a .table .now) (a .w) (e .result) (s .pre .1) (s .pre .2) (e .ensures .0) (e .ensures .1);
+      reads = ready-reads type2 i m (written-ready type2 i m ((type2 .plan) i m) (s .pre .0 .plan-is) .0);
+    }
+
+pub judge-space-spec : {M : Type 1} → statement M
+judge-space-spec = tie.close (tie.spec (λ c κs. search needs) judge-writable-requires (λ c. search needs))

@@ -1,0 +1,34 @@
+-- `type3_lists::judge` meets its contract. Assumes nothing.
+use mathlib.Core.Path.{sym, ap, subst, _∙_}
+use Rattle.tag.specs.Judge.{judgeBy}
+use Rattle.type3.specs.Type3.{type3}
+use Rattle.type3.specs.Views.{checkedAs, Known}
+use Rattle.type3.proofs.Deciding.{writing-unread}
+use borrow.Author.Needs.{needs}
+use Rattle.judge.proofs.type3_lists.judge.Statement.{statement}
+use Rattle.judge.proofs.type3_lists.judge.Tie as tie
+
+judge-readable-requires : tie.Need-judge-readable-requires
+judge-readable-requires c κs =
+    let i = c .before .before .before .before .before .before .before .args .image .now in
+    let r = c .before .checked2 .given in
+    let t = c .before .before .before .attributes-of .ensures in
+    record { passes = sym (t .0) ∙ ap checkedAs (r .1); known = subst (Known i) (r .1) (t .1) }
+
+returns : tie.Need-returns
+returns c =
+    let a = c .before .before .before .before .before .before .before .args in
+    let r = c .before .checked .given in
+    sym (ap (judgeBy (type3 (a .idm .now)) (a .image .now) (a .message .now) (a .list .now))
+    (writing-unread (a .idm .now) (a .image .now) (a .message .now) (r .0 .0) (sym (c .before .before .before .attributes-of .ensures .0) ∙ ap checkedAs (r .1))))
+
+pub judge-spec : {M : Type 1} → statement M
+judge-spec =
+    tie.close
+    (tie.spec
+    (λ c κs. search needs)
+    (λ c. search needs)
+    (λ c. search needs)
+    judge-readable-requires
+    returns
+    (λ c. search needs))

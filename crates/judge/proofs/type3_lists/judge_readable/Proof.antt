@@ -1,0 +1,52 @@
+-- `type3_lists::judge_readable` meets its contract. Assumes nothing.
+use mathlib.Core.Path.{_≡_, sym, ap, _∙_}
+use Prim.Native.Nat.{_*_}
+use native.Mathlib.Omega.{arith}
+use borrow.Author.Needs.{needs}
+use borrow.Author.Tests.{leb-true}
+use lib.ListN.{length}
+use Rattle.tag.specs.Judge.{judgeBy}
+use Rattle.tag.proofs.Laws.{written-ready, ready-reads}
+use Rattle.type3.specs.Attributes.{nmaxbOf}
+use Rattle.type3.specs.Update.{plan}
+use Rattle.type3.specs.Type3.{type3}
+use Rattle.type3.proofs.Deciding.{writing-refused, writing-planned}
+use Rattle.judge.proofs.type3_lists.judge_readable.Statement.{statement}
+use Rattle.judge.proofs.type3_lists.judge_readable.Tie as tie
+
+returns : tie.Need-returns
+returns c =
+    let at-refusal = c .before in
+    let s = at-refusal .before .before .before .before in
+    let a = s .args in
+    sym (ap (judgeBy (type3 (a .idm .now)) (a .image .now) (a .message .now) (a .list .now))
+    (writing-refused (a .idm .now) (a .image .now) (a .message .now) (a .a) (s .pre) _ (at-refusal .refusal .ensures) (c .if1 .taken)))
+
+judge-writable-requires : tie.Need-judge-writable-requires
+judge-writable-requires c κs =
+    let at-if = c .before in
+    let at-refusal = at-if .before in
+    let s = at-refusal .before .before .before .before in
+    let a = s .args in
+    let k = s .pre .known in
+    let i = a .image .now in
+    let m = a .message .now in
+    let planned = writing-planned (a .idm .now) i m (a .a) (s .pre) _ (at-refusal .refusal .ensures) (at-if .if1 .left) in
+    let ready = written-ready (type3 (a .idm .now)) i m (plan i m) planned .0 in
+    record {
+      attested = record { nbw-is = k .nbw-is; nmaxb-is = k .nmaxb-is; reach = k .reach; most = k .whole .most };
+      protects = omega (arith, k .nmaxb-is, leb-true (length m) (16 * nmaxbOf i) (ready .room));
+      reads = ready-reads (type3 (a .idm .now)) i m ready;
+    }
+
+returns-2 : tie.Need-returns-2
+returns-2 c =
+    let at-if = c .before .before in
+    let at-refusal = at-if .before in
+    let s = at-refusal .before .before .before .before in
+    let a = s .args in
+    let planned = writing-planned (a .idm .now) (a .image .now) (a .message .now) (a .a) (s .pre) _ (at-refusal .refusal .ensures) (at-if .if1 .left) in
+    c .judge-writable .ensures ∙ sym (ap (judgeBy (type3 (a .idm .now)) (a .image .now) (a .message .now) (a .list .now)) planned)
+
+pub judge-readable-spec : {M : Type 1} → statement M
+judge-readable-spec = tie.close (tie.spec (λ c κs. search needs) returns (λ c. search needs) judge-writable-requires returns-2)

@@ -1,0 +1,148 @@
+// A list's commands, one after the other, on a copy of the tag. Nothing here names a type of tag.
+
+use kinds::Kind;
+use kinds::commands;
+use kinds::kept;
+use kinds::reading;
+use tag::JudgeAnswer;
+use tag::holding;
+use tag::slices;
+ghost use mathlib.Core.Path.{_≡_};
+ghost use lib.ListN.{length};
+ghost use Rattle.tag.specs.Judging.{Tested, ListJudged};
+ghost use Rattle.kinds.specs.Types.{typeOf};
+ghost use Rattle.judge.specs.Task.{Writable, Judging};
+
+// The fault of one command, 20 to 22, or 0. What a well-formed command says is stored in `work` in any case.
+fn step(
+    kind: Kind,
+    idm: &[u8; 8],
+    image: &[u8],
+    message: &[u8],
+    table: &[u16],
+    old: &[u8],
+    had: bool,
+    command: &[u8],
+    work: &mut [u8],
+    gathered: &mut [u8],
+) -> u8
+    requires { ⌜ Judging kind (now idm) (now image) (now message) (now table) (now old) had × (length (now work) ≡ length (now image)) × (length (now gathered) ≡ 1024) ⌝ }
+    ensures { λ r. ⌜ Tested (typeOf kind (now (idm .entry))) (now (image .entry)) (now (message .entry)) (now (work .entry)) (now (command .entry)) r (now (work .exit)) ⌝ }
+{
+    if !commands::take_command(kind, idm, image, command, work) {
+        return 20;
+    }
+    if !kept::is_kept(kind, idm, image, message, table, work) {
+        return 21;
+    }
+    if !reading::is_safe(kind, idm, work, message, old, had, gathered) {
+        return 22;
+    }
+    0
+}
+
+// The list's commands in order; `work` starts as the tag handed in. A rest shorter than a command is the last one.
+fn judge_list(
+    kind: Kind,
+    idm: &[u8; 8],
+    image: &[u8],
+    message: &[u8],
+    table: &[u16],
+    old: &[u8],
+    had: bool,
+    list: &[u8],
+    work: &mut [u8],
+    gathered: &mut [u8],
+) -> JudgeAnswer
+    requires { ⌜ Judging kind (now idm) (now image) (now message) (now table) (now old) had × (now work ≡ now image) × (length (now gathered) ≡ 1024) ⌝ }
+    ensures { λ r. ⌜ ListJudged (typeOf kind (now (idm .entry))) (now (image .entry)) (now (message .entry)) (now (list .entry)) r ⌝ }
+{
+    let mut at = 0usize;
+    let mut count = 0usize;
+    while at < list.len() {
+        let next = at + commands::piece_size(kind, idm, image, list, at);
+        let fault = step(
+            kind,
+            idm,
+            image,
+            message,
+            table,
+            old,
+            had,
+            &list[at..next],
+            work,
+            gathered,
+        );
+        if fault != 0 {
+            return JudgeAnswer::Refused(fault, count);
+        }
+        at = next;
+        count += 1;
+    }
+    if reading::holds(kind, idm, work, message, gathered) {
+        return JudgeAnswer::Accepted(count);
+    }
+    JudgeAnswer::Refused(23, count)
+}
+
+// With lent arrays: `first` gathers the old message and keeps it, `gathered` serves each reading on the way.
+fn judge_on(
+    kind: Kind,
+    idm: &[u8; 8],
+    image: &[u8],
+    message: &[u8],
+    table: &[u16],
+    list: &[u8],
+    work: &mut [u8],
+    first: &mut [u8],
+    gathered: &mut [u8],
+) -> JudgeAnswer
+    requires { ⌜ Writable kind (now idm) (now image) (now message) (now table) × (length (now work) ≡ length (now image)) × (length (now first) ≡ 1024) × (length (now gathered) ≡ 1024) ⌝ }
+    ensures { λ r. ⌜ ListJudged (typeOf kind (now (idm .entry))) (now (image .entry)) (now (message .entry)) (now (list .entry)) r ⌝ }
+{
+    slices::store(image, 0, work);
+    let answer = reading::read(kind, idm, image, first);
+    let old = slices::shown(image, first, answer);
+    let had = holding::is_message(answer);
+    judge_list(
+        kind,
+        idm,
+        image,
+        message,
+        table,
+        old,
+        had,
+        list,
+        work,
+        gathered,
+    )
+}
+
+// Judges a list for a tag on which writing the message is not refused. Makes the arrays and lends them on: where an array is made, a
+// proof carries all its elements; where a slice is lent, it does not.
+pub(crate) fn judge_writable(
+    kind: Kind,
+    idm: &[u8; 8],
+    image: &[u8],
+    message: &[u8],
+    table: &[u16],
+    list: &[u8],
+) -> JudgeAnswer
+    requires { ⌜ Writable kind (now idm) (now image) (now message) (now table) ⌝ }
+    ensures { λ r. ⌜ ListJudged (typeOf kind (now (idm .entry))) (now (image .entry)) (now (message .entry)) (now (list .entry)) r ⌝ }
+{
+    let mut work = [0u8; 4096];
+    let mut first = [0u8; 1024];
+    let mut gathered = [0u8; 1024];
+    judge_on(
+        kind,
+        idm,
+        image,
+        message,
+        table,
+        list,
+        &mut work[..image.len()],
+        &mut first,
+        &mut gathered,
+    )
+}

@@ -1,0 +1,76 @@
+// What Type 2 adds to the judge: refusals 1 to 11 as writing gives them, and where the bytes to set lie.
+
+use crate::lists;
+use kinds::Kind;
+use tag::Address;
+use tag::JudgeAnswer;
+use tlv::walk::Walk;
+use tlv_tag::kept;
+use tlv_tag::space;
+use tlv_tag::space::Space;
+use type2::container;
+use type2::container::DataArea;
+ghost use mathlib.Core.Path.{_≡_};
+ghost use lib.ListN.{length};
+ghost use Rattle.tag.specs.Contracts.{Judged};
+ghost use Rattle.tag.specs.Judging.{ListJudged};
+ghost use Rattle.tlv.specs.Views.{ahead};
+ghost use Rattle.tlv_tag.specs.Space.{Room};
+ghost use Rattle.type2.specs.Type2.{type2};
+ghost use Rattle.type2.specs.Views.{Inside};
+ghost use Rattle.type2.specs.Table.{Clear};
+ghost use Rattle.judge.specs.Type2.{Planned};
+
+// With the space for the message found.
+fn judge_space(image: &[u8], message: &[u8], list: &[u8], w: Walk, table: &[u16]) -> JudgeAnswer
+    requires { ⌜ Planned (now image) (now message) × Room (now image) (now table) (length (now message)) w × (ahead (now table) w ≡ (type2 .plan) (now image) (now message) .addresses) ⌝ }
+    ensures { λ r. ⌜ ListJudged type2 (now (image .entry)) (now (message .entry)) (now (list .entry)) r ⌝ }
+{
+    let extent = kept::extent_of(w, message.len(), table);
+    let none = [0u8; 8];
+    lists::judge_writable(Kind::Type2(extent), &none, image, message, table, list)
+}
+
+// In the data area up to `end`.
+fn judge_area(
+    image: &[u8],
+    message: &[u8],
+    list: &[u8],
+    end: Address,
+    writable: bool,
+    table: &mut [u16],
+) -> JudgeAnswer
+    requires { ⌜ Clear (now table) × Inside (now image) (end .0) writable ⌝ }
+    ensures { λ r. ⌜ Judged type2 (now (image .entry)) (now (message .entry)) (now (list .entry)) r ⌝ }
+{
+    match space::find_space(
+        image,
+        message.len(),
+        table,
+        Address(container::FIRST),
+        end,
+        writable,
+    ) {
+        Space::Refused(r) => JudgeAnswer::Refused(r, 0),
+        Space::At(w) => judge_space(image, message, list, w, table),
+    }
+}
+
+// With the skip table.
+fn judge_with(image: &[u8], message: &[u8], list: &[u8], table: &mut [u16]) -> JudgeAnswer
+    requires { ⌜ Clear (now table) ⌝ }
+    ensures { λ r. ⌜ Judged type2 (now (image .entry)) (now (message .entry)) (now (list .entry)) r ⌝ }
+{
+    match container::data_area(image) {
+        DataArea::Refused(r) => JudgeAnswer::Refused(r, 0),
+        DataArea::Inside(end, writable) => judge_area(image, message, list, end, writable, table),
+    }
+}
+
+// Judges the list of commands, laid end to end, that is to write the message to the tag.
+pub fn judge(image: &[u8], message: &[u8], list: &[u8]) -> JudgeAnswer
+    ensures { λ r. ⌜ Judged type2 (now (image .entry)) (now (message .entry)) (now (list .entry)) r ⌝ }
+{
+    let mut table = [0u16; 1024];
+    judge_with(image, message, list, &mut table)
+}

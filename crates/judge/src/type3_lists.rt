@@ -1,0 +1,45 @@
+// What Type 3 adds to the judge: refusals 1 to 11 as writing gives them. It skips no address, and lends an empty skip table.
+
+use crate::lists;
+use kinds::Kind;
+use tag::JudgeAnswer;
+use type3::read;
+use type3::read::Attributes;
+use type3::read::Checked;
+use type3::space;
+ghost use Rattle.tag.specs.Contracts.{Judged};
+ghost use Rattle.type3.specs.Type3.{type3};
+ghost use Rattle.type3.specs.Views.{Readable};
+
+// Refusals 9 to 11 of a tag that reads, then the list.
+fn judge_readable(
+    list: &[u8],
+    image: &[u8],
+    message: &[u8],
+    idm: &[u8; 8],
+    a: Attributes,
+) -> JudgeAnswer
+    requires { ⌜ Readable (now image) a ⌝ }
+    ensures { λ r. ⌜ Judged (type3 (now (idm .entry))) (now (image .entry)) (now (message .entry)) (now (list .entry)) r ⌝ }
+{
+    let refusal = space::refusal(a, message.len());
+    if refusal != 0 {
+        return JudgeAnswer::Refused(refusal, 0);
+    }
+    let nbw = a.nbw;
+    let nmaxb = a.nmaxb;
+    let kind = Kind::Type3(nbw, nmaxb);
+    let table = [0u16; 0];
+    lists::judge_writable(kind, idm, image, message, &table, list)
+}
+
+// Judges the list of commands, laid end to end, that is to write the message to the tag.
+pub fn judge(image: &[u8], message: &[u8], idm: &[u8; 8], list: &[u8]) -> JudgeAnswer
+    ensures { λ r. ⌜ Judged (type3 (now (idm .entry))) (now (image .entry)) (now (message .entry)) (now (list .entry)) r ⌝ }
+{
+    let checked = read::attributes_of(image);
+    match checked {
+        Checked::Fault(n) => JudgeAnswer::Refused(n, 0),
+        Checked::Fine(a) => judge_readable(list, image, message, idm, a),
+    }
+}

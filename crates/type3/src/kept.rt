@@ -1,0 +1,28 @@
+// Whether a Type 3 tag keeps the bytes that writing a message does not set.
+
+use crate::space;
+use tag::Address;
+use tag::Block;
+use tag::kept;
+ghost use mathlib.Core.Path.{_≡_};
+ghost use mathlib.Core.Bool.{not};
+ghost use Prim.Native.Nat.{_+_, _*_, _≤_};
+ghost use lib.ListN.{length};
+ghost use Rattle.tag.specs.Bytes.{run};
+ghost use Rattle.tag.specs.Judge.{equalAt};
+ghost use Rattle.type3.specs.Update.{blocksFor};
+ghost use Rattle.type3.specs.Kept.{setFor};
+
+// Does the tag `work` have the bytes of `image` but for those that writing a message of `n` bytes sets? Between WriteFlag and the end of
+// the message's blocks only RWFlag is not set.
+pub fn is_kept(image: &[u8], work: &[u8], n: usize) -> bool
+    requires { ⌜ (16 + 16 * blocksFor n ≤ length (now image)) × (length (now image) ≤ 4096) × (length (now work) ≡ length (now image)) ⌝ }
+    ensures { λ r. ⌜ r ≡ equalAt (λ a. not (setFor n a)) (now (image .entry)) (now (work .entry)) (run 0 (length (now (image .entry)))) ⌝ }
+{
+    let blocks = space::blocks_for(n);
+    let end = Block(1 + blocks).address(16);
+    if !kept::is_kept_outside(image, work, Address(9), end) {
+        return false;
+    }
+    work[10] == image[10]
+}
