@@ -12,11 +12,47 @@ use lib.Seq.{length-take-le}
 use Rattle.tag.specs.Bytes.{byte}
 use Rattle.tag.specs.Checks.{fine, fault, firstOf}
 use Rattle.tag.specs.Reading.{being-written, empty, message, refusal, answer, answerOf}
+use Rattle.tag.proofs.Logic.{lengths}
+use Rattle.tag.proofs.Checks.{fine-all}
 use Rattle.type3.specs.declared.read.Attributes.{Attributes}
 use Rattle.type3.specs.Attributes.{attributes, attributeChecks, mayWrite}
 use Rattle.type3.specs.Message.{busy, view, viewBy, readingOf, reading}
-use Rattle.type3.specs.Views.{Attests, answerFor}
-use Rattle.type3.proofs.Message.{unread}
+use Rattle.type3.specs.Views.{faultAs, WholeBlocks, Says, Attests, answerFor}
+use Rattle.type3.proofs.Message.{Passes, bounds, ln-fits, unread}
+
+-- ---- the number of the first test that fails
+
+pub fault-some : (r : ℕ) → (r ≡ 0 → ⊥) → faultAs r ≡ fault r
+fault-some zero n = absurd (n refl)
+fault-some (suc r) n = refl
+
+pub fault-none : (r : ℕ) → r ≡ 0 → faultAs r ≡ fine
+fault-none r e = ap faultAs e
+
+-- what is known where there is none
+module _ (i : List ℕ) (e : firstOf (attributeChecks (length i) (attributes i)) ≡ fine) where
+  passes : Passes i
+  passes = fine-all (attributeChecks (length i) (attributes i)) e
+
+  whole : WholeBlocks i
+  whole = let (blocks, least, most) = lengths 16 16 4096 (length i) (passes .0) in record { least = least; most = most; blocks = blocks }
+
+  pub fine-long : 16 ≤ length i
+  fine-long = whole .least
+
+  pub attested : (a : Attributes) → Says i a → Attests i a
+  attested a s = record {
+    nbw-is = s .nbw-is;
+    nmaxb-is = s .nmaxb-is;
+    ln-is = s .ln-is;
+    busy-is = s .busy-is;
+    writable-is = s .writable-is;
+    whole = whole;
+    reach = rw (s .nmaxb-is) (bounds i passes .reach);
+    ln-fits = rw (s .nmaxb-is, s .ln-is) (ln-fits i passes);
+  }
+
+-- ---- the answer
 
 -- a test that fails gives its refusal
 pub answer-refused : (i : List ℕ) (r : ℕ) → firstOf (attributeChecks (length i) (attributes i)) ≡ fault r → answerOf 0 (reading i) ≡ refusal r
