@@ -15,7 +15,7 @@ use Rattle.tag.specs.Reading.{being-written, empty, message, refusal, answer, a
 use Rattle.tag.proofs.Logic.{lengths}
 use Rattle.tag.proofs.Checks.{fine-all}
 use Rattle.type3.specs.declared.read.Attributes.{Attributes}
-use Rattle.type3.specs.Attributes.{attributes, attributeChecks, mayWrite}
+use Rattle.type3.specs.Attributes.{attributes, imageLength, attributeChecks, mayWrite}
 use Rattle.type3.specs.Message.{busy, view, viewBy, readingOf, reading}
 use Rattle.type3.specs.Views.{faultAs, WholeBlocks, Says, Attests, answerFor}
 use Rattle.type3.proofs.Message.{Passes, bounds, ln-fits, unread}
@@ -29,16 +29,24 @@ fault-some (suc r) n = refl
 pub fault-none : (r : ℕ) → r ≡ 0 → faultAs r ≡ fine
 fault-none r e = ap faultAs e
 
+pub whole-blocks : (i : List ℕ) → imageLength (length i) ≡ true → WholeBlocks i
+whole-blocks i e = let (blocks, least, most) = lengths 16 16 4096 (length i) e in record { least = least; most = most; blocks = blocks }
+
+-- the first test passes, or fails
+pub first-passed : (i : List ℕ) → imageLength (length i) ≡ true
+    → firstOf (drop 1 (attributeChecks (length i) (attributes i))) ≡ firstOf (attributeChecks (length i) (attributes i))
+first-passed i e = rw e
+
+pub first-failed : (i : List ℕ) → imageLength (length i) ≡ false → fault 1 ≡ firstOf (attributeChecks (length i) (attributes i))
+first-failed i e = rw e
+
 -- what is known where there is none
 module _ (i : List ℕ) (e : firstOf (attributeChecks (length i) (attributes i)) ≡ fine) where
   passes : Passes i
   passes = fine-all (attributeChecks (length i) (attributes i)) e
 
-  whole : WholeBlocks i
-  whole = let (blocks, least, most) = lengths 16 16 4096 (length i) (passes .0) in record { least = least; most = most; blocks = blocks }
-
   pub fine-long : 16 ≤ length i
-  fine-long = whole .least
+  fine-long = whole-blocks i (passes .0) .least
 
   pub attested : (a : Attributes) → Says i a → Attests i a
   attested a s = record {
@@ -47,7 +55,7 @@ module _ (i : List ℕ) (e : firstOf (attributeChecks (length i) (attributes i))
     ln-is = s .ln-is;
     busy-is = s .busy-is;
     writable-is = s .writable-is;
-    whole = whole;
+    whole = whole-blocks i (passes .0);
     reach = rw (s .nmaxb-is) (bounds i passes .reach);
     ln-fits = rw (s .nmaxb-is, s .ln-is) (ln-fits i passes);
   }

@@ -17,7 +17,7 @@ ghost use lib.ListN.{length, drop};
 ghost use Rattle.tag.specs.Checks.{firstOf};
 ghost use Rattle.tag.specs.Reading.{answer, answerOf, shown};
 ghost use Rattle.tag.specs.Answers.{whatOf, readAs};
-ghost use Rattle.type3.specs.Attributes.{attributes, flagsDefined, attributeChecks, mayWrite};
+ghost use Rattle.type3.specs.Attributes.{attributes, imageLength, flagsDefined, attributeChecks, mayWrite};
 ghost use Rattle.type3.specs.Message.{reading};
 ghost use Rattle.type3.specs.Views.{WholeBlocks, checkedAs, faultAs, Says, Known, reportAs, answerFor};
 
@@ -114,26 +114,32 @@ fn block_fault(image: &[u8]) -> u8
     size_fault(image)
 }
 
-// The first of the refusals 1 to 5 and 7; 0 if the tag passes all tests. A number, since an answer with the attributes would go
-// through memory, and reading takes each of them from a byte or two again in less.
-fn fault(image: &[u8]) -> u8
-    ensures { λ r. ⌜ faultAs r ≡ firstOf (attributeChecks (length (now (image .entry))) (attributes (now (image .entry)))) ⌝ }
+// Whether an image may have `n` bytes.
+fn is_whole(n: usize) -> bool
+    ensures { λ r. ⌜ r ≡ imageLength n ⌝ }
 {
-    let n = image.len();
     if n % 16 != 0 {
-        return 1;
+        return false;
     }
     if n < 16 {
-        return 1;
+        return false;
     }
-    if 4096 < n {
-        return 1;
+    n <= 4096
+}
+
+// The first of the refusals 1 to 5 and 7; 0 if the tag passes all tests. A number alone: the attributes beside it would be handed
+// on through memory, and `said` takes those that are asked for from block 0 again in less time.
+pub(crate) fn fault(image: &[u8]) -> u8
+    ensures { λ r. ⌜ faultAs r ≡ firstOf (attributeChecks (length (now (image .entry))) (attributes (now (image .entry)))) ⌝ }
+{
+    if is_whole(image.len()) {
+        return block_fault(image);
     }
-    block_fault(image)
+    1
 }
 
 // What block 0 says.
-fn said(image: &[u8]) -> Attributes
+pub(crate) fn said(image: &[u8]) -> Attributes
     requires { ⌜ 16 ≤ length (now image) ⌝ }
     ensures { λ r. ⌜ Says (now (image .entry)) r ⌝ }
 {
@@ -151,12 +157,16 @@ fn said(image: &[u8]) -> Attributes
     }
 }
 
-// The attributes, or the first of the refusals 1 to 5 and 7.
+// The attributes, or the first of the refusals 1 to 5 and 7. `fault` and `said` in one, for writing and judging, which take more
+// time than an answer through memory.
 pub fn attributes_of(image: &[u8]) -> Checked
     ensures is { λ r. ⌜ checkedAs r ≡ firstOf (attributeChecks (length (now (image .entry))) (attributes (now (image .entry)))) ⌝ }
     ensures known { λ r. ⌜ Known (now (image .entry)) r ⌝ }
 {
-    let refusal = fault(image);
+    if !is_whole(image.len()) {
+        return Checked::Fault(1);
+    }
+    let refusal = block_fault(image);
     if refusal != 0 {
         return Checked::Fault(refusal);
     }

@@ -1,20 +1,25 @@
 -- `read::fault` meets its contract. Assumes nothing.
+use mathlib.Core.Path.{sym, _∙_}
 use borrow.Author.Needs.{needs}
-use borrow.Author.Tests.{eq-eqb, ne-eqb, le-leb, lt-leb}
+use Rattle.type3.proofs.Reading.{whole-blocks, first-passed, first-failed}
 use Rattle.type3.proofs.read.fault.Statement.{statement}
 use Rattle.type3.proofs.read.fault.Tie as tie
 
+block-fault-requires : tie.Need-block-fault-requires
+block-fault-requires c κs =
+    let i = c .before .before .before .args .image .now in
+    whole-blocks i (sym (c .before .is-whole .ensures) ∙ c .if1 .taken)
+
 returns : tie.Need-returns
-returns c = rw (ne-eqb _ _ (c .if1 .taken))
+returns c =
+    let at-if1 = c .before in
+    let i = at-if1 .before .before .before .args .image .now in
+    c .block-fault .ensures ∙ first-passed i (sym (at-if1 .before .is-whole .ensures) ∙ at-if1 .if1 .taken)
 
 returns-2 : tie.Need-returns-2
-returns-2 c = rw (eq-eqb _ _ (c .before .if1 .left), lt-leb _ _ (c .if2 .taken))
-
-returns-3 : tie.Need-returns-3
-returns-3 c = rw (eq-eqb _ _ (c .before .before .if1 .left), le-leb _ _ (c .before .if2 .left), lt-leb _ _ (c .if3 .taken))
-
-returns-4 : tie.Need-returns-4
-returns-4 c = rw (eq-eqb _ _ (c .before .before .before .if1 .left), le-leb _ _ (c .before .before .if2 .left), le-leb _ _ (c .before .if3 .left)) (c .block-fault .ensures)
+returns-2 c =
+    let i = c .before .before .before .args .image .now in
+    first-failed i (sym (c .before .is-whole .ensures) ∙ c .if1 .left)
 
 pub fault-spec : {M : Type 1} → statement M
-fault-spec = tie.close (tie.spec returns returns-2 returns-3 (λ c κs. search needs) returns-4)
+fault-spec = tie.close (tie.spec (λ c κs. search needs) block-fault-requires returns returns-2)
