@@ -1,5 +1,5 @@
 //! The C interface, and all that is unsafe in this crate: every function below hands on pointers
-//! and lengths of slices and arrays that live through the call.
+//! and lengths of slices and arrays that live through the call, or reads through a reference.
 
 mod c {
     unsafe extern "C" {
@@ -95,6 +95,16 @@ mod c {
     }
 }
 
+/// The numbers that a call has just written, each by a load of its own. Left to itself the compiler
+/// fetches address and length together, and such a load, of what two stores wrote, waits for both to
+/// reach the cache: four nanoseconds, a quarter of a call that reads a Type 3 tag.
+#[inline]
+pub fn fetched(out: &[u64; 5]) -> [u64; 5] {
+    out.each_ref()
+        .map(|number| unsafe { std::ptr::read_volatile(number) })
+}
+
+#[inline]
 pub fn type2_read(image: &[u8], gathered: &mut [u8], out: &mut [u64; 5]) -> u64 {
     let (gathered, gathered_len) = (gathered.as_mut_ptr(), gathered.len());
     let out = out.as_mut_ptr();
@@ -127,6 +137,7 @@ pub fn type2_judge(image: &[u8], message: &[u8], list: &[u8]) -> u64 {
     }
 }
 
+#[inline]
 pub fn type2_model(image: &mut [u8], command: &[u8]) -> u64 {
     let (image, image_len) = (image.as_mut_ptr(), image.len());
     unsafe { c::zan_type2_model(image, image_len, command.as_ptr(), command.len()) }
@@ -142,6 +153,7 @@ pub fn type2_decode(bytes: &[u8], blocks: u64, block: &mut u64, data: &mut [u8; 
     unsafe { c::zan_type2_decode(bytes.as_ptr(), bytes.len(), blocks, block, data) }
 }
 
+#[inline]
 pub fn type3_read(image: &[u8], out: &mut [u64; 5]) -> u64 {
     unsafe { c::zan_type3_read(image.as_ptr(), image.len(), out.as_mut_ptr()) }
 }
@@ -174,6 +186,7 @@ pub fn type3_judge(image: &[u8], message: &[u8], number: &[u8; 8], list: &[u8]) 
     }
 }
 
+#[inline]
 pub fn type3_model(image: &mut [u8], number: &[u8; 8], command: &[u8]) -> u64 {
     unsafe {
         c::zan_type3_model(

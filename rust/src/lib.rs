@@ -244,32 +244,42 @@ pub fn message<'a>(image: &'a [u8], gathered: &'a [u8], report: &Report) -> &'a 
 }
 
 /// An answer of the C interface: the count, or the refusal.
+#[inline]
 fn answer(answer: u64) -> Result<usize, Refusal> {
-    let (number, rest) = ((answer % 256) as u8, (answer / 256) as usize);
-    if number == 0 {
-        return Ok(rest);
+    if answer % 256 == 0 {
+        return Ok((answer / 256) as usize);
     }
+    Err(refused(answer))
+}
+
+/// The refusal that an answer gives; apart from `answer`, so that this stays short where nothing
+/// is refused.
+#[cold]
+fn refused(answer: u64) -> Refusal {
+    let number = (answer % 256) as u8;
     match RefusalNumber::from_number(number) {
-        Some(number) => Err(Refusal {
+        Some(number) => Refusal {
             number,
-            position: rest,
-        }),
+            position: (answer / 256) as usize,
+        },
         None => panic!("libcapi.a answered {number}, which is no refusal number"),
     }
 }
 
 /// What the C interface reports of a tag.
-fn report(out: [u64; 5]) -> Report {
+#[inline]
+fn report(out: &[u64; 5]) -> Report {
+    let [reading, address, length, interrupted, writable] = ffi::fetched(out);
     Report {
-        reading: match out[0] {
+        reading: match reading {
             1 => Reading::Message,
             2 => Reading::Empty,
             3 => Reading::BeingWritten,
             other => panic!("libcapi.a answered {other}, which is no reading"),
         },
-        address: out[1] as usize,
-        length: out[2] as usize,
-        interrupted: out[3] != 0,
-        writable: out[4] != 0,
+        address: address as usize,
+        length: length as usize,
+        interrupted: interrupted != 0,
+        writable: writable != 0,
     }
 }

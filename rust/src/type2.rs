@@ -34,10 +34,11 @@ pub struct Command {
 /// assert!(report.writable && !report.interrupted);
 /// # Ok::<(), zanfirotta::Refusal>(())
 /// ```
+#[inline]
 pub fn read(image: &[u8], gathered: &mut [u8]) -> Result<Report, Refusal> {
     let mut out = [0; 5];
     answer(ffi::type2_read(image, gathered, &mut out))?;
-    Ok(report(out))
+    Ok(report(&out))
 }
 
 /// Puts the commands that write `message` end to end into `list`; answers how many they are.
@@ -97,6 +98,7 @@ pub fn judge(image: &[u8], message: &[u8], list: &[u8]) -> Result<usize, Refusal
 /// assert_eq!(image[20..24], [1, 2, 3, 4]);
 /// # Ok::<(), zanfirotta::Refusal>(())
 /// ```
+#[inline]
 pub fn model(image: &mut [u8], command: &[u8]) -> Result<(), Refusal> {
     answer(ffi::type2_model(image, command)).map(|_| ())
 }

@@ -82,10 +82,11 @@ impl Command {
 /// assert_eq!(zanfirotta::message(&image, &[], &report), [0; 35]);
 /// # Ok::<(), zanfirotta::Refusal>(())
 /// ```
+#[inline]
 pub fn read(image: &[u8]) -> Result<Report, Refusal> {
     let mut out = [0; 5];
     answer(ffi::type3_read(image, &mut out))?;
-    Ok(report(out))
+    Ok(report(&out))
 }
 
 /// Puts the commands that write `message` end to end into `list`; answers how many they are.
@@ -155,6 +156,7 @@ pub fn judge(
 /// assert_eq!(image[48..64], [9; 16]);
 /// # Ok::<(), zanfirotta::Refusal>(())
 /// ```
+#[inline]
 pub fn model(image: &mut [u8], number: &[u8; 8], command: &[u8]) -> Result<(), Refusal> {
     answer(ffi::type3_model(image, number, command)).map(|_| ())
 }

@@ -22,16 +22,17 @@ pub fn word(bytes: &[u8], at: usize) -> usize
     256 * wide(bytes[at]) + wide(bytes[at + 1])
 }
 
-// The sum of the first `n` bytes; of few enough that no caller has to think of overflow.
-pub fn sum(bytes: &[u8], n: usize) -> usize
+// The sum of the first `n` bytes; of few enough that no caller has to think of overflow. In sixteen bits, of which the compiler
+// does eight at once.
+pub fn sum(bytes: &[u8], n: usize) -> u16
     requires { ⌜ (n ≤ length (now bytes)) × (n ≤ 16) ⌝ }
     ensures is { λ r. ⌜ r ≡ sumTo (now (bytes .entry)) n ⌝ }
     ensures small { λ r. ⌜ r ≤ 255 * n ⌝ }
 {
-    let mut total = 0usize;
+    let mut total = 0u16;
     let mut k = 0usize;
     while k < n {
-        total += wide(bytes[k]);
+        total += wide(bytes[k]) as u16;
         k += 1;
     }
     total

@@ -13,14 +13,9 @@ use Rattle.type3.specs.declared.read.Attributes.{Attributes}
 use Rattle.type3.specs.Attributes.{attributes, attributeChecks, mayWrite}
 use Rattle.type3.specs.Update.{fits, plan}
 use Rattle.type3.specs.Type3.{type3}
-use Rattle.type3.specs.Views.{Readable}
+use Rattle.type3.specs.Views.{faultAs, Readable}
 use Rattle.type3.specs.Space.{refusalFor}
 use Rattle.type3.proofs.Message.{unread, passes-reads, reads-writable}
-
--- a refusal as the checks have it; 0 is none
-abbrev checked : ℕ → Checked
-checked zero = fine
-checked (suc r) = fault (suc r)
 
 module _ (number i m : List ℕ) where
   pub writing-unread : (r : ℕ) → firstOf (attributeChecks (length i) (attributes i)) ≡ fault r → writing (type3 number) i m ≡ unwritten r
@@ -38,23 +33,23 @@ module _ (number i m : List ℕ) where
       ap (writingBy (type3 number) i m) q ∙ rw (reads-writable i p q)
 
   module _ (a : Attributes) (known : Readable i a) where
-    left-is : left ≡ checked (refusalFor a (length m))
-    left-is = rw (known .known .writable-is, known .known .nmaxb-is) (go (eqb (length m) 0) (mayWrite i) (fits i (length m)))
+    left-is : left ≡ faultAs (refusalFor a (length m))
+    left-is = rw (known .known .says .writable-is, known .known .says .nmaxb-is) (go (eqb (length m) 0) (mayWrite i) (fits i (length m)))
       where
         go : (none may room : Bool)
             → firstOf (check (not none) nothing-to-write ∷ check may not-writable ∷ check room too-long ∷ [])
-            ≡ checked (cond none nothing-to-write (cond may (cond room 0 too-long) not-writable))
+            ≡ faultAs (cond none nothing-to-write (cond may (cond room 0 too-long) not-writable))
         go true may room = refl
         go false false room = refl
         go false true false = refl
         go false true true = refl
 
     pub writing-refused : (r : ℕ) → r ≡ refusalFor a (length m) → (r ≡ 0 → ⊥) → writing (type3 number) i m ≡ unwritten r
-    writing-refused r e n = writing-left (known .passes) ∙ ap (planned (plan i m)) (left-is ∙ ap checked (sym e)) ∙ go r n
+    writing-refused r e n = writing-left (known .passes) ∙ ap (planned (plan i m)) (left-is ∙ ap faultAs (sym e)) ∙ go r n
       where
-        go : (r : ℕ) → (r ≡ 0 → ⊥) → planned (plan i m) (checked r) ≡ unwritten r
+        go : (r : ℕ) → (r ≡ 0 → ⊥) → planned (plan i m) (faultAs r) ≡ unwritten r
         go zero h = absurd (h refl)
         go (suc r) h = refl
 
     pub writing-planned : (r : ℕ) → r ≡ refusalFor a (length m) → r ≡ 0 → writing (type3 number) i m ≡ written (plan i m)
-    writing-planned r e z = writing-left (known .passes) ∙ ap (planned (plan i m)) (left-is ∙ ap checked (sym e ∙ z))
+    writing-planned r e z = writing-left (known .passes) ∙ ap (planned (plan i m)) (left-is ∙ ap faultAs (sym e ∙ z))

@@ -12,11 +12,51 @@ use lib.Seq.{length-take-le}
 use Rattle.tag.specs.Bytes.{byte}
 use Rattle.tag.specs.Checks.{fine, fault, firstOf}
 use Rattle.tag.specs.Reading.{being-written, empty, message, refusal, answer, answerOf}
+use Rattle.tag.proofs.Logic.{lengths}
+use Rattle.tag.proofs.Checks.{fine-all}
 use Rattle.type3.specs.declared.read.Attributes.{Attributes}
-use Rattle.type3.specs.Attributes.{attributes, attributeChecks, mayWrite}
+use Rattle.type3.specs.Attributes.{attributes, imageLength, attributeChecks, mayWrite}
 use Rattle.type3.specs.Message.{busy, view, viewBy, readingOf, reading}
-use Rattle.type3.specs.Views.{Attests, answerFor}
-use Rattle.type3.proofs.Message.{unread}
+use Rattle.type3.specs.Views.{faultAs, WholeBlocks, Says, Attests, answerFor}
+use Rattle.type3.proofs.Message.{Passes, bounds, ln-fits, unread}
+
+-- ---- the number of the first test that fails
+
+pub fault-some : (r : ℕ) → (r ≡ 0 → ⊥) → faultAs r ≡ fault r
+fault-some zero n = absurd (n refl)
+fault-some (suc r) n = refl
+
+pub fault-none : (r : ℕ) → r ≡ 0 → faultAs r ≡ fine
+fault-none r e = ap faultAs e
+
+pub whole-blocks : (i : List ℕ) → imageLength (length i) ≡ true → WholeBlocks i
+whole-blocks i e = let (blocks, least, most) = lengths 16 16 4096 (length i) e in record { least = least; most = most; blocks = blocks }
+
+-- the first test passes, or fails
+pub first-passed : (i : List ℕ) → imageLength (length i) ≡ true
+    → firstOf (drop 1 (attributeChecks (length i) (attributes i))) ≡ firstOf (attributeChecks (length i) (attributes i))
+first-passed i e = rw e
+
+pub first-failed : (i : List ℕ) → imageLength (length i) ≡ false → fault 1 ≡ firstOf (attributeChecks (length i) (attributes i))
+first-failed i e = rw e
+
+-- what is known where there is none
+module _ (i : List ℕ) (e : firstOf (attributeChecks (length i) (attributes i)) ≡ fine) where
+  passes : Passes i
+  passes = fine-all (attributeChecks (length i) (attributes i)) e
+
+  pub fine-long : 16 ≤ length i
+  fine-long = whole-blocks i (passes .0) .least
+
+  pub attested : (a : Attributes) → Says i a → Attests i a
+  attested a s = record {
+    says = s;
+    whole = whole-blocks i (passes .0);
+    reach = rw (s .nmaxb-is) (bounds i passes .reach);
+    ln-fits = rw (s .nmaxb-is, s .ln-is) (ln-fits i passes);
+  }
+
+-- ---- the answer
 
 -- a test that fails gives its refusal
 pub answer-refused : (i : List ℕ) (r : ℕ) → firstOf (attributeChecks (length i) (attributes i)) ≡ fault r → answerOf 0 (reading i) ≡ refusal r
@@ -26,7 +66,7 @@ answer-refused i r e = ap (answerOf 0) (unread i r e)
 pub answer-known : (i : List ℕ) (a : Attributes) → firstOf (attributeChecks (length i) (attributes i)) ≡ fine → Attests i a
     → answerFor a ≡ answerOf 0 (reading i)
 unfolding reading viewBy
-answer-known i a e k = rw (e, k .busy-is, k .writable-is, k .ln-is) (go (eqb (byte i 9) 0x0F) (attributes i .ln) (omega (arith, k .reach, k .ln-fits, k .ln-is)))
+answer-known i a e k = rw (e, k .says .busy-is, k .says .writable-is, k .says .ln-is) (go (eqb (byte i 9) 0x0F) (attributes i .ln) (omega (arith, k .reach, k .ln-fits, k .says .ln-is)))
   where
     w : Bool
     w = mayWrite i

@@ -3,7 +3,7 @@
 use mathlib.Core.Path.{_≡_}
 use mathlib.Core.Bool.{false, cond}
 use mathlib.Core.List.{List}
-use Prim.Native.Nat.{ℕ, _+_, _*_, _%_, _≤_}
+use Prim.Native.Nat.{ℕ, zero, suc, _+_, _*_, _%_, _≤_}
 use lib.Dec.{eqb}
 use lib.ListN.{length}
 use Rattle.tag.specs.declared.Report.{Report}
@@ -22,19 +22,28 @@ abbrev pub checkedAs : code.Checked → Checked
 checkedAs (checked.Fault r) = fault r
 checkedAs (checked.Fine a) = fine
 
+-- a refusal as the checks have it; 0 is none
+abbrev pub faultAs : ℕ → Checked
+faultAs zero = fine
+faultAs (suc r) = fault (suc r)
+
 -- a whole number of blocks, 16 to 4,096 bytes
 pub record WholeBlocks (i : List ℕ) : Type 0 where
   pub least : 16 ≤ length i
   pub most : length i ≤ 4096
   pub blocks : length i % 16 ≡ 0
 
--- what the code's attributes are, and the bounds that the tests have shown
-pub record Attests (i : List ℕ) (a : Attributes) : Type 0 where
+-- what the code's attributes are
+pub record Says (i : List ℕ) (a : Attributes) : Type 0 where
   pub nbw-is : a .nbw ≡ byte i 2
   pub nmaxb-is : a .nmaxb ≡ nmaxbOf i
   pub ln-is : a .ln ≡ attributes i .ln
   pub busy-is : a .busy ≡ eqb (byte i 9) 0x0F
   pub writable-is : a .writable ≡ mayWrite i
+
+-- and the bounds that the tests have shown
+pub record Attests (i : List ℕ) (a : Attributes) : Type 0 where
+  pub says : Says i a
   pub whole : WholeBlocks i
   pub reach : 16 * (1 + a .nmaxb) ≤ length i
   pub ln-fits : a .ln ≤ 16 * a .nmaxb

@@ -2,7 +2,6 @@
 
 use crate::commands;
 use crate::read;
-use crate::read::Checked;
 use crate::stores;
 use tag::Address;
 use tag::ModelAnswer;
@@ -42,16 +41,15 @@ pub fn take_command(
 pub fn model(image: &mut [u8], number: &[u8; 8], command: &[u8]) -> ModelAnswer
     ensures { λ r. ⌜ Took (type3 (now (number .entry))) (now (image .entry)) (now (command .entry)) r (now (image .exit)) ⌝ }
 {
-    let checked = read::attributes_of(image);
-    match checked {
-        Checked::Fault(n) => ModelAnswer::Refused(n),
-        Checked::Fine(a) => {
-            let nbw = a.nbw;
-            let nmaxb = a.nmaxb;
-            if take_command(image, number, command, nbw, nmaxb) {
-                return ModelAnswer::Stored;
-            }
-            ModelAnswer::Refused(20)
-        }
+    let refusal = read::fault(image);
+    if refusal != 0 {
+        return ModelAnswer::Refused(refusal);
     }
+    let attributes = read::said(image);
+    let nbw = attributes.nbw;
+    let nmaxb = attributes.nmaxb;
+    if take_command(image, number, command, nbw, nmaxb) {
+        return ModelAnswer::Stored;
+    }
+    ModelAnswer::Refused(20)
 }

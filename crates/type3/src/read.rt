@@ -17,9 +17,9 @@ ghost use lib.ListN.{length, drop};
 ghost use Rattle.tag.specs.Checks.{firstOf};
 ghost use Rattle.tag.specs.Reading.{answer, answerOf, shown};
 ghost use Rattle.tag.specs.Answers.{whatOf, readAs};
-ghost use Rattle.type3.specs.Attributes.{attributes, flagsDefined, attributeChecks, mayWrite};
+ghost use Rattle.type3.specs.Attributes.{attributes, imageLength, flagsDefined, attributeChecks, mayWrite};
 ghost use Rattle.type3.specs.Message.{reading};
-ghost use Rattle.type3.specs.Views.{WholeBlocks, checkedAs, Known, reportAs, answerFor};
+ghost use Rattle.type3.specs.Views.{WholeBlocks, checkedAs, faultAs, Says, Known, reportAs, answerFor};
 
 // What block 0 says of a tag that passes the tests.
 pub struct Attributes {
@@ -73,67 +73,105 @@ fn may_write(image: &[u8]) -> bool
     1 <= image[2]
 }
 
-// Refusals 5 and 7, or the attributes.
-fn sized(image: &[u8]) -> Checked
+// Ln, of three bytes.
+fn ln_of(image: &[u8]) -> usize
+    requires { ⌜ 16 ≤ length (now image) ⌝ }
+    ensures { λ r. ⌜ r ≡ attributes (now (image .entry)) .ln ⌝ }
+{
+    65536 * numbers::wide(image[11]) + numbers::word(image, 12)
+}
+
+// Refusals 5 and 7; 0 for neither.
+fn size_fault(image: &[u8]) -> u8
     requires { ⌜ WholeBlocks (now image) ⌝ }
-    ensures is { λ r. ⌜ checkedAs r ≡ firstOf (drop 4 (attributeChecks (length (now (image .entry))) (attributes (now (image .entry))))) ⌝ }
-    ensures known { λ r. ⌜ Known (now (image .entry)) r ⌝ }
+    ensures { λ r. ⌜ faultAs r ≡ firstOf (drop 4 (attributeChecks (length (now (image .entry))) (attributes (now (image .entry))))) ⌝ }
 {
     let nmaxb = numbers::word(image, 3);
     let end = Block(1 + nmaxb).address(16);
     if image.len() < end.0 {
-        return Checked::Fault(5);
+        return 5;
     }
-    let ln = 65536 * numbers::wide(image[11]) + numbers::word(image, 12);
-    if 16 * nmaxb < ln {
-        return Checked::Fault(7);
+    if 16 * nmaxb < ln_of(image) {
+        return 7;
     }
+    0
+}
+
+// Refusals 2 to 4, and then those of `size_fault`.
+fn block_fault(image: &[u8]) -> u8
+    requires { ⌜ WholeBlocks (now image) ⌝ }
+    ensures { λ r. ⌜ faultAs r ≡ firstOf (drop 1 (attributeChecks (length (now (image .entry))) (attributes (now (image .entry))))) ⌝ }
+{
+    if numbers::sum(image, 14) != numbers::word(image, 14) as u16 {
+        return 2;
+    }
+    if !version::is_known(image[0]) {
+        return 3;
+    }
+    if !flags_defined(image) {
+        return 4;
+    }
+    size_fault(image)
+}
+
+// Whether an image may have `n` bytes.
+fn is_whole(n: usize) -> bool
+    ensures { λ r. ⌜ r ≡ imageLength n ⌝ }
+{
+    if n % 16 != 0 {
+        return false;
+    }
+    if n < 16 {
+        return false;
+    }
+    n <= 4096
+}
+
+// The first of the refusals 1 to 5 and 7; 0 if the tag passes all tests. A number alone: the attributes beside it would be handed
+// on through memory, and `said` takes those that are asked for from block 0 again in less time.
+pub(crate) fn fault(image: &[u8]) -> u8
+    ensures { λ r. ⌜ faultAs r ≡ firstOf (attributeChecks (length (now (image .entry))) (attributes (now (image .entry)))) ⌝ }
+{
+    if is_whole(image.len()) {
+        return block_fault(image);
+    }
+    1
+}
+
+// What block 0 says.
+pub(crate) fn said(image: &[u8]) -> Attributes
+    requires { ⌜ 16 ≤ length (now image) ⌝ }
+    ensures { λ r. ⌜ Says (now (image .entry)) r ⌝ }
+{
     let nbw = numbers::wide(image[2]);
+    let nmaxb = numbers::word(image, 3);
+    let ln = ln_of(image);
     let busy = image[9] == 0x0F;
     let writable = may_write(image);
-    Checked::Fine(Attributes {
+    Attributes {
         nbw,
         nmaxb,
         ln,
         busy,
         writable,
-    })
+    }
 }
 
-// Refusals 2 to 4, and then those of `sized`.
-fn defined(image: &[u8]) -> Checked
-    requires { ⌜ WholeBlocks (now image) ⌝ }
-    ensures is { λ r. ⌜ checkedAs r ≡ firstOf (drop 1 (attributeChecks (length (now (image .entry))) (attributes (now (image .entry))))) ⌝ }
-    ensures known { λ r. ⌜ Known (now (image .entry)) r ⌝ }
-{
-    if numbers::sum(image, 14) != numbers::word(image, 14) {
-        return Checked::Fault(2);
-    }
-    if !version::is_known(image[0]) {
-        return Checked::Fault(3);
-    }
-    if !flags_defined(image) {
-        return Checked::Fault(4);
-    }
-    sized(image)
-}
-
-// The attributes, or the first of the refusals 1 to 5 and 7.
+// The attributes, or the first of the refusals 1 to 5 and 7. `fault` and `said` in one, for writing and judging, which take more
+// time than an answer through memory.
 pub fn attributes_of(image: &[u8]) -> Checked
     ensures is { λ r. ⌜ checkedAs r ≡ firstOf (attributeChecks (length (now (image .entry))) (attributes (now (image .entry)))) ⌝ }
     ensures known { λ r. ⌜ Known (now (image .entry)) r ⌝ }
 {
-    let n = image.len();
-    if n % 16 != 0 {
+    if !is_whole(image.len()) {
         return Checked::Fault(1);
     }
-    if n < 16 {
-        return Checked::Fault(1);
+    let refusal = block_fault(image);
+    if refusal != 0 {
+        return Checked::Fault(refusal);
     }
-    if 4096 < n {
-        return Checked::Fault(1);
-    }
-    defined(image)
+    let attributes = said(image);
+    Checked::Fine(attributes)
 }
 
 // What the attributes say of a message.
@@ -175,11 +213,12 @@ fn without(what: What, writable: bool) -> Report
 pub fn read(image: &[u8]) -> ReadAnswer
     ensures { λ r. ⌜ readAs r ≡ answerOf 0 (reading (now (image .entry))) ⌝ }
 {
-    let checked = attributes_of(image);
-    match checked {
-        Checked::Fault(n) => ReadAnswer::Refused(n),
-        Checked::Fine(a) => ReadAnswer::Reads(report(a)),
+    let refusal = fault(image);
+    if refusal != 0 {
+        return ReadAnswer::Refused(refusal);
     }
+    let attributes = said(image);
+    ReadAnswer::Reads(report(attributes))
 }
 
 // The message as a part of the image; empty without one, after a refusal, and where the answer's numbers do not fit or it claims

@@ -11,6 +11,17 @@ ghost use Rattle.tag.specs.Bytes.{byte};
 ghost use Rattle.tag.specs.Stores.{puts};
 ghost use Rattle.type3.specs.Model.{Storable, storesFrom};
 
+// Stores sixteen bytes of `from` in `to`. They go through an array of this function's own, which lies apart from both slices as the
+// compiler knows: it makes one load and one store of them.
+fn store_sixteen(from: &[u8], f: usize, to: &mut [u8], at: usize)
+    requires { ⌜ (f + 16 ≤ length (now from)) × (at + 16 ≤ length (now to)) ⌝ }
+    ensures { λ _. ⌜ now (to .exit) ≡ sets (now (to .entry)) at (take 16 (drop f (now (from .entry)))) ⌝ }
+{
+    let mut sixteen = [0u8; 16];
+    slices::store(&from[f..f + 16], 0, &mut sixteen);
+    slices::store(&sixteen, at, to);
+}
+
 // Stores block `k` of the `count` blocks that the command names.
 fn store_block(command: &[u8], count: usize, k: usize, image: &mut [u8])
     requires { ⌜ (count ≤ 8) × (k < count) × (13 + 18 * count ≤ length (now command)) × (16 * byte (now command) (14 + 2 * k) + 16 ≤ length (now image)) ⌝ }
@@ -20,7 +31,7 @@ fn store_block(command: &[u8], count: usize, k: usize, image: &mut [u8])
     let at = Block(block).address(16);
     let start = at.0;
     let from = 13 + 2 * count + 16 * k;
-    slices::store(&command[from..from + 16], start, image);
+    store_sixteen(command, from, image, start);
 }
 
 // Stores every block that the command names, protected or not.

@@ -71,7 +71,7 @@ fn put_attribute_block(image: &[u8], flag: u8, ln: usize, out: &mut [u8])
     let high = ln / 65536;
     let mid = ln / 256 % 256;
     let low = ln % 256;
-    let sum = numbers::sum(image, 9)
+    let sum = numbers::sum(image, 9) as usize
         + numbers::wide(image[10])
         + numbers::wide(flag)
         + high

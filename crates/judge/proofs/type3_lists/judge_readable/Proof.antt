@@ -34,8 +34,8 @@ judge-writable-requires c κs =
     let planned = writing-planned (a .idm .now) i m (a .a) (s .pre) _ (at-refusal .refusal .ensures) (at-if .if1 .left) in
     let ready = written-ready (type3 (a .idm .now)) i m (plan i m) planned .0 in
     record {
-      attested = record { nbw-is = k .nbw-is; nmaxb-is = k .nmaxb-is; reach = k .reach; most = k .whole .most };
-      protects = omega (arith, k .nmaxb-is, leb-true (length m) (16 * nmaxbOf i) (ready .room));
+      attested = record { nbw-is = k .says .nbw-is; nmaxb-is = k .says .nmaxb-is; reach = k .reach; most = k .whole .most };
+      protects = omega (arith, k .says .nmaxb-is, leb-true (length m) (16 * nmaxbOf i) (ready .room));
       reads = ready-reads (type3 (a .idm .now)) i m ready;
     }
 

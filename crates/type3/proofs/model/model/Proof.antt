@@ -1,5 +1,5 @@
 -- `model::model` meets its contract. Assumes nothing.
-use mathlib.Core.Path.{sym, ap, subst, _∙_}
+use mathlib.Core.Path.{sym, ap, _∙_}
 use borrow.Author.Needs.{needs}
 use lib.ListN.{length}
 use Rattle.tag.specs.Bytes.{byte}
@@ -9,43 +9,63 @@ use Rattle.tag.specs.Model.{imageAfter}
 use Rattle.type3.specs.Attributes.{nmaxbOf}
 use Rattle.type3.specs.Codec.{decode, commandOf}
 use Rattle.type3.specs.CodecViews.{isCommand}
-use Rattle.type3.specs.Views.{checkedAs, Known}
+use Rattle.type3.proofs.Reading.{fault-some, fault-none, fine-long, attested}
 use Rattle.type3.proofs.Modelling.{decode-by, ill-command, model-refused, model-ill, model-stored}
 use Rattle.type3.proofs.model.model.Statement.{statement}
 use Rattle.type3.proofs.model.model.Tie as tie
 
 returns : tie.Need-returns
 returns c =
-    let a = c .before .before .before .before .before .before .before .before .before .before .before .before .args in
+    let at-fault = c .before in
+    let a = at-fault .before .before .before .before .args in
     let i = a .image .now in
-    let r = c .before .before .before .before .before .before .checked2 .given in
-    let tests = c .before .before .before .before .before .before .before .before .attributes-of .ensures in
-    let known = subst (Known i) (r .1) (tests .1) in
-    let t = c .before .before .before .take-command .ensures in
-    let e = decode-by (length i) (a .number .now) (r .0 .0 .nbw) (r .0 .0 .nmaxb) (a .command .now) i (known .nbw-is) (known .nmaxb-is) (known .reach) in
-    let m = model-stored (a .number .now) i (a .command .now) (sym (tests .0) ∙ ap checkedAs (r .1)) (ap isCommand (sym e) ∙ sym (t .0) ∙ c .if1 .taken) in
-    (sym (ap storingOf m), t .1 ∙ ap (λ d. done i (commandOf d)) e ∙ sym (ap (imageAfter i) m))
+    let e = model-refused (a .number .now) i (a .command .now) (at-fault .fault .result) (sym (at-fault .fault .ensures) ∙ fault-some _ (c .if1 .taken)) in
+    (sym (ap storingOf e), sym (ap (imageAfter i) e))
+
+said-requires : tie.Need-said-requires
+said-requires c κs =
+    let at-if1 = c .before in
+    let at-fault = at-if1 .before in
+    let i = at-fault .before .before .before .before .args .image .now in
+    fine-long i (sym (at-fault .fault .ensures) ∙ fault-none _ (at-if1 .if1 .left))
 
 returns-2 : tie.Need-returns-2
 returns-2 c =
-    let a = c .before .before .before .before .before .before .before .args in
+    let at-take = c .before .before .before in
+    let at-said = at-take .before .before in
+    let at-if1 = at-said .before .before in
+    let at-fault = at-if1 .before in
+    let a = at-fault .before .before .before .before .args in
     let i = a .image .now in
-    let r = c .before .checked .given in
-    let e = model-refused (a .number .now) i (a .command .now) (r .0 .0) (sym (c .before .before .before .attributes-of .ensures .0) ∙ ap checkedAs (r .1)) in
-    (sym (ap storingOf e), sym (ap (imageAfter i) e))
+    let passes = sym (at-fault .fault .ensures) ∙ fault-none _ (at-if1 .if1 .left) in
+    let said = at-said .said .result in
+    let known = attested i passes said (at-said .said .ensures) in
+    let t = at-take .take-command .ensures in
+    let e = decode-by (length i) (a .number .now) (said .nbw) (said .nmaxb) (a .command .now) i (known .nbw-is) (known .nmaxb-is) (known .reach) in
+    let m = model-stored (a .number .now) i (a .command .now) passes (ap isCommand (sym e) ∙ sym (t .0) ∙ c .if2 .taken) in
+    (sym (ap storingOf m), t .1 ∙ ap (λ d. done i (commandOf d)) e ∙ sym (ap (imageAfter i) m))
 
 returns-3 : tie.Need-returns-3
 returns-3 c =
-    let a = c .before .before .before .before .before .before .before .before .before .before .before .before .args in
+    let at-take = c .before .before .before in
+    let at-said = at-take .before .before in
+    let at-if1 = at-said .before .before in
+    let at-fault = at-if1 .before in
+    let a = at-fault .before .before .before .before .args in
     let i = a .image .now in
-    let r = c .before .before .before .before .before .before .checked2 .given in
-    let tests = c .before .before .before .before .before .before .before .before .attributes-of .ensures in
-    let known = subst (Known i) (r .1) (tests .1) in
-    let t = c .before .before .before .take-command .ensures in
-    let e = decode-by (length i) (a .number .now) (r .0 .0 .nbw) (r .0 .0 .nmaxb) (a .command .now) i (known .nbw-is) (known .nmaxb-is) (known .reach) in
-    let q = ap isCommand (sym e) ∙ sym (t .0) ∙ c .if1 .left in
-    let m = model-ill (a .number .now) i (a .command .now) (sym (tests .0) ∙ ap checkedAs (r .1)) q in
-    (sym (ap storingOf m), t .1 ∙ ap (λ d. done i (commandOf d)) e ∙ ap (done i) (ill-command (decode (a .number .now) (byte i 2) (nmaxbOf i) (a .command .now)) q) ∙ sym (ap (imageAfter i) m))
+    let passes = sym (at-fault .fault .ensures) ∙ fault-none _ (at-if1 .if1 .left) in
+    let said = at-said .said .result in
+    let known = attested i passes said (at-said .said .ensures) in
+    let t = at-take .take-command .ensures in
+    let e = decode-by (length i) (a .number .now) (said .nbw) (said .nmaxb) (a .command .now) i (known .nbw-is) (known .nmaxb-is) (known .reach) in
+    let q = ap isCommand (sym e) ∙ sym (t .0) ∙ c .if2 .left in
+    let m = model-ill (a .number .now) i (a .command .now) passes q in (
+      sym (ap storingOf m),
+      t .1
+          ∙ ap (λ d. done i (commandOf d)) e
+          ∙ ap (done i) (ill-command (decode (a .number .now) (byte i 2) (nmaxbOf i) (a .command .now)) q)
+          ∙ sym (ap (imageAfter i) m),
+    )
 
 pub model-spec : {M : Type 1} → statement M
 model-spec =
@@ -53,10 +73,9 @@ model-spec =
     (tie.spec
     (λ c κs. search needs)
     (λ c. search needs)
-    (λ c. search needs)
-    (λ c κs. search needs)
-    (λ c. search needs)
     returns
+    said-requires
+    (λ c κs. search needs)
     (λ c. search needs)
     returns-2
     (λ c. search needs)

@@ -1,23 +1,44 @@
 -- `read::attributes_of` meets its contract. Assumes nothing.
+use mathlib.Core.Path.{sym, _∙_}
 use borrow.Author.Needs.{needs}
-use borrow.Author.Tests.{eq-eqb, ne-eqb, le-leb, lt-leb}
+use borrow.Author.Tests.{not-true, not-false}
+use Rattle.type3.proofs.Reading.{fault-some, fault-none, whole-blocks, first-passed, first-failed, attested}
 use Rattle.type3.proofs.read.attributes_of.Statement.{statement}
 use Rattle.type3.proofs.read.attributes_of.Tie as tie
 
 returns : tie.Need-returns
-returns c = (rw (ne-eqb _ _ (c .if1 .taken)), tt)
+returns c =
+    let i = c .before .before .before .args .image .now in
+    (first-failed i (sym (c .before .is-whole .ensures) ∙ not-true _ (c .if1 .taken)), tt)
+
+block-fault-requires : tie.Need-block-fault-requires
+block-fault-requires c κs =
+    let i = c .before .before .before .args .image .now in
+    whole-blocks i (sym (c .before .is-whole .ensures) ∙ not-false _ (c .if1 .left))
 
 returns-2 : tie.Need-returns-2
-returns-2 c = (rw (eq-eqb _ _ (c .before .if1 .left), lt-leb _ _ (c .if2 .taken)), tt)
+returns-2 c =
+    let at-if1 = c .before .before in
+    let i = at-if1 .before .before .before .args .image .now in
+    let whole = sym (at-if1 .before .is-whole .ensures) ∙ not-false _ (at-if1 .if1 .left) in
+    (sym (fault-some _ (c .if2 .taken)) ∙ c .before .block-fault .ensures ∙ first-passed i whole, tt)
+
+said-requires : tie.Need-said-requires
+said-requires c κs =
+    let at-if1 = c .before .before in
+    let i = at-if1 .before .before .before .args .image .now in
+    whole-blocks i (sym (at-if1 .before .is-whole .ensures) ∙ not-false _ (at-if1 .if1 .left)) .least
 
 returns-3 : tie.Need-returns-3
-returns-3 c = (rw (eq-eqb _ _ (c .before .before .if1 .left), le-leb _ _ (c .before .if2 .left), lt-leb _ _ (c .if3 .taken)), tt)
-
-returns-4 : tie.Need-returns-4
-returns-4 c = (
-  rw (eq-eqb _ _ (c .before .before .before .if1 .left), le-leb _ _ (c .before .before .if2 .left), le-leb _ _ (c .before .if3 .left)) (c .defined .ensures .0),
-  c .defined .ensures .1,
-)
+returns-3 c =
+    let at-if2 = c .before in
+    let at-if1 = at-if2 .before .before in
+    let i = at-if1 .before .before .before .args .image .now in
+    let whole = sym (at-if1 .before .is-whole .ensures) ∙ not-false _ (at-if1 .if1 .left) in
+    let passes = sym (at-if2 .before .block-fault .ensures ∙ first-passed i whole) ∙ fault-none _ (at-if2 .if2 .left) in
+    (sym passes, attested i passes (c .said .result) (c .said .ensures))
 
 pub attributes-of-spec : {M : Type 1} → statement M
-attributes-of-spec = tie.close (tie.spec returns returns-2 returns-3 (λ c κs. search needs) returns-4)
+attributes-of-spec =
+    tie.close
+    (tie.spec (λ c κs. search needs) returns block-fault-requires returns-2 said-requires returns-3)

@@ -1,7 +1,6 @@
 -- `stores::store_block` meets its contract. Assumes nothing.
 use mathlib.Core.Path.{_≡_, ap, _∙_}
-use Prim.Native.Nat.{_+_, _-_, _*_}
-use native.Mathlib.Omega.{arith}
+use Prim.Native.Nat.{_+_, _*_}
 use borrow.Author.Needs.{needs}
 use lib.ListN.{take, drop}
 use lib.Seq.{sets}
@@ -11,14 +10,13 @@ use Rattle.type3.proofs.stores.store_block.Tie as tie
 
 returns : tie.Need-returns
 returns c =
-    let a = c .before .before .before .before .before .before .before .before .before .before .args in
-    let from = 13 + 2 * a .count + 16 * a .k in
-    let at : c .before .before .before .before .before .address .result .0 ≡ 16 * byte (a .command .now) (14 + 2 * a .k)
-    = c .before .before .before .before .before .address .ensures ∙ ap (λ n. 16 * n) (c .before .before .before .before .before .before .wide .ensures .0) in
-    let size : from + 16 - from ≡ 16 = omega arith in
-    c .before .before .store .ensures
-    ∙ ap (λ n. sets (a .image .now) n (take (from + 16 - from) (drop from (a .command .now)))) at
-    ∙ ap (λ n. sets (a .image .now) (16 * byte (a .command .now) (14 + 2 * a .k)) (take n (drop from (a .command .now)))) size
+    let at-store = c .before .before in
+    let at-address = at-store .before .before in
+    let at-wide = at-address .before in
+    let a = at-wide .before .before .before .before .args in
+    let at : at-address .address .result .0 ≡ 16 * byte (a .command .now) (14 + 2 * a .k)
+    = at-address .address .ensures ∙ ap (λ n. 16 * n) (at-wide .wide .ensures .0) in
+    at-store .store-sixteen .ensures ∙ ap (λ n. sets (a .image .now) n (take 16 (drop (13 + 2 * a .count + 16 * a .k) (a .command .now)))) at
 
 pub store-block-spec : {M : Type 1} → statement M
 store-block-spec =
@@ -29,10 +27,6 @@ store-block-spec =
     (λ c. search needs)
     (λ c κs. search needs)
     (λ c κs. search needs)
-    (λ c. search needs)
-    (λ c. search needs)
-    (λ c. search needs)
-    (λ c. search needs)
     (λ c. search needs)
     (λ c. search needs)
     (λ c. search needs)

@@ -28,7 +28,7 @@ turns-for-requires c κs =
     let refusal = c .before .before .before .refusal in
     let few = planned-bounds (a .number) (a .image .now) (a .message .now)
     (writing-planned (a .number) (a .image .now) (a .message .now) (a .a) (s .pre) (refusal .result) (refusal .ensures) (c .before .before .if1 .left)) in
-    (omega (arith, few .0), omega (arith, few .1, s .pre .known .nbw-is), omega arith)
+    (omega (arith, few .0), omega (arith, few .1, s .pre .known .says .nbw-is), omega arith)
 
 -- past the counting
 list-planned : (c : tie.After-turns-for) → Planned (c .before .before .before .before .before .before .before .before .args .number) (c .before .before .before .before .before .before .before .before .args .image .now) (c .before .before .before .before .before .before .before .before .args .message .now) (c .before .smaller .result) (c .turns-for .result)
@@ -41,7 +41,7 @@ list-planned c =
     record {
       eight = search needs;
       planned = writing-planned (a .number) (a .image .now) (a .message .now) (a .a) (s .pre) (refusal .result) (refusal .ensures) (c .before .before .before .if1 .left);
-      width-is = c .before .smaller .ensures ∙ ap (λ x. min x 8) (s .pre .known .nbw-is);
+      width-is = c .before .smaller .ensures ∙ ap (λ x. min x 8) (s .pre .known .says .nbw-is);
       turns-is = c .turns-for .ensures .0 ∙ ap (λ k. (k + (w - 1)) / w) blocks;
       dealt = subst (λ k. Dealt k w (c .turns-for .result)) blocks (c .turns-for .ensures .1);
       byte-12 = omega (arith, c .before .before .before .before .before .before .before .shared-slice-known .given 12);
@@ -62,7 +62,7 @@ returns-3 c =
     let t = c .before .before .before .before .before .turns-for .result in
     let g = list-planned (c .before .before .before .before .before) in (
       sym (ap countOf (write-list (a .number) (a .image .now) (a .message .now) (length (a .list .now)) w t g (omega arith))),
-      write-laid (a .number) (a .image .now) (a .message .now) (a .list .now) _ (a .a .ln) w t g (s .pre .known .ln-is) (omega arith) (c .before .before .put-list .ensures),
+      write-laid (a .number) (a .image .now) (a .message .now) (a .list .now) _ (a .a .ln) w t g (s .pre .known .says .ln-is) (omega arith) (c .before .before .put-list .ensures),
     )
 
 pub write-to-spec : {M : Type 1} → statement M

@@ -1,0 +1,74 @@
+-- `read::block_fault` meets its contract. Assumes nothing.
+use mathlib.Core.Path.{_≡_, sym, _∙_}
+use mathlib.Core.List.{List}
+use Prim.Native.Nat.{ℕ, _+_, _*_}
+use native.Mathlib.Omega.{arith}
+use borrow.Author.Needs.{needs}
+use borrow.Author.Tests.{eq-eqb, ne-eqb, not-true, not-false}
+use Rattle.tag.specs.Bytes.{byte}
+use Rattle.tag.specs.Numbers.{sumTo}
+use Rattle.type3.specs.Attributes.{attributes}
+use Rattle.type3.proofs.read.block_fault.Statement.{statement}
+use Rattle.type3.proofs.read.block_fault.Tie as tie
+
+-- the sum that the checksum is compared with
+sum-is : (i : List ℕ) → sumTo i 14 ≡ attributes i .sum
+unfolding sumTo
+sum-is i = omega arith
+
+-- the sum s and the word w of an image that passes the test
+summed : (i : List ℕ) (s w : ℕ) → s ≡ sumTo i 14 → s ≡ w → w ≡ 256 * byte i 14 + byte i 15 → attributes i .sum ≡ attributes i .checksum
+summed i s w p e q = sym (sum-is i) ∙ sym p ∙ e ∙ q
+
+returns : tie.Need-returns
+returns c =
+    let at-sum = c .before .before in
+    let i = at-sum .before .before .args .image .now in
+    let wrong : attributes i .sum ≡ attributes i .checksum → ⊥
+    = λ e. c .if1 .taken (at-sum .sum .ensures .0 ∙ sum-is i ∙ e ∙ sym (c .before .word .ensures .0)) in
+    rw (ne-eqb _ _ wrong)
+
+returns-2 : tie.Need-returns-2
+returns-2 c =
+    let at-if1 = c .before .before .before in
+    let at-sum = at-if1 .before .before in
+    let i = at-sum .before .before .args .image .now in
+    let right = summed i _ _ (at-sum .sum .ensures .0) (at-if1 .if1 .left) (at-if1 .before .word .ensures .0) in
+    rw (eq-eqb _ _ right, sym (c .before .is-known .ensures) ∙ not-true _ (c .if2 .taken))
+
+returns-3 : tie.Need-returns-3
+returns-3 c =
+    let at-if2 = c .before .before in
+    let at-if1 = at-if2 .before .before .before in
+    let at-sum = at-if1 .before .before in
+    let i = at-sum .before .before .args .image .now in
+    let right = summed i _ _ (at-sum .sum .ensures .0) (at-if1 .if1 .left) (at-if1 .before .word .ensures .0) in
+    let known = sym (at-if2 .before .is-known .ensures) ∙ not-false _ (at-if2 .if2 .left) in
+    rw (eq-eqb _ _ right, known, sym (c .before .flags-defined .ensures) ∙ not-true _ (c .if3 .taken))
+
+returns-4 : tie.Need-returns-4
+returns-4 c =
+    let at-if3 = c .before in
+    let at-if2 = at-if3 .before .before in
+    let at-if1 = at-if2 .before .before .before in
+    let at-sum = at-if1 .before .before in
+    let i = at-sum .before .before .args .image .now in
+    let right = summed i _ _ (at-sum .sum .ensures .0) (at-if1 .if1 .left) (at-if1 .before .word .ensures .0) in
+    let known = sym (at-if2 .before .is-known .ensures) ∙ not-false _ (at-if2 .if2 .left) in
+    rw (eq-eqb _ _ right, known, sym (at-if3 .before .flags-defined .ensures) ∙ not-false _ (at-if3 .if3 .left)) (c .size-fault .ensures)
+
+pub block-fault-spec : {M : Type 1} → statement M
+block-fault-spec =
+    tie.close
+    (tie.spec
+    (λ c κs. search needs)
+    (λ c κs. search needs)
+    (λ c. search needs)
+    returns
+    (λ c. search needs)
+    (λ c κs. search needs)
+    returns-2
+    (λ c κs. search needs)
+    returns-3
+    (λ c κs. search needs)
+    returns-4)
