@@ -41,7 +41,7 @@ returns-2 c =
     let said = at-said .said .result in
     let known = attested i passes said (at-said .said .ensures) in
     let t = at-take .take-command .ensures in
-    let e = decode-by (length i) (a .number .now) (said .nbw) (said .nmaxb) (a .command .now) i (known .nbw-is) (known .nmaxb-is) (known .reach) in
+    let e = decode-by (length i) (a .number .now) (said .nbw) (said .nmaxb) (a .command .now) i (known .says .nbw-is) (known .says .nmaxb-is) (known .reach) in
     let m = model-stored (a .number .now) i (a .command .now) passes (ap isCommand (sym e) ∙ sym (t .0) ∙ c .if2 .taken) in
     (sym (ap storingOf m), t .1 ∙ ap (λ d. done i (commandOf d)) e ∙ sym (ap (imageAfter i) m))
 
@@ -57,7 +57,7 @@ returns-3 c =
     let said = at-said .said .result in
     let known = attested i passes said (at-said .said .ensures) in
     let t = at-take .take-command .ensures in
-    let e = decode-by (length i) (a .number .now) (said .nbw) (said .nmaxb) (a .command .now) i (known .nbw-is) (known .nmaxb-is) (known .reach) in
+    let e = decode-by (length i) (a .number .now) (said .nbw) (said .nmaxb) (a .command .now) i (known .says .nbw-is) (known .says .nmaxb-is) (known .reach) in
     let q = ap isCommand (sym e) ∙ sym (t .0) ∙ c .if2 .left in
     let m = model-ill (a .number .now) i (a .command .now) passes q in (
       sym (ap storingOf m),
