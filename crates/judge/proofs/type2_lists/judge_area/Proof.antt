@@ -13,40 +13,53 @@ use Rattle.judge.proofs.type2_lists.judge_area.Tie as tie
 
 find-space-requires : tie.Need-find-space-requires
 find-space-requires c κs =
-    let s = c .before .before .before .before .before in
-    blank (s .args .image .now) (s .args .table .now) (s .args .end .0) (s .args .writable) (s .pre .1 .area) (s .pre .0)
+    let at-slice-known = c .before in
+    let at-start = at-slice-known .before .before .before .before in
+    blank (at-start .args .image .now) (at-start .args .table .now) (at-start .args .end .0) (at-start .args .writable) (at-start .pre .1 .area)
+    (at-start .pre .0)
 
 judge-space-requires : tie.Need-judge-space-requires
 judge-space-requires c κs =
-    let s = c .before .before .before .before .before .before .before .before .before .before .before .before in
-    let a = s .args in
-    let f = c .before .before .before .before .before .before .find-space in
-    let g = c .before .before .w .given in
+    let at-w = c .before .before in
+    let at-find-space = at-w .before .before .before .before in
+    let at-slice-known = at-find-space .before .before in
+    let at-start = at-slice-known .before .before .before .before in
+    let a = at-start .args in
+    let f = at-find-space .find-space in
+    let g = at-w .w .given in
     let e = sym (ap (spaceAs (f .last .1 .1 .0)) (g .1)) ∙ f .ensures .0 in
     let room = subst (SpacePlaced (a .image .now) (f .last .1 .1 .0) (length (a .message .now)) 16 (a .end .0)) (g .1) (f .ensures .1) in (
-      writable-at (a .image .now) (a .message .now) (a .end .0) (a .writable) (s .pre .1) _ e,
+      writable-at (a .image .now) (a .message .now) (a .end .0) (a .writable) (at-start .pre .1) _ e,
       room .0,
-      addresses-at (a .image .now) (a .message .now) (a .end .0) (a .writable) (s .pre .1) _ e,
+      addresses-at (a .image .now) (a .message .now) (a .end .0) (a .writable) (at-start .pre .1) _ e,
     )
 
 returns : tie.Need-returns
 returns c =
-    let s = c .before .before .before .before .before .before .before .before .before .before .before in
-    let a = s .args in
-    let f = c .before .before .before .before .before .find-space in
-    let g = c .before .r .given in
+    let at-r = c .before in
+    let at-find-space = at-r .before .before .before .before in
+    let at-slice-known = at-find-space .before .before in
+    let at-start = at-slice-known .before .before .before .before in
+    let a = at-start .args in
+    let f = at-find-space .find-space in
+    let g = at-r .r .given in
     let e = sym (ap (spaceAs (f .last .1 .1 .0)) (g .1)) ∙ f .ensures .0 in
-    sym (ap (judgeBy type2 (a .image .now) (a .message .now) (a .list .now)) (no-space-writing (a .image .now) (a .message .now) (a .end .0) (a .writable) (s .pre .1) _ e))
+    sym (ap (judgeBy type2 (a .image .now) (a .message .now) (a .list .now))
+    (no-space-writing (a .image .now) (a .message .now) (a .end .0) (a .writable) (at-start .pre .1) _ e))
 
 returns-2 : tie.Need-returns-2
 returns-2 c =
-    let s = c .before .before .before .before .before .before .before .before .before .before .before .before .before in
-    let a = s .args in
-    let f = c .before .before .before .before .before .before .before .find-space in
-    let g = c .before .before .before .w .given in
+    let at-w = c .before .before .before in
+    let at-find-space = at-w .before .before .before .before in
+    let at-slice-known = at-find-space .before .before in
+    let at-start = at-slice-known .before .before .before .before in
+    let a = at-start .args in
+    let f = at-find-space .find-space in
+    let g = at-w .w .given in
     let e = sym (ap (spaceAs (f .last .1 .1 .0)) (g .1)) ∙ f .ensures .0 in
     c .judge-space .ensures
-    ∙ sym (ap (judgeBy type2 (a .image .now) (a .message .now) (a .list .now)) (writable-at (a .image .now) (a .message .now) (a .end .0) (a .writable) (s .pre .1) _ e .plan-is))
+    ∙ sym (ap (judgeBy type2 (a .image .now) (a .message .now) (a .list .now))
+    (writable-at (a .image .now) (a .message .now) (a .end .0) (a .writable) (at-start .pre .1) _ e .plan-is))
 
 pub judge-area-spec : {M : Type 1} → statement M
 judge-area-spec =

@@ -11,18 +11,24 @@ use Rattle.judge.proofs.type2_lists.judge_with.Tie as tie
 
 judge-area-requires : tie.Need-judge-area-requires
 judge-area-requires c κs =
-    let s = c .before .before .before .before .before .before .before .before .before in
-    let a = s .args in
-    let d = c .before .before .before .before .data-area in
-    let g = c .before .before .end .given in
-    (s .pre, checks-pass (a .image .now) (d .result) (g .0 .0) (g .0 .1 .0) (d .ensures .0) (d .ensures .1) (g .1))
+    let at-end = c .before .before in
+    let at-data-area = at-end .before .before in
+    let at-slice-known = at-data-area .before in
+    let at-start = at-slice-known .before .before .before .before in
+    let a = at-start .args in
+    let d = at-data-area .data-area in
+    let g = at-end .end .given in
+    (at-start .pre, checks-pass (a .image .now) (d .result) (g .0 .0) (g .0 .1 .0) (d .ensures .0) (d .ensures .1) (g .1))
 
 returns : tie.Need-returns
 returns c =
-    let s = c .before .before .before .before .before .before .before .before in
-    let a = s .args in
-    let d = c .before .before .before .data-area in
-    let g = c .before .r .given in
+    let at-r = c .before in
+    let at-data-area = at-r .before .before in
+    let at-slice-known = at-data-area .before in
+    let at-start = at-slice-known .before .before .before .before in
+    let a = at-start .args in
+    let d = at-data-area .data-area in
+    let g = at-r .r .given in
     sym (ap (judgeBy type2 (a .image .now) (a .message .now) (a .list .now)) (refused-writing (a .image .now) (a .message .now) (g .0 .0) (sym (ap checkedAs (g .1)) ∙ d .ensures .0)))
 
 pub judge-with-spec : {M : Type 1} → statement M
