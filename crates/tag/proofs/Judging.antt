@@ -1,7 +1,7 @@
 -- The judge along a list, step by step, for whoever computes it: a command's fault by the tests made of it, and the judge by
 -- the first command's fault.
 -- Assumes nothing.
-use mathlib.Core.Path.{_≡_, refl, sym}
+use mathlib.Core.Path.{_≡_, refl}
 use mathlib.Core.Bool.{true, false}
 use mathlib.Core.List.{List, [], _∷_}
 use Prim.Native.Nat.{ℕ, zero, suc}

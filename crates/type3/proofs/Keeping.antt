@@ -12,7 +12,7 @@ use Rattle.tag.specs.Bytes.{byte, run, same, isSet}
 use Rattle.tag.specs.Judge.{equalAt, keeps, task}
 use Rattle.tag.proofs.Keeping.{equal-same, equal-split, equal-none, outside-differs, outside-same}
 use Rattle.tag.proofs.Runs.{run-set}
-use Rattle.type3.specs.Update.{blocksFor, addresses, values, valuesBy, body}
+use Rattle.type3.specs.Update.{blocksFor, addresses, values}
 use Rattle.type3.specs.Type3.{type3}
 use Rattle.type3.specs.Kept.{setFor}
 use Rattle.type3.proofs.Update.{length-body}

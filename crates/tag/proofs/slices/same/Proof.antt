@@ -1,7 +1,6 @@
 -- `slices::same` meets its contract. Assumes nothing.
-use mathlib.Core.Path.{_≡_, refl, sym, ap, _∙_}
+use mathlib.Core.Path.{sym}
 use borrow.Author.Needs.{needs}
-use lib.Dec.{eqb}
 use Rattle.tag.specs.Bytes.{same}
 use Rattle.tag.proofs.Same.{same-lengths}
 use Rattle.tag.proofs.Flags.{flag-same, zero-flag}

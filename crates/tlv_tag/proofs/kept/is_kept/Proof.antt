@@ -1,5 +1,4 @@
 -- `kept::is_kept` meets its contract. Assumes nothing.
-use mathlib.Core.Path.{_∙_}
 use borrow.Author.Needs.{needs}
 use Rattle.tlv_tag.proofs.Keeping.{front-or-back, kept-plain, kept-skipped}
 use Rattle.tlv_tag.proofs.kept.is_kept.Statement.{statement}
