@@ -17,7 +17,7 @@ pub record Plan : Type 0 where
   -- the bytes of a block, and how many blocks a command may store
   pub size : ℕ
   pub width : ℕ
-  -- the guard block, and the image that it is shut with
+  -- the guard block (the requirements' A for Type 2, block 0 for Type 3), and the image that it is shut with
   pub guard : ℕ
   pub closed : List ℕ
 

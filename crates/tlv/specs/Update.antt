@@ -29,7 +29,7 @@ content m = lengthField (length m) ++ (m ++ 0xFE ∷ [])
 abbrev pub lengthAt : List ℕ → ℕ
 lengthAt us = getD us 0 0
 
--- the guard block is that of the first length byte, shut with that byte 00h
+-- the guard block, the requirements' A, is that of the first length byte, shut with that byte 00h
 abbrev pub planBy : ℕ → List ℕ → List ℕ → List ℕ → Plan
 planBy z us i m = record {
   addresses = us;
