@@ -16,7 +16,7 @@ use Rattle.tag.specs.declared.ModelAnswer as model-answer
 use Rattle.tag.specs.declared.ModelAnswer.the-variants as storing
 use Rattle.tag.specs.Plan.{list}
 use Rattle.tag.specs.TagType.{TagType, Output, withheld, output, outputInto, fitted, writing, written, writeBy, write, pieces, commands}
-use Rattle.tag.specs.Judge.{accepted, judged}
+use Rattle.tag.specs.Judge.{accepted, refused, judged}
 use Rattle.tag.specs.Model.{Modelled, unstored, stored, model, imageAfter}
 use Rattle.tag.specs.Answers.{uncounted, counts, countOf, countAs, verdictAs, unstoring, storing, storingOf, modelAs}
 use Rattle.tag.specs.Contracts.{Wrote, Judged, Took}
@@ -29,6 +29,10 @@ use Rattle.demands.proofs.Demand2.{fitted-is}
 accepted-is : (r : judge.JudgeAnswer) (n : ℕ) → verdictAs r ≡ accepted n → r ≡ verdict.Accepted n
 accepted-is (verdict.Refused f p) n e = absurd (nope (cc))
 accepted-is (verdict.Accepted k) n e = let q : k ≡ n = cc in ap verdict.Accepted q
+
+refused-is : (r : judge.JudgeAnswer) (f p : ℕ) → verdictAs r ≡ refused f p → r ≡ verdict.Refused f p
+refused-is (verdict.Accepted k) f p e = absurd (nope (cc))
+refused-is (verdict.Refused g q) f p e = let a : g ≡ f = cc in let b : q ≡ p = cc in ap₂ verdict.Refused a b
 
 stored-is : (r : model-answer.ModelAnswer) → modelAs r ≡ storing → r ≡ storing.Stored
 stored-is (storing.Refused f) e = absurd (nope (cc))
@@ -125,7 +129,7 @@ module _ (T : TagType) (i m : List ℕ) (d : Demand3 T i m) (w : writing T i m �
   by-contract = record {
     accepts = λ bytes n e. d .exactly bytes n .0 (sym e);
     accepted = λ bytes r e t. accepted-is r (length (commands T i bytes)) (e ∙ d .exactly bytes (length (commands T i bytes)) .1 (refl, t));
-    refuses = λ bytes f p e. d .first-fault bytes f p (sym e);
+    refuses = λ bytes r e f p. ((λ q. d .first-fault bytes f p .0 (sym e ∙ ap verdictAs q)), (λ h. refused-is r f p (e ∙ d .first-fault bytes f p .1 h)));
     ours = our-answer;
     followed = run-followed;
     unchanged = took-none T;

@@ -2,6 +2,7 @@
 -- are the relations `Wrote`, `Judged` and `Took`. The record `Code3` is the whole claim. This file states; `proofs/ByContract.antt` proves.
 -- Assumes nothing.
 use mathlib.Core.Path.{_≡_}
+use mathlib.Core.Logic.{_↔_}
 use mathlib.Core.List.{List, [], _∷_}
 use Prim.Native.Nat.{ℕ, _≤_}
 use lib.ListN.{length, take, replicate}
@@ -31,8 +32,8 @@ pub record Code3 (T : TagType) (i m : List ℕ) : Type 0 where
   -- the judge accepts just the lists for which the three things hold, with the number of their commands
   pub accepts : (bytes : List ℕ) (n : ℕ) → Judged T i m bytes (verdict.Accepted n) → (n ≡ length (commands T i bytes)) × Three (task T i m) (commands T i bytes)
   pub accepted : (bytes : List ℕ) (r : judge.JudgeAnswer) → Judged T i m bytes r → Three (task T i m) (commands T i bytes) → r ≡ verdict.Accepted (length (commands T i bytes))
-  -- and else reports the first fault
-  pub refuses : (bytes : List ℕ) (f p : ℕ) → Judged T i m bytes (verdict.Refused f p) → First (task T i m) (commands T i bytes) f p
+  -- and refuses a list with a number and a position just where that is its first fault
+  pub refuses : (bytes : List ℕ) (r : judge.JudgeAnswer) → Judged T i m bytes r → (f p : ℕ) → (r ≡ verdict.Refused f p) ↔ First (task T i m) (commands T i bytes) f p
   -- what is written is accepted, with the count that was answered
   pub ours : (buffer out : List ℕ) (n : ℕ) → Wrote T i m buffer (counted.Count n) out
       → (r : judge.JudgeAnswer) → Judged T i m (take (length (ourBytes T i m)) out) r → r ≡ verdict.Accepted n
