@@ -33,7 +33,8 @@ pub record Code3 (T : TagType) (i m : List ℕ) : Type 0 where
   pub accepts : (bytes : List ℕ) (n : ℕ) → Judged T i m bytes (verdict.Accepted n) → (n ≡ length (commands T i bytes)) × Three (task T i m) (commands T i bytes)
   pub accepted : (bytes : List ℕ) (r : judge.JudgeAnswer) → Judged T i m bytes r → Three (task T i m) (commands T i bytes) → r ≡ verdict.Accepted (length (commands T i bytes))
   -- and refuses a list with a number and a position just where that is its first fault
-  pub refuses : (bytes : List ℕ) (r : judge.JudgeAnswer) → Judged T i m bytes r → (f p : ℕ) → (r ≡ verdict.Refused f p) ↔ First (task T i m) (commands T i bytes) f p
+  pub refuses : (bytes : List ℕ) (r : judge.JudgeAnswer) → Judged T i m bytes r
+      → (f p : ℕ) → (r ≡ verdict.Refused f p) ↔ First (task T i m) (commands T i bytes) f p
   -- what is written is accepted, with the count that was answered
   pub ours : (buffer out : List ℕ) (n : ℕ) → Wrote T i m buffer (counted.Count n) out
       → (r : judge.JudgeAnswer) → Judged T i m (take (length (ourBytes T i m)) out) r → r ≡ verdict.Accepted n

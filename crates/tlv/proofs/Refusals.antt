@@ -60,7 +60,8 @@ module _ (allowed : Area → Bool) where
   area-passing : (c : Control) (b0 b1 b2 : ℕ) (us : List ℕ) → PassNumbered (areaBy allowed c b0 b1 b2 us)
   unfolding areaBy
   area-passing c b0 b1 b2 us =
-      by-test PassNumbered (reserved c b2) (stop bad-control) _ control-number (by-test PassNumbered (allowed (areaOf c b0 b1 b2)) _ (stop bad-control) tt control-number)
+      by-test PassNumbered (reserved c b2) (stop bad-control) _ control-number
+      (by-test PassNumbered (allowed (areaOf c b0 b1 b2)) _ (stop bad-control) tt control-number)
 
   control-passing : (n : ℕ) (c : Control) (i us : List ℕ) → PassNumbered (controlBy allowed n c i us)
   unfolding controlBy
