@@ -46,5 +46,6 @@ module _ (T : TagType) (L : Laws T) where
   pub claim : Demand2 T
   claim = record {
     written-reads = reads-back;
+    refusals = L .numbered;
     shown-is = λ i buffer p e f. rw e (shown-part T L i buffer p e f);
   }

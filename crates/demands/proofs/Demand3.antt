@@ -18,7 +18,7 @@ use Rattle.tag.specs.Cuts.{Ready, Safe, as-none, as-new, as-old, Three}
 use Rattle.tag.proofs.Logic.{nope}
 use Rattle.tag.proofs.Each.{Each, each-map, each-of}
 use Rattle.tag.proofs.Images.{restart, length-cut}
-use Rattle.tag.proofs.Judge.{accepts-exactly, refused-first, cut-done}
+use Rattle.tag.proofs.Judge.{accepts-exactly, refuses-exactly, cut-done}
 use Rattle.tag.proofs.Writes.{list-accepted, list-ends}
 use Rattle.tag.proofs.Pieces.{SelfDelimiting, pieces-joined}
 use Rattle.tag.proofs.Laws.{Laws, Sent, Near, ready-written, ready-reads}
@@ -137,7 +137,7 @@ module _ (T : TagType) (L : Laws T) where
     pub claim : Demand3 T i m
     claim = record {
       exactly = λ bytes n. rw (by-commands bytes) (accepts-exactly t reading-ok (commands T i bytes) n);
-      first-fault = λ bytes f p e. refused-first t (commands T i bytes) f p (sym (by-commands bytes) ∙ e);
+      first-fault = λ bytes f p. rw (by-commands bytes) (refuses-exactly t (commands T i bytes) f p);
       ours = by-commands (ourBytes T i m) ∙ rw (our-commands i m r) (list-accepted T i m ((T .plan) i m) (L .sound i m r) reading-ok);
       refuses-none = stores-next;
       followed = λ bytes n e k h calls c. calls-from bytes n e c 0 k refl (omega arith) refl ∙ ap (cutOf T i bytes) (zero-add k);

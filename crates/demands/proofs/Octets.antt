@@ -1,4 +1,4 @@
--- Lists of bytes stay lists of bytes.
+-- Lists of bytes, byte by byte, and that they stay lists of bytes.
 -- Assumes nothing.
 use mathlib.Core.List.{List, [], _∷_, _++_}
 use Prim.Native.Nat.{ℕ, zero, suc, _<_}
@@ -11,6 +11,10 @@ pub octets-byte : (i : List ℕ) → Octets i → (a : ℕ) → byte i a < 256
 octets-byte [] h a = omega arith
 octets-byte (b ∷ i) h zero = h .0
 octets-byte (b ∷ i) h (suc a) = octets-byte i (h .1) a
+
+pub octets-of : (i : List ℕ) → ((a : ℕ) → byte i a < 256) → Octets i
+octets-of [] h = tt
+octets-of (b ∷ i) h = (h 0, octets-of i (λ a. h (suc a)))
 
 octets-set : (i : List ℕ) (a v : ℕ) → Octets i → v < 256 → Octets (set i a v)
 octets-set [] a v h l = tt

@@ -1,5 +1,5 @@
 -- What the theorems take for granted is met by something: a specimen tag of each type is ready for a message, and is a tag of
--- bytes that refusal 11 can be asked of.
+-- bytes that refusal 11 can be asked of; the Type 2 one has the message TLV that 11 goes by.
 -- Assumes nothing.
 use mathlib.Core.Path.{_≡_, refl}
 use mathlib.Core.Bool.{Bool, true, false, _&&_}
@@ -9,13 +9,15 @@ use native.Mathlib.Omega.{arith}
 use borrow.Author.Tests.{ltb-true}
 use lib.Dec.{ltb}
 use lib.ListN.{replicate}
+use Rattle.tag.specs.Bytes.{run}
 use Rattle.tag.specs.Reading.{empty, message}
 use Rattle.tag.specs.Cuts.{Ready}
 use Rattle.tag.proofs.Logic.{and-l, and-r}
 use Rattle.tlv.specs.Areas.{without}
-use Rattle.tlv.specs.Walk.{longBy, lengthBy, passValue, areaBy, controlBy, find}
+use Rattle.tlv.specs.Walk.{longBy, lengthBy, passValue, areaBy, controlBy, found, find, messageTlv}
 use Rattle.tlv.specs.Message.{viewBy, viewed, reading}
 use Rattle.tlv.specs.Update.{fitsIn}
+use Rattle.type2.specs.Memory.{layout}
 use Rattle.type2.specs.Type2.{type2}
 use Rattle.type3.specs.Message as message3
 use Rattle.type3.specs.Type3.{type3}
@@ -65,6 +67,11 @@ asked-2 = record {
   image-octets = below-octets (small (0x03 ∷ 0x00 ∷ 0xFE ∷ [])) refl;
   message-octets = below-octets (0xD0 ∷ 0x00 ∷ 0x00 ∷ []) refl;
 }
+
+-- its message TLV: the type byte at 16, and 47 usable addresses after it
+pub tlv-2 : messageTlv layout (small (0x03 ∷ 0x00 ∷ 0xFE ∷ [])) ≡ found 16 (run 17 47)
+unfolding without longBy lengthBy passValue areaBy controlBy find
+tlv-2 = refl
 
 pub asked-3 : Asked (type3 (replicate 8 0x00)) (tag3 0x00 0x46) (0xD0 ∷ 0x00 ∷ 0x00 ∷ [])
 unfolding below

@@ -1,10 +1,11 @@
 -- Demand 3 about what the public functions answer: of any answers that meet the contracts of `write`, `judge` and `model`, which
--- are the relations `Wrote`, `Judged` and `Took`. This file states; `proofs/ByContract.antt` proves.
+-- are the relations `Wrote`, `Judged` and `Took`. The record `Code3` is the whole claim. This file states; `proofs/ByContract.antt` proves.
 -- Assumes nothing.
 use mathlib.Core.Path.{_≡_}
-use mathlib.Core.List.{List, []}
-use Prim.Native.Nat.{ℕ, suc, _<_, _≤_}
-use lib.ListN.{length, getD, take}
+use mathlib.Core.Logic.{_↔_}
+use mathlib.Core.List.{List, [], _∷_}
+use Prim.Native.Nat.{ℕ, _≤_}
+use lib.ListN.{length, take, replicate}
 use Rattle.tag.specs.declared.CountAnswer as count
 use Rattle.tag.specs.declared.CountAnswer.the-variants as counted
 use Rattle.tag.specs.declared.JudgeAnswer as judge
@@ -18,19 +19,31 @@ use Rattle.tag.specs.Cuts.{Three, First}
 use Rattle.tag.specs.Contracts.{Wrote, Judged, Took}
 use Rattle.demands.specs.Demand3.{cutOf, ourBytes, ourImage}
 
+-- calls of the model from the tag j on, each on the image that the call before left: the commands given, in order, with what each
+-- call answered, and between them any calls that the model refuses. The last image is that of the whole run.
+pub data Run (T : TagType) : List ℕ → List (List ℕ) → List model-answer.ModelAnswer → List ℕ → Type 0 where
+  end : {j : List ℕ} → Run T j [] [] j
+  give : {j b k x : List ℕ} {given : List (List ℕ)} {rs : List model-answer.ModelAnswer} (r : model-answer.ModelAnswer)
+      → Took T j b r k → Run T k given rs x → Run T j (b ∷ given) (r ∷ rs) x
+  refuse : {j k x : List ℕ} {given : List (List ℕ)} {rs : List model-answer.ModelAnswer} (b : List ℕ) (f : ℕ)
+      → Took T j b (storing.Refused f) k → Run T k given rs x → Run T j given rs x
+
 pub record Code3 (T : TagType) (i m : List ℕ) : Type 0 where
   -- the judge accepts just the lists for which the three things hold, with the number of their commands
   pub accepts : (bytes : List ℕ) (n : ℕ) → Judged T i m bytes (verdict.Accepted n) → (n ≡ length (commands T i bytes)) × Three (task T i m) (commands T i bytes)
   pub accepted : (bytes : List ℕ) (r : judge.JudgeAnswer) → Judged T i m bytes r → Three (task T i m) (commands T i bytes) → r ≡ verdict.Accepted (length (commands T i bytes))
-  -- and else reports the first fault
-  pub refuses : (bytes : List ℕ) (f p : ℕ) → Judged T i m bytes (verdict.Refused f p) → First (task T i m) (commands T i bytes) f p
+  -- and refuses a list with a number and a position just where that is its first fault
+  pub refuses : (bytes : List ℕ) (r : judge.JudgeAnswer) → Judged T i m bytes r
+      → (f p : ℕ) → (r ≡ verdict.Refused f p) ↔ First (task T i m) (commands T i bytes) f p
   -- what is written is accepted, with the count that was answered
   pub ours : (buffer out : List ℕ) (n : ℕ) → Wrote T i m buffer (counted.Count n) out
       → (r : judge.JudgeAnswer) → Judged T i m (take (length (ourBytes T i m)) out) r → r ≡ verdict.Accepted n
-  -- the model takes cut k of an accepted list to cut k + 1 by its command k
-  pub followed : (bytes : List ℕ) (n : ℕ) → Judged T i m bytes (verdict.Accepted n) → (k : ℕ) → k < n
-      → (r : model-answer.ModelAnswer) (j : List ℕ) → Took T (cutOf T i bytes k) (getD (pieces T i bytes) k []) r j → (r ≡ storing.Stored) × (j ≡ cutOf T i bytes (suc k))
-  -- a call that the model refuses changes nothing
+  -- given the first k commands of an accepted list in order, one a call, the model stores each and leaves cut k, whatever calls that
+  -- it refuses come between
+  pub followed : (bytes : List ℕ) (n : ℕ) → Judged T i m bytes (verdict.Accepted n) → (k : ℕ) → k ≤ n
+      → (rs : List model-answer.ModelAnswer) (j : List ℕ) → Run T i (take k (pieces T i bytes)) rs j
+      → (rs ≡ replicate k storing.Stored) × (j ≡ cutOf T i bytes k)
+  -- a call that the model refuses changes nothing, on any tag
   pub unchanged : (j command : List ℕ) (f : ℕ) (k : List ℕ) → Took T j command (storing.Refused f) k → k ≡ j
   -- from every cut of an accepted list, a buffer that is long enough gets our list for that tag, with its count, and that list
   -- ends in the image that ours gives

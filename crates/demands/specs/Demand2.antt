@@ -10,7 +10,7 @@ use Prim.Native.Nat.{ℕ, _+_, _-_, _*_, _/_, _<_, _≤_}
 use lib.ListN.{length, take}
 use Rattle.tag.specs.Bytes.{byte, has}
 use Rattle.tag.specs.Refusals.{too-long}
-use Rattle.tag.specs.Reading.{Report, reads, answerOf, tooShort, gatheredInto, shown, holds}
+use Rattle.tag.specs.Reading.{Report, unreadable, reads, answerOf, tooShort, gatheredInto, shown, holds}
 use Rattle.tag.specs.Plan.{touched, list}
 use Rattle.tag.specs.TagType.{TagType, held, writing, unwritten, output, write, commands}
 use Rattle.tag.specs.Cuts.{Ready}
@@ -29,6 +29,8 @@ pub record Demand2 (T : TagType) : Type 0 where
   -- the tag that took the commands written reads as the message, and as many were written as the answer says
   pub written-reads : (room n : ℕ) (i m bytes : List ℕ) → write T room i m ≡ output n bytes
       → (n ≡ length (commands T i bytes)) × (held T (cutOf T i bytes n) ≡ holds m)
+  -- a tag that does not read gets one of 1 to 8
+  pub refusals : (i : List ℕ) (r : ℕ) → (T .reading) i ≡ unreadable r → (1 ≤ r) × (r ≤ 8)
   -- the part shown after reading is the message
   pub shown-is : (i buffer : List ℕ) (p : Report) → (T .reading) i ≡ reads p → tooShort (length buffer) p ≡ false
       → shown i (gatheredInto buffer ((T .reading) i)) (answerOf (length buffer) ((T .reading) i)) ≡ p .bytes

@@ -40,8 +40,8 @@ imageOf T j (b ∷ calls) = imageOf T (imageAfter j (model T j b)) calls
 pub record Demand3 (T : TagType) (i m : List ℕ) : Type 0 where
   -- the judge accepts just the lists for which the three things hold at every cut, and counts their commands
   pub exactly : (bytes : List ℕ) (n : ℕ) → (judged T i m bytes ≡ accepted n) ↔ ((n ≡ length (commands T i bytes)) × Three (task T i m) (commands T i bytes))
-  -- and a refusal is the first fault, with its position
-  pub first-fault : (bytes : List ℕ) (r p : ℕ) → judged T i m bytes ≡ refused r p → First (task T i m) (commands T i bytes) r p
+  -- and gives a refusal, with a position, just where that is the first fault
+  pub first-fault : (bytes : List ℕ) (r p : ℕ) → (judged T i m bytes ≡ refused r p) ↔ First (task T i m) (commands T i bytes) r p
   -- our list is accepted
   pub ours : judged T i m (ourBytes T i m) ≡ accepted (length (list ((T .plan) i m) i))
   -- the model, given the commands of an accepted list one a call, refuses none: it takes cut k to cut k + 1

@@ -1,7 +1,7 @@
--- The judge computes what the statements of `Cuts` say: it accepts exactly the lists for which the three things hold, and a
--- refusal is the first fault with its position. Once for every type of tag.
+-- The judge computes what the statements of `Cuts` say: it accepts exactly the lists for which the three things hold, and gives
+-- exactly the first fault with its position. Once for every type of tag.
 -- Assumes nothing.
-use mathlib.Core.Path.{_≡_, refl, sym, ap, _∙_}
+use mathlib.Core.Path.{_≡_, refl, sym, ap, ap₂, _∙_}
 use mathlib.Core.Bool.{Bool, true, false, not, _||_, false≢true}
 use mathlib.Core.Logic.{_↔_, ⊎-elim}
 use mathlib.Core.List.{List, [], _∷_}
@@ -18,7 +18,7 @@ use Rattle.tag.specs.Stores.{Store, Command, ill, stores, puts, done, st
 use Rattle.tag.specs.Judge.{accepted, refused, Task, holdsAs, isSafe, equalAt, keeps, every, fault, judge}
 use Rattle.tag.specs.Cuts.{Safe, as-none, as-new, as-old, Kept, Three, Left, KeptBy, SafeBy, Fault, none, form, change, reading, Faultless, First, of-command, of-list}
 use Rattle.tag.proofs.Logic.{and-l, and-r, and-both, or-cases, or-l, or-r, same-eq, same-refl, true-false, nope}
-use Rattle.tag.proofs.Judging.{judge-next, judge-good}
+use Rattle.tag.proofs.Judging.{judge-next, judge-stop, judge-good, judge-bad}
 
 -- ---- the tests say what the statements say
 
@@ -112,6 +112,25 @@ of-fine t j c f (form a) h = absurd (h .formed a)
 of-fine t j c f (change a b) h = absurd (b (h .kept))
 of-fine t j c f (reading a b s) h = absurd (s (h .safe))
 
+-- a command has one fault
+fault-only : (t : Task) (j : List ℕ) (c : Command) (f : ℕ) → Fault t j c f → fault t j c ≡ f
+fault-only t j c f x = same f (fault t j c) x (fault-is t j c)
+  where
+    same : (f g : ℕ) → Fault t j c f → Fault t j c g → g ≡ f
+    same f g (none a b s) y = of-fine t j c g y (record { formed = a; kept = b; safe = s })
+    same f g (form a) (none b k s) = absurd (b a)
+    same f g (form a) (form b) = refl
+    same f g (form a) (change b k) = absurd (b a)
+    same f g (form a) (reading b k s) = absurd (b a)
+    same f g (change a k) (none b l s) = absurd (k l)
+    same f g (change a k) (form b) = absurd (a b)
+    same f g (change a k) (change b l) = refl
+    same f g (change a k) (reading b l s) = absurd (k l)
+    same f g (reading a k s) (none b l w) = absurd (s w)
+    same f g (reading a k s) (form b) = absurd (a b)
+    same f g (reading a k s) (change b l) = absurd (l k)
+    same f g (reading a k s) (reading b l w) = refl
+
 holds-as : (h : Held) (x : List ℕ) → holdsAs h x ≡ true → h ≡ holds x
 holds-as broken x e = absurd (false≢true e)
 holds-as nothing x e = absurd (false≢true e)
@@ -193,6 +212,18 @@ refuse-first t n j (c ∷ cs) r p e = go (fault t j c) refl (refuse-first t (suc
         let re : suc f ≡ r = cc in
         at-command 0 (suc-le-suc zero-le) (cc (add-zero n)) (λ l h. absurd (not-suc-le-zero h)) (q ∙ re) (omega arith)
 
+first-refuse : (t : Task) (n : ℕ) (j : List ℕ) (cs : List Command) (r p : ℕ) → FirstFrom t n j cs r p → judge t n j cs ≡ refused r p
+first-refuse t n j [] r p (at-command k b pe nf fe nz) = absurd (not-suc-le-zero b)
+first-refuse t n j [] r p (at-end pe re nf w) = judge-bad t n j w ∙ ap₂ refused (sym re) (omega arith)
+first-refuse t n j (c ∷ cs) r p (at-command zero b pe nf fe nz) =
+    judge-stop t n j c cs (λ z. nz (sym fe ∙ z)) ∙ ap₂ refused fe (omega arith)
+first-refuse t n j (c ∷ cs) r p (at-command (suc k) b pe nf fe nz) =
+    judge-next t n j c cs (nf 0 (suc-le-suc zero-le))
+    ∙ first-refuse t (suc n) (done j c) cs r p (at-command k (le-of-suc-le-suc b) (omega arith) (λ l h. nf (suc l) (suc-le-suc h)) fe nz)
+first-refuse t n j (c ∷ cs) r p (at-end pe re nf w) =
+    judge-next t n j c cs (nf 0 (suc-le-suc zero-le))
+    ∙ first-refuse t (suc n) (done j c) cs r p (at-end (omega arith) re (λ l h. nf (suc l) (suc-le-suc h)) w)
+
 -- ---- the theorems
 
 -- a tag that reads is safe before any command
@@ -240,20 +271,33 @@ accepts-exactly t ok cs n = (to, from)
         })
         ∙ ap accepted (omega arith)
 
--- a refusal is the first fault
-pub refused-first : (t : Task) (cs : List Command) (r p : ℕ) → judge t 0 (t .start) cs ≡ refused r p → First t cs r p
-refused-first t cs r p e = go (refuse-first t 0 (t .start) cs r p e)
+-- a refusal is given exactly if it is the first fault
+pub refuses-exactly : (t : Task) (cs : List Command) (r p : ℕ) → (judge t 0 (t .start) cs ≡ refused r p) ↔ First t cs r p
+refuses-exactly t cs r p = ((λ e. to (refuse-first t 0 (t .start) cs r p e)), (λ f. first-refuse t 0 (t .start) cs r p (from f)))
   where
     clear : (k : ℕ) → ((l : ℕ) → l < k → fault t (cut l (t .start) cs) (getD cs l ill) ≡ 0) → Faultless t cs k
     clear k f l h = rw (f l h) at (fault-is t (cut l (t .start) cs) (getD cs l ill))
 
-    go : FirstFrom t 0 (t .start) cs r p → First t cs r p
-    go (at-command k b pe nf fe nz) =
+    to : FirstFrom t 0 (t .start) cs r p → First t cs r p
+    to (at-command k b pe nf fe nz) =
         let q : p ≡ k = omega (arith, pe) in
         rw q (of-command b (clear k nf) (rw fe at (fault-is t (cut k (t .start) cs) (getD cs k ill))) nz)
-    go (at-end pe re nf w) =
+    to (at-end pe re nf w) =
         let q : p ≡ length cs = omega (arith, pe) in
         rw q (of-list refl re (clear (length cs) nf) (λ h. true-false (as-holds _ _ h) w))
+
+    unheld : (h : Held) (x : List ℕ) → (h ≡ holds x → ⊥) → (b : Bool) → holdsAs h x ≡ b → b ≡ false
+    unheld h x n true q = absurd (n (holds-as h x q))
+    unheld h x n false q = refl
+
+    cleared : (k : ℕ) → Faultless t cs k → (l : ℕ) → l < k → fault t (cut l (t .start) cs) (getD cs l ill) ≡ 0
+    cleared k f l h = fault-only t (cut l (t .start) cs) (getD cs l ill) 0 (f l h)
+
+    from : First t cs r p → FirstFrom t 0 (t .start) cs r p
+    from (of-command b nf f nz) = at-command p b (omega arith) (cleared p nf) (fault-only t (cut p (t .start) cs) (getD cs p ill) r f) nz
+    from (of-list pe re nf w) =
+        at-end (omega arith) re (rw (← pe) (cleared p nf))
+        (rw (← pe) (unheld ((t .held) (cut p (t .start) cs)) (t .wanted) w (holdsAs ((t .held) (cut p (t .start) cs)) (t .wanted)) refl))
 
 -- a step of the judge, and its end, for whoever shows that a list is accepted
 pub judge-goes : (t : Task) (n : ℕ) (j : List ℕ) (ss : List Store) (cs : List Command) → KeptBy t j (stores ss) → SafeBy t j (stores ss)

@@ -16,7 +16,7 @@ use Rattle.tag.specs.TagType.{TagType, held, unwritten, written, checksO
 use Rattle.tag.specs.Judge.{taskOf}
 use Rattle.tag.specs.Cuts.{Ready, Kept}
 use Rattle.tag.proofs.Logic.{nope}
-use Rattle.tag.proofs.Checks.{AllPass, fine-all, all-fine}
+use Rattle.tag.proofs.Checks.{AllPass, fine-all, all-fine, OfReading}
 use Rattle.tag.proofs.Each.{Each}
 use Rattle.tag.proofs.Writes.{Sound}
 
@@ -40,6 +40,8 @@ pub record Laws (T : TagType) : Type 0 where
   pub same-addresses : (i m j : List ℕ) → Ready T i m → Near T i m j → (T .plan) j m .addresses ≡ (T .plan) i m .addresses
   pub same-values : (i m j : List ℕ) → Ready T i m → Near T i m j → (T .plan) j m .values ≡ (T .plan) i m .values
   pub same-command : (i m j : List ℕ) → Ready T i m → Near T i m j → (bytes : List ℕ) → (T .command) j bytes ≡ (T .command) i bytes
+  -- reading's refusals are among 1 to 8
+  pub numbered : (i : List ℕ) (r : ℕ) → (T .reading) i ≡ unreadable r → OfReading r
   -- without a message there are no bytes, and a message that is not interrupted is a part of the image
   pub wordless : (i : List ℕ) (p : Report) → (T .reading) i ≡ reads p → (p .what ≡ message → ⊥) → p .bytes ≡ []
   pub in-place : (i : List ℕ) (p : Report) → (T .reading) i ≡ reads p → p .what ≡ message → p .interrupted ≡ false

@@ -1,8 +1,8 @@
 -- Laws about the definitions of `tag`, and what the code needs of them. Nothing here states a rule.
 pub mod Logic
 pub mod Cases
-pub mod Checks
 pub mod Each
+pub mod Checks
 pub mod Images
 pub mod Addresses
 pub mod Judging

@@ -17,6 +17,8 @@ use Rattle.tag.specs.Refusals.{bad-length}
 use Rattle.tag.specs.Checks.{Checked, fine, fault, firstOf}
 use Rattle.tag.specs.Reading.{Report, unreadable, reads, broken, nothing, holds, heldOf}
 use Rattle.tag.proofs.Logic.{true-false, nope}
+use Rattle.tag.proofs.Each.{Each}
+use Rattle.tag.proofs.Checks.{OfReading}
 use Rattle.tag.proofs.Images.{length-overlay, overlay-out}
 use Rattle.tag.proofs.Addresses.{Above, above-unset, above-run}
 use Rattle.tlv.specs.Walk.{Length, bad, len, lengthBy, lengthOf, Found, lost, found, messageTlv}
@@ -87,6 +89,8 @@ pub record TlvLaws (T : TlvTag) : Type 0 where
   -- an image whose checks pass: whole blocks, short enough for a length field, and the data area inside
   pub bound : (i : List ℕ) → firstOf ((T .checks) i) ≡ fine
       → (length i ≡ T .block * (length i / T .block)) × (length i ≤ 65534) × (before + (T .layout .size) i < length i)
+  -- the refusals of the checks are among 1 to 8
+  pub numbered : (i : List ℕ) → Each (λ c. OfReading (c .refusal)) ((T .checks) i)
   -- what reading goes by before the walk lies before the data area
   pub local : (i j : List ℕ) → length j ≡ length i → ((x : ℕ) → x ≤ before → byte j x ≡ byte i x)
       → ((T .checks) j ≡ (T .checks) i) × ((T .layout .size) j ≡ (T .layout .size) i) × ((T .writable) j ≡ (T .writable) i)

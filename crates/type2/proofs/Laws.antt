@@ -21,6 +21,7 @@ use Rattle.tlv.specs.Update.{usable, content, lengthAt, plan}
 use Rattle.tlv.proofs.Tag as tlv
 use Rattle.tlv.proofs.Writes as writes
 use Rattle.tlv.proofs.Shown.{wordless, in-place}
+use Rattle.tlv.proofs.Refusals.{numbered}
 use Rattle.type2.specs.Memory.{memory}
 use Rattle.type2.specs.Codec.{nameable, decode, commandOf, encoded}
 use Rattle.type2.specs.Type2.{command, span, type2}
@@ -79,6 +80,7 @@ type2-laws = record {
   same-addresses = λ i m j r n. writes.same-room memory memory-laws command span encoded i m r j n;
   same-values = λ i m j r n. refl;
   same-command = λ i m j r n bs. ap (λ k. commandOf (decode (k / 4) bs)) (n .same-length);
+  numbered = numbered memory memory-laws;
   wordless = wordless memory memory-laws;
   in-place = in-place memory memory-laws;
   sent = all-sent;

@@ -33,6 +33,10 @@ memory-laws = record {
       let l = length-is (length i) (c .0) in
       let v : 16 + 8 * byte i 14 ≤ length i = leb-true (16 + 8 * byte i 14) (length i) (c .1 .1 .1 .1 .0) in
       (l .0, omega arith, omega arith);
+  numbered = λ i. (
+    (omega arith, omega arith),
+    ((omega arith, omega arith), ((omega arith, omega arith), ((omega arith, omega arith), ((omega arith, omega arith), tt)))),
+  );
   local = λ i j l h.
       let e12 : byte j 12 ≡ byte i 12 = h 12 (omega arith) in
       let e13 : byte j 13 ≡ byte i 13 = h 13 (omega arith) in

@@ -1,43 +1,24 @@
 -- The tag as a model, by the tests that the code makes: reading's refusal, and whether the command is well formed.
 -- Assumes nothing.
 use mathlib.Core.Path.{_≡_, refl, sym, ap, _∙_}
-use mathlib.Core.Bool.{Bool, true, false, _||_}
+use mathlib.Core.Bool.{Bool, true, false}
 use mathlib.Core.List.{List, [], _∷_}
-use Prim.Native.Nat.{ℕ, _+_, _*_, _/_}
+use Prim.Native.Nat.{ℕ, _*_, _/_}
 use native.Mathlib.Omega.{arith}
-use lib.Dec.{leb, eqb}
 use lib.ListN.{length, drop}
 use lib.Seq.{sets}
 use Rattle.tag.specs.Bytes.{byte}
 use Rattle.tag.specs.Refusals.{not-well-formed}
-use Rattle.tag.specs.Checks.{check, firstOf}
 use Rattle.tag.specs.Reading.{Reading, unreadable, reads, refusalNumber}
 use Rattle.tag.specs.Stores.{ill, stores, formed, done}
 use Rattle.tag.specs.Judging.{Applied}
 use Rattle.tag.specs.Model.{unstored, stored, given, modelBy, model}
-use Rattle.tag.specs.Version.{knownVersion}
-use Rattle.tlv.proofs.Refusals.{CheckNumbered, Numbered, numbered}
-use Rattle.type2.specs.Memory.{imageLength, containerChecks, memory}
+use Rattle.tlv.proofs.Refusals.{numbered}
+use Rattle.type2.specs.Memory.{memory}
 use Rattle.type2.specs.Codec.{wellFormed, decode, commandOf}
 use Rattle.type2.specs.Type2.{type2}
+use Rattle.type2.proofs.Memory.{memory-laws}
 use Rattle.type2.proofs.Encoding.{decode-formed, decode-ill}
-
--- no refusal of the capability container is 0
-checking : (n mark version size access : ℕ) → CheckNumbered (firstOf (containerChecks n mark version size access))
-checking n mark version size access =
-    go (imageLength n) (eqb mark 0xE1) (knownVersion version) (eqb access 0x00 || eqb access 0x0F) (leb (16 + 8 * size) n)
-  where
-    go : (a b c d e : Bool) → CheckNumbered (firstOf (check a 1 ∷ check b 2 ∷ check c 3 ∷ check d 4 ∷ check e 5 ∷ []))
-    go false b c d e = omega arith
-    go true false c d e = omega arith
-    go true true false d e = omega arith
-    go true true true false e = omega arith
-    go true true true true false = omega arith
-    go true true true true true = tt
-
--- nor is one of reading
-type2-numbered : (i : List ℕ) → Numbered ((type2 .reading) i)
-type2-numbered i = numbered memory (λ j. checking (length j) (byte j 12) (byte j 13) (byte j 14) (byte j 15)) i
 
 -- ---- commands by their form
 
@@ -71,11 +52,11 @@ module _ (i bs : List ℕ) where
       go (reads p) h = absurd (h refl)
 
   model-given : refusalNumber ((type2 .reading) i) ≡ 0 → model type2 i bs ≡ given i ((type2 .command) i bs)
-  model-given n = go ((type2 .reading) i) (type2-numbered i) n
+  model-given n = go ((type2 .reading) i) refl n
     where
-      go : (v : Reading) → Numbered v → refusalNumber v ≡ 0 → modelBy i v ((type2 .command) i bs) ≡ given i ((type2 .command) i bs)
-      go (unreadable r) h q = absurd (omega arith)
-      go (reads p) h q = refl
+      go : (v : Reading) → (type2 .reading) i ≡ v → refusalNumber v ≡ 0 → modelBy i v ((type2 .command) i bs) ≡ given i ((type2 .command) i bs)
+      go (unreadable r) e q = absurd (omega (arith, numbered memory memory-laws i r e .0))
+      go (reads p) e q = refl
 
   pub model-ill : refusalNumber ((type2 .reading) i) ≡ 0 → wellFormed (length i / 4) bs ≡ false → model type2 i bs ≡ unstored not-well-formed
   model-ill n e = model-given n ∙ ap (given i) (command-ill i bs e)

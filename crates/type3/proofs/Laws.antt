@@ -26,7 +26,7 @@ use Rattle.type3.specs.Update.{blocksFor, blocksPerCommand, addresses, l
 use Rattle.type3.specs.Codec.{decode, commandOf}
 use Rattle.type3.specs.Type3.{type3}
 use Rattle.type3.proofs.Codec.{rising-nameable, blocksOf, Sendable, sent, span-sent, some-sent}
-use Rattle.type3.proofs.Message.{bounds, Agrees, same-sum, same-nmaxb, reads-writable, reads-passes}
+use Rattle.type3.proofs.Message.{bounds, Agrees, same-sum, same-nmaxb, numbered, reads-writable, reads-passes}
 use Rattle.type3.proofs.Shown.{wordless, in-place}
 use Rattle.type3.proofs.Update.{quiet, closed-length, closed-kept, above-addresses, kept-agrees, HasRoom, few-blocks, inside, reads-new}
 
@@ -137,6 +137,7 @@ type3-laws number eight = record {
   same-addresses = λ i m j r n. refl;
   same-values = λ i m j r n. near-values number i m j r n;
   same-command = λ i m j r n. near-command number i m j r n;
+  numbered = numbered;
   wordless = wordless;
   in-place = in-place;
   sent = λ i m r. list-sent number i m eight r;

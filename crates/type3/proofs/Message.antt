@@ -1,7 +1,7 @@
 -- What is known of a Type 3 tag that reads: it passes the checks, WriteFlag and Ln say what it holds, and what it holds fits.
 -- A tag that agrees with it in bytes 0 to 8 and 10 passes the checks again, if its WriteFlag, Ln and checksum are in order.
 -- Assumes nothing.
-use mathlib.Core.Path.{_≡_, refl, sym, ap}
+use mathlib.Core.Path.{_≡_, refl, sym, ap, subst, _∙_}
 use mathlib.Core.Bool.{Bool, true, false, not, _||_, cond}
 use mathlib.Core.List.{List}
 use Prim.Native.Nat.{ℕ, zero, suc, _+_, _*_, _/_, _≤_}
@@ -13,7 +13,7 @@ use Rattle.tag.specs.Bytes.{byte}
 use Rattle.tag.specs.Checks.{Checked, fine, fault, firstOf}
 use Rattle.tag.specs.Reading.{empty, being-written, Report, unreadable, reads, broken, nothing, holds, heldOf}
 use Rattle.tag.proofs.Logic.{and-three, and-both, lengths, nope}
-use Rattle.tag.proofs.Checks.{AllPass, fine-all, all-fine}
+use Rattle.tag.proofs.Checks.{AllPass, fine-all, all-fine, OfReading, first-among}
 use Rattle.type3.specs.Attributes.{steadySum, nmaxbOf, attributes, attributeChecks, mayWrite}
 use Rattle.type3.specs.Message.{View, refuse, busy, view, viewBy, viewed, without, withMessage, readingOf, reading}
 use Rattle.type3.specs.Update.{fits}
@@ -92,6 +92,24 @@ passes-reads i e = rw e (go (eqb (byte i 9) 0x0F) (attributes i .ln))
     go true n = (without being-written (mayWrite i), refl)
     go false zero = (without empty (mayWrite i), refl)
     go false (suc n) = (withMessage (suc n) i (mayWrite i), refl)
+
+-- and one that is refused has failed one of them: 1 to 5, or 7
+pub numbered : (i : List ℕ) (r : ℕ) → reading i ≡ unreadable r → OfReading r
+numbered i r e = go (firstOf (attributeChecks (length i) (attributes i))) refl
+  where
+    go : (c : Checked) → firstOf (attributeChecks (length i) (attributes i)) ≡ c → OfReading r
+    go fine q =
+        let (p, f) = passes-reads i q in
+        let e′ : reads p ≡ unreadable r = sym f ∙ e in
+        absurd (nope (cc))
+    go (fault s) q =
+        let e′ : unreadable s ≡ unreadable r = sym (unread i s q) ∙ e in
+        let p : s ≡ r = cc in
+        subst OfReading p
+        (first-among OfReading (attributeChecks (length i) (attributes i)) (
+          (omega arith, omega arith),
+          ((omega arith, omega arith), ((omega arith, omega arith), ((omega arith, omega arith), ((omega arith, omega arith), ((omega arith, omega arith), tt))))),
+        ) s q)
 
 -- ---- what a tag that passes them holds
 
