@@ -87,7 +87,7 @@ fn put_blocks(message: &[u8], skip: usize, count: usize, out: &mut [u8])
     while j < count {
         let i = skip + j;
         let block = fill_block(&message[16 * i..]);
-        bytes::copy(&block, &mut out[16 * j..]);
+        slices::store(&block, 16 * j, out);
         j += 1;
     }
 }

@@ -1,20 +1,16 @@
 -- `write::put_blocks` meets its contract: the blocks passed are laid over the buffer. Assumes nothing.
-use mathlib.Core.Path.{_≡_, refl, _∙_}
-use mathlib.Core.List.{List, _++_}
+use mathlib.Core.Path.{_≡_, refl, ap, _∙_}
+use mathlib.Core.List.{List, _++_, append-assoc}
 use Prim.Native.Nat.{ℕ, _+_, _-_, _*_, _≤_}
 use native.Mathlib.Omega.{arith}
 use borrow.Author.Needs.{needs}
 use lib.ListN.{length, take, drop}
-use lib.Seq.{take-length}
-use Rattle.tag.proofs.Filling.{lay-part}
+use lib.Seq.{sets, sets-eq}
+use Rattle.tag.proofs.Filling.{lay-more}
 use Rattle.type3_write.specs.Listing.{filled, blocksAt}
 use Rattle.type3_write.proofs.Body.{length-blocks, length-filled, blocks-more}
 use Rattle.type3_write.proofs.write.put_blocks.Statement.{statement}
 use Rattle.type3_write.proofs.write.put_blocks.Tie as tie
-
--- a block copied to the front of a buffer
-laid : (b f d : List ℕ) → b ≡ f → length f ≡ 16 → take (length b) b ++ drop (length b) d ≡ f ++ drop 16 d
-laid b f d e n = rw (e, take-length f, n)
 
 abbrev Inv-loop : tie.InvT-loop
 Inv-loop message skip count out₀ j₀ out j =
@@ -26,10 +22,18 @@ abbrev μ-loop : tie.MeasureT-loop
 loop-holds : tie.Need-loop-holds Inv-loop μ-loop
 loop-holds c = (search needs, refl, refl)
 
+-- a block stored behind those passed
+stored : (out p t y : List ℕ) (a : ℕ) → out ≡ p ++ drop a t → length p ≡ a → length y ≡ 16 → a + 16 ≤ length out → sets out a y ≡ (p ++ y) ++ drop (a + 16) t
+stored out p t y a q e n l =
+    sets-eq y out a (omega arith)
+    ∙ append-assoc (take a out) y (drop (a + length y) out)
+    ∙ ap (λ k. take a out ++ (y ++ drop (a + k) out)) n
+    ∙ lay-more out p t a q e y 16
+
 loop-again : tie.Need-loop-again Inv-loop μ-loop
 loop-again c =
-    let at-copy = c .before .before in
-    let at-fill = at-copy .before .before .before in
+    let at-store = c .before .before in
+    let at-fill = at-store .before .before .before in
     let at-loop = at-fill .before .before .before in
     let s = at-loop .before .before .before in
     let a = s .args in
@@ -40,8 +44,9 @@ loop-again c =
     let next : 16 * l .j + 16 ≡ 16 * (l .j + 1) = omega arith in (
       omega arith,
       search needs,
-      lay-part (l .out) (blocksAt m (a .skip) (l .j)) (a .out .now) (16 * l .j) (l .inv .2) long (filled part) _ (length (l .out)) 16
-          (omega (arith, s .pre .1)) (omega arith) (at-copy .copy .ensures .1 ∙ laid _ (filled part) _ (at-fill .fill-block .ensures) (length-filled part))
+      at-store .store .ensures
+          ∙ ap (sets (l .out) (16 * l .j)) (at-fill .fill-block .ensures)
+          ∙ stored (l .out) (blocksAt m (a .skip) (l .j)) (a .out .now) (filled part) (16 * l .j) (l .inv .2) long (length-filled part) (omega (arith, s .pre .1))
           ∙ rw (next, blocks-more m (a .skip) (l .j) (omega (arith, s .pre .0 .inside))),
     )
 
@@ -63,9 +68,6 @@ put-blocks-spec =
     (λ c. search needs)
     (λ c. search needs)
     (λ c κs. search needs)
-    (λ c. search needs)
-    (λ c. search needs)
-    (λ c. search needs)
     (λ c. search needs)
     (λ c. search needs)
     (λ c κs. search needs)
