@@ -19,10 +19,10 @@ use Rattle.tlv.specs.Areas.{anyArea}
 use Rattle.tlv.specs.Walk.{Length, bad, len, find}
 use Rattle.tlv.specs.Message.{View, refuse, view, viewBy}
 use Rattle.tlv.specs.Space.{Space, no-space, spaceOf}
-use Rattle.tlv.specs.Counted.{Added}
+use Rattle.tlv.specs.Counted.{Added, Declared}
 use Rattle.tlv.specs.Views.{ahead, Placed, Walked}
 use Rattle.tlv.specs.Finding.{FoundPlaced}
-use Rattle.tlv.proofs.Finding.{find-all}
+use Rattle.tlv.proofs.Finding.{find-all, found-declared}
 use Rattle.tlv_tag.specs.declared.space.Space as code
 use Rattle.tlv_tag.specs.declared.space.Space.the-variants as answer
 use Rattle.tlv_tag.specs.Blank.{Blank}
@@ -77,6 +77,9 @@ begin-placed i t w first end b s = record {
   };
   in-image = omega (arith, s .1, b .in-image);
 }
+
+pub area-declared : (i t u : List ℕ) (w : Walk) (first end : ℕ) (r : code-found.Found) → Begins first end w → FoundPlaced i t u w r → Declared first end t u
+area-declared i t u w first end r s p = rw (s .0, s .1) at (found-declared i t u w r p)
 
 pub found-all : (i t : List ℕ) (w : Walk) (first end : ℕ) → Blank i t first end → w .at .0 ≡ first → w .end .0 ≡ end
     → find anyArea (w .end .0 - w .at .0) i (ahead t w) ≡ find anyArea (end - first) i (run first (end - first))

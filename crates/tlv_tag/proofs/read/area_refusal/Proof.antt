@@ -2,7 +2,7 @@
 use mathlib.Core.Path.{sym, ap, _∙_}
 use borrow.Author.Needs.{needs}
 use Rattle.tlv_tag.specs.Reading.{refusalOf}
-use Rattle.tlv_tag.proofs.Fitting.{begin-placed, found-at}
+use Rattle.tlv_tag.proofs.Fitting.{begin-placed, found-at, area-declared}
 use Rattle.tlv_tag.proofs.Reading.{area-lost, area-at}
 use Rattle.tlv_tag.proofs.read.area_refusal.Statement.{statement}
 use Rattle.tlv_tag.proofs.read.area_refusal.Tie as tie
@@ -28,9 +28,11 @@ returns c =
     let at-start = at-new .before .before .before in
     let a = at-start .args in
     let f = at-find-message .find-message in
-    let n = at-new .new in
-    sym (ap refusalOf
-    (area-lost (a .image .now) (a .table .now) (f .last .1 .1 .0) (a .first .0) (a .end .0) (n .result) (f .result) (at-start .pre) (n .ensures) (f .ensures .0) _ (at-r .r .given .1)))
+    let n = at-new .new in (
+      sym (ap refusalOf
+          (area-lost (a .image .now) (a .table .now) (f .last .1 .1 .0) (a .first .0) (a .end .0) (n .result) (f .result) (at-start .pre) (n .ensures) (f .ensures .0) _ (at-r .r .given .1))),
+      area-declared (a .image .now) (a .table .now) (f .last .1 .1 .0) (n .result) (a .first .0) (a .end .0) (f .result) (n .ensures) (f .ensures .1),
+    )
 
 returns-2 : tie.Need-returns-2
 returns-2 c =
@@ -40,10 +42,12 @@ returns-2 c =
     let at-start = at-new .before .before .before in
     let a = at-start .args in
     let f = at-find-message .find-message in
-    let n = at-new .new in
-    c .message-refusal .ensures
-    ∙ sym (ap refusalOf
-    (area-at (a .image .now) (a .table .now) (f .last .1 .1 .0) (a .first .0) (a .end .0) (n .result) (f .result) (at-start .pre) (n .ensures) (f .ensures .0) _ _ (at-v .v .given .1)))
+    let n = at-new .new in (
+      c .message-refusal .ensures
+          ∙ sym (ap refusalOf
+          (area-at (a .image .now) (a .table .now) (f .last .1 .1 .0) (a .first .0) (a .end .0) (n .result) (f .result) (at-start .pre) (n .ensures) (f .ensures .0) _ _ (at-v .v .given .1))),
+      area-declared (a .image .now) (a .table .now) (f .last .1 .1 .0) (n .result) (a .first .0) (a .end .0) (f .result) (n .ensures) (f .ensures .1),
+    )
 
 pub area-refusal-spec : {M : Type 1} → statement M
 area-refusal-spec =

@@ -1,7 +1,7 @@
 -- `read::read_area` meets its contract. Assumes nothing.
 use mathlib.Core.Path.{refl}
 use borrow.Author.Needs.{needs}
-use Rattle.tlv_tag.proofs.Fitting.{begin-placed, found-at}
+use Rattle.tlv_tag.proofs.Fitting.{begin-placed, found-at, area-declared}
 use Rattle.tlv_tag.proofs.Reading.{area-lost, area-at}
 use Rattle.tlv_tag.proofs.read.read_area.Statement.{statement}
 use Rattle.tlv_tag.proofs.read.read_area.Tie as tie
@@ -29,7 +29,7 @@ returns c =
     let f = at-find-message .find-message in
     let n = at-new .new in
     rw (area-lost (a .image .now) (a .table .now) (f .last .1 .1 .0) (a .first .0) (a .end .0) (n .result) (f .result) (at-start .pre) (n .ensures) (f .ensures .0) _ (at-r .r .given .1))
-    (refl, refl)
+    (refl, (refl, area-declared (a .image .now) (a .table .now) (f .last .1 .1 .0) (n .result) (a .first .0) (a .end .0) (f .result) (n .ensures) (f .ensures .1)))
 
 returns-2 : tie.Need-returns-2
 returns-2 c =
@@ -43,7 +43,7 @@ returns-2 c =
     let n = at-new .new in
     let m = at-read-message .read-message .ensures in
     rw (area-at (a .image .now) (a .table .now) (f .last .1 .1 .0) (a .first .0) (a .end .0) (n .result) (f .result) (at-start .pre) (n .ensures) (f .ensures .0) _ _ (at-v .v .given .1))
-    (m .0, m .1)
+    (m .0, (m .1, area-declared (a .image .now) (a .table .now) (f .last .1 .1 .0) (n .result) (a .first .0) (a .end .0) (f .result) (n .ensures) (f .ensures .1)))
 
 pub read-area-spec : {M : Type 1} → statement M
 read-area-spec =

@@ -5,7 +5,7 @@ use borrow.Author.Needs.{needs}
 use Rattle.tlv.specs.Message.{viewOf}
 use Rattle.tlv.specs.Space.{spaceOf}
 use Rattle.tlv.specs.Finding.{foundAs}
-use Rattle.tlv_tag.proofs.Fitting.{begin-placed, found-all, found-at, here-placed}
+use Rattle.tlv_tag.proofs.Fitting.{begin-placed, area-declared, found-all, found-at, here-placed}
 use Rattle.tlv_tag.proofs.space.find_space.Statement.{statement}
 use Rattle.tlv_tag.proofs.space.find_space.Tie as tie
 
@@ -34,7 +34,7 @@ returns c =
     let e = sym (ap (foundAs (f .last .1 .1 .0)) (at-r .r .given .1)) ∙ f .ensures .0
     ∙ found-all (a .image .now) (a .table .now) (n .result) (a .first .0) (a .end .0) (at-start .pre) (n .ensures .0) (n .ensures .1) in (
       ap (λ x. spaceOf (a .writable) (a .n) (viewOf (a .image .now) x)) e,
-      tt,
+      (tt, area-declared (a .image .now) (a .table .now) (f .last .1 .1 .0) (n .result) (a .first .0) (a .end .0) (f .result) (n .ensures) (f .ensures .1)),
     )
 
 returns-2 : tie.Need-returns-2
@@ -51,8 +51,11 @@ returns-2 c =
     ∙ found-all (a .image .now) (a .table .now) (n .result) (a .first .0) (a .end .0) (at-start .pre) (n .ensures .0) (n .ensures .1) in
     let p = found-at (f .ensures .1) (g .1) in (
       c .space-after .ensures .0 ∙ ap (λ x. spaceOf (a .writable) (a .n) (viewOf (a .image .now) x)) e,
-      here-placed (a .image .now) (f .last .1 .1 .0) (a .n) (a .first .0) (a .end .0) (g .0 .1 .0) (c .space-after .result)
-          (omega (arith, p .1, p .2, n .ensures .0)) (p .0 .1 .same-end ∙ n .ensures .1) (c .space-after .ensures .1),
+      (
+        here-placed (a .image .now) (f .last .1 .1 .0) (a .n) (a .first .0) (a .end .0) (g .0 .1 .0) (c .space-after .result)
+            (omega (arith, p .1, p .2, n .ensures .0)) (p .0 .1 .same-end ∙ n .ensures .1) (c .space-after .ensures .1),
+        area-declared (a .image .now) (a .table .now) (f .last .1 .1 .0) (n .result) (a .first .0) (a .end .0) (f .result) (n .ensures) (f .ensures .1),
+      ),
     )
 
 pub find-space-spec : {M : Type 1} → statement M
