@@ -19,7 +19,7 @@ unfoldable pub Added : ℕ → ℕ → ℕ → List ℕ → List ℕ → Type 0
 Added first end zero t u = u ≡ t
 Added first end (suc n) t u = (s : List ℕ) × Added first end n t s × OneMore first end s u
 
--- u is t with the areas marked that were declared until the walk ended; how many these are is left free
+-- u is t with some areas marked, those that were declared until the walk ended: which and how many is left free here
 abbrev pub Declared : ℕ → ℕ → List ℕ → List ℕ → Type 0
 Declared first end t u = (n : ℕ) × Added first end n t u
 
