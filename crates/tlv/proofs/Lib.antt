@@ -6,6 +6,7 @@ pub mod Tag
 pub mod Writes
 pub mod Shown
 pub mod Skipping
+pub mod Counted
 pub mod Usable
 pub mod Overlays
 pub mod Touches

@@ -11,7 +11,8 @@ use Rattle.tlv.specs.declared.find.Stepped.the-variants as stepped
 use Rattle.tlv.specs.declared.find.Found as code-found
 use Rattle.tlv.specs.declared.find.Found.the-variants as code-at
 use Rattle.tlv.specs.Walk.{Step, on, hit, more, stop, Found, lost, found}
-use Rattle.tlv.specs.Views.{ahead, Onward}
+use Rattle.tlv.specs.Counted.{Declared}
+use Rattle.tlv.specs.Views.{ahead, Walked}
 
 -- ---- a step
 
@@ -25,16 +26,16 @@ steppedAs table (stepped.On w) = on (more (ahead table w))
 steppedAs table (stepped.Message a w) = hit (a .0) (ahead table w)
 
 -- after the type byte at p
-abbrev pub TypePlaced : List ℕ → List ℕ → Walk → ℕ → code-stepped.Stepped → Type 0
-TypePlaced image table v p (stepped.Stop r) = Unit {0}
-TypePlaced image table v p (stepped.On w) = Onward image table v w
-TypePlaced image table v p (stepped.Message a w) = Onward image table v w × (a .0 ≡ p)
+abbrev pub TypePlaced : List ℕ → List ℕ → List ℕ → Walk → ℕ → code-stepped.Stepped → Type 0
+TypePlaced image t u v p (stepped.Stop r) = u ≡ t
+TypePlaced image t u v p (stepped.On w) = Walked image t u v w
+TypePlaced image t u v p (stepped.Message a w) = Walked image t u v w × (a .0 ≡ p)
 
 -- a step takes at least its type byte
-abbrev pub SteppedPlaced : List ℕ → List ℕ → Walk → code-stepped.Stepped → Type 0
-SteppedPlaced image table v (stepped.Stop r) = Unit {0}
-SteppedPlaced image table v (stepped.On w) = Onward image table v w × (v .at .0 < w .at .0)
-SteppedPlaced image table v (stepped.Message a w) = Onward image table v w × (v .at .0 ≤ a .0) × (a .0 < w .at .0)
+abbrev pub SteppedPlaced : List ℕ → List ℕ → List ℕ → Walk → code-stepped.Stepped → Type 0
+SteppedPlaced image t u v (stepped.Stop r) = u ≡ t
+SteppedPlaced image t u v (stepped.On w) = Walked image t u v w × (v .at .0 < w .at .0)
+SteppedPlaced image t u v (stepped.Message a w) = Walked image t u v w × (v .at .0 ≤ a .0) × (a .0 < w .at .0)
 
 -- ---- the message TLV found
 
@@ -42,6 +43,6 @@ abbrev pub foundAs : List ℕ → code-found.Found → Found
 foundAs table (code-at.Lost r) = lost r
 foundAs table (code-at.At a w) = found (a .0) (ahead table w)
 
-abbrev pub FoundPlaced : List ℕ → List ℕ → Walk → code-found.Found → Type 0
-FoundPlaced image table v (code-at.Lost r) = Unit {0}
-FoundPlaced image table v (code-at.At a w) = Onward image table v w × (v .at .0 ≤ a .0) × (a .0 < w .at .0)
+abbrev pub FoundPlaced : List ℕ → List ℕ → List ℕ → Walk → code-found.Found → Type 0
+FoundPlaced image t u v (code-at.Lost r) = Declared (v .at .0) (v .end .0) t u
+FoundPlaced image t u v (code-at.At a w) = Walked image t u v w × (v .at .0 ≤ a .0) × (a .0 < w .at .0)

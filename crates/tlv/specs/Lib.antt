@@ -5,8 +5,9 @@ pub mod Message
 pub mod Update
 pub mod Tag
 pub mod Table
-pub mod Views
 pub mod Marks
+pub mod Counted
+pub mod Views
 pub mod Passing
 pub mod Finding
 pub mod Values

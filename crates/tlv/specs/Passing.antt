@@ -2,7 +2,7 @@
 -- Assumes nothing.
 use mathlib.Core.Path.{_≡_}
 use mathlib.Core.List.{List}
-use Prim.Native.Nat.{ℕ, _≤_}
+use Prim.Native.Nat.{ℕ, suc, _≤_}
 use lib.ListN.{length}
 use Rattle.tlv.specs.declared.walk.Walk.{Walk}
 use Rattle.tlv.specs.declared.length.Field as code-field
@@ -13,8 +13,9 @@ use Rattle.tlv.specs.declared.area.Area as code-area
 use Rattle.tag.specs.Refusals.{bad-length}
 use Rattle.tlv.specs.Areas.{Control, anyArea}
 use Rattle.tlv.specs.Walk.{takeByte, onByte, Length, bad, len, Passed, more, stop, areaBy}
-use Rattle.tlv.specs.Views.{ahead, Within, Onward}
+use Rattle.tlv.specs.Views.{ahead, Within, Onward, Along}
 use Rattle.tlv.specs.Marks.{SmallArea}
+use Rattle.tlv.specs.Counted.{OneMore}
 
 -- ---- length fields
 
@@ -24,7 +25,7 @@ fieldAs table (field.Is n w) = len n (ahead table w)
 
 abbrev pub FieldPlaced : List ℕ → List ℕ → Walk → code-field.Field → Type 0
 FieldPlaced image table v field.Bad = Unit {0}
-FieldPlaced image table v (field.Is n w) = Onward image table v w × (n ≤ 65534)
+FieldPlaced image table v (field.Is n w) = Along image table v w × (n ≤ 65534)
 
 -- ---- a TLV passed
 
@@ -37,14 +38,16 @@ pub record Moved (v w : Walk) : Type 0 where
   pub farther : v .at .0 ≤ w .at .0
   pub ordered : w .at .0 ≤ w .end .0
   pub same-end : w .end .0 ≡ v .end .0
+  pub same-areas : w .areas ≡ v .areas
 
 abbrev pub PassedWithin : Walk → code-passed.Passed → Type 0
 PassedWithin v (passed.Stop r) = Unit {0}
 PassedWithin v (passed.More w) = Moved v w
 
-abbrev pub PassedPlaced : List ℕ → List ℕ → Walk → code-passed.Passed → Type 0
-PassedPlaced image table v (passed.Stop r) = Unit {0}
-PassedPlaced image table v (passed.More w) = Onward image table v w
+-- a TLV that declares n areas; one that is refused declares none
+abbrev pub PassedPlaced : List ℕ → List ℕ → List ℕ → ℕ → Walk → code-passed.Passed → Type 0
+PassedPlaced image t u n v (passed.Stop r) = u ≡ t
+PassedPlaced image t u n v (passed.More w) = Onward image t u n v w
 
 -- ---- control TLVs
 
@@ -53,9 +56,10 @@ pub record Skips (table : List ℕ) (w : Walk) (r : code-area.Area) : Type 0 whe
   pub within : Within table w
   pub small : SmallArea r
 
--- the walk stays where it is
+-- the walk stays where it is and counts one area more, and that area is marked
 pub record Skipped (t u : List ℕ) (v w : Walk) : Type 0 where
-  pub same-length : length u ≡ length t
+  pub one-more : OneMore (v .at .0) (v .end .0) t u
+  pub counted : w .areas ≡ suc (v .areas)
   pub same-at : w .at .0 ≡ v .at .0
   pub same-end : w .end .0 ≡ v .end .0
 

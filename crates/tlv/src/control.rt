@@ -31,8 +31,8 @@ fn earlier(a: Address, b: Address) -> Address
 }
 
 impl Walk {
-    // The addresses of the area that are still to come are skipped from here on. What the area has past the data area's end
-    // is cut off first, so that its end goes into the table.
+    // An area declared: its addresses that are still to come are skipped from here on, and the walk counts one area more. What
+    // the area has past the data area's end is cut off first, so that its end goes into the table.
     pub(crate) fn skip_area(self, area: Area, table: &mut [u16]) -> Walk
         requires { ⌜ Skips (now table) self area ⌝ }
         ensures is { λ r. ⌜ ahead (now (table .exit)) r ≡ without (areaAs area) (ahead (now (table .entry)) self) ⌝ }
@@ -43,7 +43,10 @@ impl Walk {
         let from = later(start, self.at);
         let to = earlier(Address(stop), self.end);
         table::mark(table, from, to);
-        self
+        let at = self.at;
+        let end = self.end;
+        let areas = self.areas + 1;
+        Walk { at, end, areas }
     }
 
     // The last of a control TLV's three value bytes, with the area that they declare.
@@ -57,7 +60,7 @@ impl Walk {
     ) -> Passed
         requires { ⌜ Placed (now image) (now table) self ⌝ }
         ensures is { λ r. ⌜ passedAs (now (table .exit)) r ≡ lastOf (controlAs kind) place size (now (image .entry)) (ahead (now (table .entry)) self) ⌝ }
-        ensures placed { λ r. ⌜ PassedPlaced (now (image .entry)) (now (table .exit)) self r ⌝ }
+        ensures placed { λ r. ⌜ PassedPlaced (now (image .entry)) (now (table .entry)) (now (table .exit)) 1 self r ⌝ }
     {
         match self.take_byte(image, table) {
             Taken::Nothing => Passed::Stop(7),
@@ -75,7 +78,7 @@ impl Walk {
     fn pass_control_value(self, kind: Control, image: &[u8], table: &mut [u16]) -> Passed
         requires { ⌜ Placed (now image) (now table) self ⌝ }
         ensures is { λ r. ⌜ passedAs (now (table .exit)) r ≡ controlValue anyArea (controlAs kind) (now (image .entry)) (ahead (now (table .entry)) self) ⌝ }
-        ensures placed { λ r. ⌜ PassedPlaced (now (image .entry)) (now (table .exit)) self r ⌝ }
+        ensures placed { λ r. ⌜ PassedPlaced (now (image .entry)) (now (table .entry)) (now (table .exit)) 1 self r ⌝ }
     {
         match self.take_byte(image, table) {
             Taken::Nothing => Passed::Stop(7),
@@ -90,7 +93,7 @@ impl Walk {
     pub(crate) fn pass_control(self, kind: Control, image: &[u8], table: &mut [u16]) -> Passed
         requires { ⌜ Placed (now image) (now table) self ⌝ }
         ensures is { λ r. ⌜ passedAs (now (table .exit)) r ≡ passControl anyArea (controlAs kind) (now (image .entry)) (ahead (now (table .entry)) self) ⌝ }
-        ensures placed { λ r. ⌜ PassedPlaced (now (image .entry)) (now (table .exit)) self r ⌝ }
+        ensures placed { λ r. ⌜ PassedPlaced (now (image .entry)) (now (table .entry)) (now (table .exit)) 1 self r ⌝ }
     {
         match self.take_byte(image, table) {
             Taken::Nothing => Passed::Stop(7),

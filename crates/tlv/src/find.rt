@@ -40,7 +40,7 @@ impl Walk {
     fn pass_by_type(self, byte: u8, place: Address, image: &[u8], table: &mut [u16]) -> Stepped
         requires { ⌜ Placed (now image) (now table) self ⌝ }
         ensures is { λ r. ⌜ steppedAs (now (table .exit)) r ≡ stepAt anyArea (kindOf byte) (now (image .entry)) (place .0) (ahead (now (table .entry)) self) ⌝ }
-        ensures placed { λ r. ⌜ TypePlaced (now (image .entry)) (now (table .exit)) self (place .0) r ⌝ }
+        ensures placed { λ r. ⌜ TypePlaced (now (image .entry)) (now (table .entry)) (now (table .exit)) self (place .0) r ⌝ }
     {
         if byte == 0x00 {
             return Stepped::On(self);
@@ -64,7 +64,7 @@ impl Walk {
     pub(crate) fn pass_tlv(self, image: &[u8], table: &mut [u16]) -> Stepped
         requires { ⌜ Placed (now image) (now table) self ⌝ }
         ensures is { λ r. ⌜ steppedAs (now (table .exit)) r ≡ step anyArea (now (image .entry)) (ahead (now (table .entry)) self) ⌝ }
-        ensures placed { λ r. ⌜ SteppedPlaced (now (image .entry)) (now (table .exit)) self r ⌝ }
+        ensures placed { λ r. ⌜ SteppedPlaced (now (image .entry)) (now (table .entry)) (now (table .exit)) self r ⌝ }
     {
         match self.take_byte(image, table) {
             Taken::Nothing => Stepped::Stop(8),
@@ -76,7 +76,7 @@ impl Walk {
     pub fn find_message(self, image: &[u8], table: &mut [u16]) -> Found
         requires { ⌜ Placed (now image) (now table) self ⌝ }
         ensures is { λ r. ⌜ foundAs (now (table .exit)) r ≡ find anyArea (self .end .0 - self .at .0) (now (image .entry)) (ahead (now (table .entry)) self) ⌝ }
-        ensures placed { λ r. ⌜ FoundPlaced (now (image .entry)) (now (table .exit)) self r ⌝ }
+        ensures placed { λ r. ⌜ FoundPlaced (now (image .entry)) (now (table .entry)) (now (table .exit)) self r ⌝ }
     {
         let mut w = self;
         loop {

@@ -74,20 +74,21 @@ impl Walk {
             return Passed::More(self);
         }
         let end = self.end;
+        let areas = self.areas;
         let last = value::nth(self, n - 1, table);
         let z = last.0;
         if z == end.0 {
             return Passed::Stop(7);
         }
         let at = Address(z + 1);
-        Passed::More(Walk { at, end })
+        Passed::More(Walk { at, end, areas })
     }
 
     // A TLV of another type, after its type byte: length and value are passed over.
     pub fn pass_other(self, image: &[u8], table: &[u16]) -> Passed
         requires { ⌜ Placed (now image) (now table) self ⌝ }
         ensures is { λ r. ⌜ passedAs (now (table .entry)) r ≡ passValue (lengthOf (now (image .entry)) (ahead (now (table .entry)) self)) ⌝ }
-        ensures placed { λ r. ⌜ PassedPlaced (now (image .entry)) (now (table .entry)) self r ⌝ }
+        ensures placed { λ r. ⌜ PassedPlaced (now (image .entry)) (now (table .entry)) (now (table .entry)) 0 self r ⌝ }
     {
         match self.take_length(image, table) {
             Field::Bad => Passed::Stop(7),

@@ -10,7 +10,7 @@ ghost use mathlib.Core.List.{map};
 ghost use Prim.Native.Nat.{_*_, _<_, _≤_};
 ghost use lib.ListN.{length, getD, take, drop};
 ghost use Rattle.tag.specs.Bytes.{byte, overlay, overwrite};
-ghost use Rattle.tlv.specs.Views.{ahead, Placed, Within, Onward};
+ghost use Rattle.tlv.specs.Views.{ahead, Placed, Within, Along};
 ghost use Rattle.tlv.specs.Values.{measured, valueAs, ValueRoom, BlocksMarked};
 
 // A value of so many bytes: fewer usable ones are left; or the address of the first, and whether skipped ones lie in between.
@@ -102,9 +102,10 @@ pub fn set_bytes(w: Walk, bytes: &[u8], table: &[u16], image: &mut [u8]) -> Walk
     requires { ⌜ Placed (now image) (now table) w ⌝ }
     ensures sets { λ _. ⌜ now (image .exit) ≡ overlay (ahead (now (table .entry)) w) (now (bytes .entry)) (now (image .entry)) ⌝ }
     ensures past { λ r. ⌜ ahead (now (table .entry)) r ≡ drop (length (now (bytes .entry))) (ahead (now (table .entry)) w) ⌝ }
-    ensures placed { λ r. ⌜ Onward (now (image .exit)) (now (table .entry)) w r ⌝ }
+    ensures placed { λ r. ⌜ Along (now (image .exit)) (now (table .entry)) w r ⌝ }
 {
     let end = w.end;
+    let areas = w.areas;
     let stop = end.0;
     let first = table::next_usable(table, w.at, end);
     let mut a = first.0;
@@ -114,6 +115,7 @@ pub fn set_bytes(w: Walk, bytes: &[u8], table: &[u16], image: &mut [u8]) -> Walk
             return Walk {
                 at: Address(a),
                 end,
+                areas,
             };
         }
         image[a] = bytes[k];
@@ -124,6 +126,7 @@ pub fn set_bytes(w: Walk, bytes: &[u8], table: &[u16], image: &mut [u8]) -> Walk
     Walk {
         at: Address(a),
         end,
+        areas,
     }
 }
 

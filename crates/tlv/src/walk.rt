@@ -6,10 +6,11 @@ ghost use mathlib.Core.Path.{_≡_};
 ghost use Rattle.tlv.specs.Walk.{takeByte};
 ghost use Rattle.tlv.specs.Views.{ahead, Placed, takenAs, TakenPlaced};
 
-// The place reached: the next address to look at, and the data area's end.
+// The place reached: the next address to look at, the data area's end, and how many areas were declared on the way.
 pub struct Walk {
     pub at: Address,
     pub end: Address,
+    pub areas: usize,
 }
 
 // A byte taken: its value, its address, and the walk past it; or none is left.
@@ -21,9 +22,13 @@ pub enum Taken {
 impl Walk {
     // The walk over the data area from `first` up to `end`, before its first byte.
     pub fn new(first: Address, end: Address) -> Walk
-        ensures { λ r. ⌜ (r .at .0 ≡ first .0) × (r .end .0 ≡ end .0) ⌝ }
+        ensures { λ r. ⌜ (r .at .0 ≡ first .0) × (r .end .0 ≡ end .0) × (r .areas ≡ 0) ⌝ }
     {
-        Walk { at: first, end }
+        Walk {
+            at: first,
+            end,
+            areas: 0,
+        }
     }
 
     // The next usable byte.
@@ -33,11 +38,20 @@ impl Walk {
         ensures placed { λ r. ⌜ TakenPlaced (now (image .entry)) (now (table .entry)) self r ⌝ }
     {
         let end = self.end;
+        let areas = self.areas;
         let found = table::next_usable(table, self.at, end);
         let a = found.0;
         if a < end.0 {
             let next = Address(a + 1);
-            Taken::Byte(image[a], found, Walk { at: next, end })
+            Taken::Byte(
+                image[a],
+                found,
+                Walk {
+                    at: next,
+                    end,
+                    areas,
+                },
+            )
         } else {
             Taken::Nothing
         }

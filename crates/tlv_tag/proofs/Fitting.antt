@@ -19,9 +19,10 @@ use Rattle.tlv.specs.Areas.{anyArea}
 use Rattle.tlv.specs.Walk.{Length, bad, len, find}
 use Rattle.tlv.specs.Message.{View, refuse, view, viewBy}
 use Rattle.tlv.specs.Space.{Space, no-space, spaceOf}
-use Rattle.tlv.specs.Views.{ahead, Onward}
+use Rattle.tlv.specs.Counted.{Added, Declared}
+use Rattle.tlv.specs.Views.{ahead, Placed, Walked}
 use Rattle.tlv.specs.Finding.{FoundPlaced}
-use Rattle.tlv.proofs.Finding.{find-all}
+use Rattle.tlv.proofs.Finding.{find-all, found-declared}
 use Rattle.tlv_tag.specs.declared.space.Space as code
 use Rattle.tlv_tag.specs.declared.space.Space.the-variants as answer
 use Rattle.tlv_tag.specs.Blank.{Blank}
@@ -60,15 +61,35 @@ module _ (w : Bool) (n : ℕ) where
 
 -- ---- the walk from the start of the data area
 
+-- a walk that has not begun
+abbrev pub Begins : ℕ → ℕ → Walk → Type 0
+Begins first end w = (w .at .0 ≡ first) × (w .end .0 ≡ end) × (w .areas ≡ 0)
+
+pub begin-placed : (i t : List ℕ) (w : Walk) (first end : ℕ) → Blank i t first end → Begins first end w → Placed i t w
+unfolding Added
+begin-placed i t w first end b s = record {
+  within = record {
+    ordered = omega (arith, s .0, s .1, b .ordered);
+    in-table = omega (arith, s .1, b .in-table);
+    short = b .short;
+    few = omega (arith, s .2);
+    declared = rw (s .2) (b .clear);
+  };
+  in-image = omega (arith, s .1, b .in-image);
+}
+
+pub area-declared : (i t u : List ℕ) (w : Walk) (first end : ℕ) (r : code-found.Found) → Begins first end w → FoundPlaced i t u w r → Declared first end t u
+area-declared i t u w first end r s p = rw (s .0, s .1) at (found-declared i t u w r p)
+
 pub found-all : (i t : List ℕ) (w : Walk) (first end : ℕ) → Blank i t first end → w .at .0 ≡ first → w .end .0 ≡ end
     → find anyArea (w .end .0 - w .at .0) i (ahead t w) ≡ find anyArea (end - first) i (run first (end - first))
 found-all i t w first end b p q =
     ap (λ u. find anyArea (w .end .0 - w .at .0) i (ahead u w)) (b .clear)
     ∙ find-all (length t) i w first (end - first) p (omega (arith, b .ordered)) (omega (arith, b .ordered, b .in-table))
 
-pub found-at : {i t : List ℕ} {v w : Walk} {a : Address} {r : code-found.Found} → FoundPlaced i t v r → r ≡ found.At a w
-    → Onward i t v w × (v .at .0 ≤ a .0) × (a .0 < w .at .0)
-found-at {i} {t} {v} p g = subst (FoundPlaced i t v) g p
+pub found-at : {i s t : List ℕ} {v w : Walk} {a : Address} {r : code-found.Found} → FoundPlaced i s t v r → r ≡ found.At a w
+    → Walked i s t v w × (v .at .0 ≤ a .0) × (a .0 < w .at .0)
+found-at {i} {s} {t} {v} p g = subst (FoundPlaced i s t v) g p
 
 -- the space behind the message TLV lies in the data area
 pub here-placed : (i t : List ℕ) (n first end : ℕ) (v : Walk) (r : code.Space) → first < v .at .0 → v .end .0 ≡ end

@@ -28,7 +28,7 @@ use Rattle.tlv.specs.Values.{at, measured}
 use Rattle.tlv.proofs.Measured.{report-measured}
 use Rattle.tlv_tag.specs.Blank.{Blank}
 use Rattle.tlv_tag.specs.Reading.{areaView, tlvView, valueReading, refusalOf, reportAs}
-use Rattle.tlv_tag.proofs.Fitting.{found-all}
+use Rattle.tlv_tag.proofs.Fitting.{Begins, found-all}
 
 -- the answer and the gathering buffer afterwards are those of a reading
 abbrev pub Answers : ReadAnswer → List ℕ → List ℕ → Reading → Type 0
@@ -109,7 +109,7 @@ module _ (i us : List ℕ) where
 
 -- ---- the data area by what the walk over it found: t is the table before, u the table afterwards
 
-module _ (i t u : List ℕ) (first end : ℕ) (w : Walk) (f : code-found.Found) (blank : Blank i t first end) (start : (w .at .0 ≡ first) × (w .end .0 ≡ end))
+module _ (i t u : List ℕ) (first end : ℕ) (w : Walk) (f : code-found.Found) (blank : Blank i t first end) (start : Begins first end w)
     (walked : foundAs u f ≡ find anyArea (w .end .0 - w .at .0) i (ahead t w)) where
   area-is : areaView i first end ≡ viewOf i (foundAs u f)
   area-is =

@@ -15,6 +15,7 @@ ghost use Prim.Native.Nat.{_≤_};
 ghost use lib.ListN.{length};
 ghost use Rattle.tag.specs.Reading.{reads, answerOf, gatheredInto};
 ghost use Rattle.tag.specs.Answers.{readAs};
+ghost use Rattle.tlv.specs.Counted.{Declared};
 ghost use Rattle.tlv.specs.Views.{ahead, Placed};
 ghost use Rattle.tlv.specs.Message.{readingOf};
 ghost use Rattle.tlv_tag.specs.Blank.{Blank};
@@ -106,6 +107,7 @@ pub fn read_area(
     requires { ⌜ Blank (now image) (now table) (first .0) (end .0) ⌝ }
     ensures answer { λ r. ⌜ readAs r ≡ answerOf (length (now (gathered .entry))) (readingOf writable (now (image .entry)) (areaView (now (image .entry)) (first .0) (end .0))) ⌝ }
     ensures buffer { λ _. ⌜ now (gathered .exit) ≡ gatheredInto (now (gathered .entry)) (readingOf writable (now (image .entry)) (areaView (now (image .entry)) (first .0) (end .0))) ⌝ }
+    ensures table { λ _. ⌜ Declared (first .0) (end .0) (now (table .entry)) (now (table .exit)) ⌝ }
 {
     let w = Walk::new(first, end);
     match w.find_message(image, table) {
@@ -128,7 +130,8 @@ pub(crate) fn message_refusal(image: &[u8], table: &[u16], w: Walk) -> u8
 // The refusal of the data area from `first` up to `end`, or 0, with a table of zeros to mark skipped addresses in.
 pub fn area_refusal(image: &[u8], table: &mut [u16], first: Address, end: Address) -> u8
     requires { ⌜ Blank (now image) (now table) (first .0) (end .0) ⌝ }
-    ensures { λ r. ⌜ r ≡ refusalOf (areaView (now (image .entry)) (first .0) (end .0)) ⌝ }
+    ensures is { λ r. ⌜ r ≡ refusalOf (areaView (now (image .entry)) (first .0) (end .0)) ⌝ }
+    ensures table { λ _. ⌜ Declared (first .0) (end .0) (now (table .entry)) (now (table .exit)) ⌝ }
 {
     let w = Walk::new(first, end);
     match w.find_message(image, table) {

@@ -11,6 +11,7 @@ ghost use Prim.Native.Nat.{ℕ};
 ghost use Rattle.tlv.specs.Message.{view};
 ghost use Rattle.tlv.specs.Update.{fitsIn};
 ghost use Rattle.tlv.specs.Space.{spaceOf};
+ghost use Rattle.tlv.specs.Counted.{Declared};
 ghost use Rattle.tlv.specs.Views.{ahead, Placed};
 ghost use Rattle.tlv_tag.specs.Blank.{Blank};
 ghost use Rattle.tlv_tag.specs.Reading.{areaView, tlvView};
@@ -79,6 +80,7 @@ pub fn find_space(
     requires { ⌜ Blank (now image) (now table) (first .0) (end .0) ⌝ }
     ensures is { λ r. ⌜ spaceAs (now (table .exit)) r ≡ spaceOf writable n (areaView (now (image .entry)) (first .0) (end .0)) ⌝ }
     ensures placed { λ r. ⌜ SpacePlaced (now (image .entry)) (now (table .exit)) n (first .0) (end .0) r ⌝ }
+    ensures table { λ _. ⌜ Declared (first .0) (end .0) (now (table .entry)) (now (table .exit)) ⌝ }
 {
     match Walk::new(first, end).find_message(image, table) {
         Found::Lost(r) => Space::Refused(r),

@@ -8,7 +8,7 @@ ghost use Prim.Native.Nat.{_*_, _<_, _≤_};
 ghost use lib.ListN.{length, drop};
 ghost use Rattle.tag.specs.Bytes.{overlay};
 ghost use Rattle.tlv.specs.Update.{lengthField, content};
-ghost use Rattle.tlv.specs.Views.{ahead, Placed, Within, Onward};
+ghost use Rattle.tlv.specs.Views.{ahead, Placed, Within, Along};
 ghost use Rattle.tlv.specs.Values.{BlocksMarked};
 ghost use Rattle.tlv_tag.specs.Update.{contentLength};
 
@@ -17,7 +17,7 @@ fn set_length(w: Walk, n: usize, table: &[u16], image: &mut [u8]) -> Walk
     requires { ⌜ Placed (now image) (now table) w × (n ≤ 65534) ⌝ }
     ensures sets { λ _. ⌜ now (image .exit) ≡ overlay (ahead (now (table .entry)) w) (lengthField n) (now (image .entry)) ⌝ }
     ensures past { λ r. ⌜ ahead (now (table .entry)) r ≡ drop (length (lengthField n)) (ahead (now (table .entry)) w) ⌝ }
-    ensures placed { λ r. ⌜ Onward (now (image .exit)) (now (table .entry)) w r ⌝ }
+    ensures placed { λ r. ⌜ Along (now (image .exit)) (now (table .entry)) w r ⌝ }
 {
     if n <= 254 {
         let short = [n as u8];

@@ -28,7 +28,7 @@ judge-space-requires c κs =
     let f = at-find-space .find-space in
     let g = at-w .w .given in
     let e = sym (ap (spaceAs (f .last .1 .1 .0)) (g .1)) ∙ f .ensures .0 in
-    let room = subst (SpacePlaced (a .image .now) (f .last .1 .1 .0) (length (a .message .now)) 16 (a .end .0)) (g .1) (f .ensures .1) in (
+    let room = subst (SpacePlaced (a .image .now) (f .last .1 .1 .0) (length (a .message .now)) 16 (a .end .0)) (g .1) (f .ensures .1 .0) in (
       writable-at (a .image .now) (a .message .now) (a .end .0) (a .writable) (at-start .pre .1) _ e,
       room .0,
       addresses-at (a .image .now) (a .message .now) (a .end .0) (a .writable) (at-start .pre .1) _ e,

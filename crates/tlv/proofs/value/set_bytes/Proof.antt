@@ -10,53 +10,60 @@ use Rattle.tag.specs.Bytes.{overlay}
 use Rattle.tlv.specs.Views.{ahead}
 use Rattle.tlv.proofs.Usable.{from, At, from-above, from-next, from-end}
 use Rattle.tlv.proofs.Overlays.{overlay-none, overlay-next}
+use Rattle.tlv.proofs.Steps.{stay, moved}
 use Rattle.tlv.proofs.Turns.{drop-next}
 use Rattle.tlv.proofs.value.set_bytes.Statement.{statement}
 use Rattle.tlv.proofs.value.set_bytes.Tie as tie
 
 abbrev Inv-loop : tie.InvT-loop
-Inv-loop bytes table image₀ end stop a₀ k₀ image a k =
+Inv-loop bytes table image₀ end areas stop a₀ k₀ image a k =
     At table a stop × (stop ≤ length image) × (length image ≡ length image₀) × (a₀ ≤ a) × (k ≤ length bytes)
     × (overlay (from table a stop) (drop k bytes) image ≡ overlay (from table a₀ stop) bytes image₀)
     × (drop (length bytes - k) (from table a stop) ≡ drop (length bytes) (from table a₀ stop))
 
 abbrev μ-loop : tie.MeasureT-loop
-μ-loop bytes table image₀ end stop a₀ k₀ image a k = stop - a
+μ-loop bytes table image₀ end areas stop a₀ k₀ image a k = stop - a
 
 loop-holds : tie.Need-loop-holds Inv-loop μ-loop
 loop-holds c =
-    let n : length (c .before .before .before .before .before .args .bytes .now) - 0 ≡ length (c .before .before .before .before .before .args .bytes .now) = omega arith in
+    let at-end = c .before in
+    let at-start = at-end .before .before .before .before in
+    let n : length (at-start .args .bytes .now) - 0 ≡ length (at-start .args .bytes .now) = omega arith in
     (record { within = search needs; in-table = search needs; free = c .next-usable .ensures .1 .1 }, search needs, refl, search needs, search needs, refl, rw n)
 
 returns : tie.Need-returns Inv-loop μ-loop
 returns c =
-    let a = c .before .before .before .before .before .before .before .before .args in
+    let at-loop = c .before .before in
+    let at-next-usable = at-loop .before in
+    let at-end = at-next-usable .before in
+    let at-start = at-end .before .before .before .before in
+    let a = at-start .args in
     let t = a .table .now in
     let e = a .w .end .0 in
     let n = length (a .bytes .now) in
-    let l = c .before .before .loop in
-    let us : ahead t (a .w) ≡ from t (c .before .before .before .next-usable .result .0) e = c .before .before .before .next-usable .ensures .1 .0 in
+    let l = at-loop .loop in
+    let us : ahead t (a .w) ≡ from t (at-next-usable .next-usable .result .0) e = at-next-usable .next-usable .ensures .1 .0 in
     let z : n - l .k ≡ 0 = omega arith in
     let h : n ≤ l .k = omega arith in
     let y : drop (l .k) (a .bytes .now) ≡ [] = drop-of-length-le (a .bytes .now) h in (
       sym (overlay-none (from t (l .a) e) (l .image)) ∙ rw y at (l .inv .5) ∙ ap (λ us. overlay us (a .bytes .now) (a .image .now)) (sym us),
       (
         rw z at (l .inv .6) ∙ ap (drop n) (sym us),
-        record {
-          placed = record { within = record { ordered = search needs; in-table = search needs; short = search needs }; in-image = search needs };
-          farther = search needs;
-          same-end = refl;
-        },
+        moved (stay (record { within = at-start .pre .within; in-image = search needs }))
+            (record { farther = search needs; ordered = search needs; same-end = refl; same-areas = refl }),
       ),
     )
 
 loop-again : tie.Need-loop-again Inv-loop μ-loop
 loop-again c =
-    let a = c .before .before .before .before .before .before .before .before .before .before .args in
+    let at-loop = c .before .before .before .before in
+    let at-end = at-loop .before .before in
+    let at-start = at-end .before .before .before .before in
+    let a = at-start .args in
     let t = a .table .now in
     let e = a .w .end .0 in
     let n = length (a .bytes .now) in
-    let l = c .before .before .before .before .loop in
+    let l = at-loop .loop in
     let f = c .next-usable2 .result .0 in
     let u : from t (l .a) e ≡ l .a ∷ from t f e = from-next t (l .a) f e (l .inv .0) (omega arith) (c .next-usable2 .ensures .1 .0) in
     let m : n - l .k - 1 ≡ n - (l .k + 1) = omega arith in (
@@ -72,21 +79,22 @@ loop-again c =
 
 returns-2 : tie.Need-returns-2 Inv-loop μ-loop
 returns-2 c =
-    let a = c .before .before .before .before .before .before .before .args in
+    let at-loop = c .before in
+    let at-next-usable = at-loop .before in
+    let at-end = at-next-usable .before in
+    let at-start = at-end .before .before .before .before in
+    let a = at-start .args in
     let t = a .table .now in
     let e = a .w .end .0 in
     let n = length (a .bytes .now) in
-    let l = c .before .loop in
-    let us : ahead t (a .w) ≡ from t (c .before .before .next-usable .result .0) e = c .before .before .next-usable .ensures .1 .0 in
+    let l = at-loop .loop in
+    let us : ahead t (a .w) ≡ from t (at-next-usable .next-usable .result .0) e = at-next-usable .next-usable .ensures .1 .0 in
     let u : from t (l .a) e ≡ [] = from-end t (l .a) e (omega arith) in (
       rw u at (l .inv .5) ∙ ap (λ us. overlay us (a .bytes .now) (a .image .now)) (sym us),
       (
         u ∙ sym (drop-nil (n - l .k)) ∙ rw u at (l .inv .6) ∙ ap (drop n) (sym us),
-        record {
-          placed = record { within = record { ordered = search needs; in-table = search needs; short = search needs }; in-image = search needs };
-          farther = search needs;
-          same-end = refl;
-        },
+        moved (stay (record { within = at-start .pre .within; in-image = search needs }))
+            (record { farther = search needs; ordered = search needs; same-end = refl; same-areas = refl }),
       ),
     )
 

@@ -24,7 +24,7 @@ returns-2 c =
     let a = c .before .before .before .before .before .before .before .before .before .before .args in
     let d = c .before .before .before .before .before .before .before .data-area in
     let h = checks-pass (a .image .now) (d .result) _ _ (d .ensures .0) (d .ensures .1) (c .before .before .before .before .before .end .given .1) in
-    c .before .before .area-refusal .ensures ∙ sym (refusal-by-area (a .image .now) _ _ h)
+    c .before .before .area-refusal .ensures .0 ∙ sym (refusal-by-area (a .image .now) _ _ h)
 
 pub refusal-with-spec : {M : Type 1} → statement M
 refusal-with-spec =

@@ -17,7 +17,7 @@ write-at-requires : tie.Need-write-at-requires
 write-at-requires c κs =
     let s = c .before .before .before .before .before .before .before .before .before .before .before .before .before .before .before .before .before in
     record {
-      room = space-room 16 (s .args .end .0) (c .before .before .before .before .before .before .before .before .before .find-space .ensures .1) (c .before .before .before .before .before .w .given .1);
+      room = space-room 16 (s .args .end .0) (c .before .before .before .before .before .before .before .before .before .find-space .ensures .1 .0) (c .before .before .before .before .before .w .given .1);
       whole = whole-blocks (s .args .image .now) (s .pre .0 .sound);
       short = s .pre .0 .area .short;
       as-long = s .pre .2;

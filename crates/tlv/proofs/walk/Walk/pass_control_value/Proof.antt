@@ -1,4 +1,5 @@
 -- `Walk::pass_control_value` meets its contract. Assumes nothing.
+use mathlib.Core.Path.{refl}
 use borrow.Author.Needs.{needs}
 use Rattle.tlv.proofs.Steps.{on-none, on-took, took-placed, onward, passed-onward}
 use Rattle.tlv.proofs.walk.Walk.pass_control_value.Statement.{statement}
@@ -11,18 +12,23 @@ pass-last-requires : tie.Need-pass-last-requires
 pass-last-requires c κs = took-placed (c .before .before .before .before .take-byte2 .ensures .1) (c .before .before .size .given .1) .0 .placed
 
 returns : tie.Need-returns
-returns c = (search (on-none) depth 20, tt)
+returns c = (search (on-none) depth 20, refl)
 
 returns-2 : tie.Need-returns-2
-returns-2 c = (search (on-none, on-took) depth 20, tt)
+returns-2 c = (search (on-none, on-took) depth 20, refl)
 
 returns-3 : tie.Need-returns-3
 returns-3 c =
-    let r = c .before .before .pass-last in
-    let g = c .before .before .before .before .before .size .given .1 in
-    let t = c .before .before .before .before .before .before .before .take-byte2 in
-    let g′ = c .before .before .before .before .before .before .before .before .before .before .place .given .1 in
-    let t′ = c .before .before .before .before .before .before .before .before .before .before .before .before .take-byte in (
+    let at-pass-last = c .before .before in
+    let at-size = at-pass-last .before .before .before in
+    let at-take-byte2 = at-size .before .before in
+    let at-place = at-take-byte2 .before .before .before in
+    let at-take-byte = at-place .before .before in
+    let r = at-pass-last .pass-last in
+    let g = at-size .size .given .1 in
+    let t = at-take-byte2 .take-byte2 in
+    let g′ = at-place .place .given .1 in
+    let t′ = at-take-byte .take-byte in (
       search (on-took, r .ensures .0, t .ensures .0, g, t′ .ensures .0, g′) depth 20,
       passed-onward (r .last .1 .1 .1 .1 .1 .0) (r .result) (onward (took-placed (t′ .ensures .1) g′ .0) (took-placed (t .ensures .1) g .0)) (r .ensures .1),
     )

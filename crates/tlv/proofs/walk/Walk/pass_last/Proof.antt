@@ -1,8 +1,10 @@
 -- `Walk::pass_last` meets its contract. Assumes nothing.
-use mathlib.Core.Path.{ap, _∙_}
+use mathlib.Core.Path.{refl, ap, _∙_}
+use native.Mathlib.Omega.{arith}
 use borrow.Author.Needs.{needs}
-use Rattle.tlv.specs.Areas.{without}
-use Rattle.tlv.specs.Walk.{areaBy, more}
+use Rattle.tlv.specs.Areas.{anyArea, reserved, without}
+use Rattle.tlv.specs.Walk.{areaBy, more, stop}
+use Rattle.tlv.specs.Marks.{controlAs}
 use Rattle.tlv.specs.Views.{ahead}
 use Rattle.tlv.proofs.Steps.{on-none, on-took, yes-by, no-by, took-placed, skipped}
 use Rattle.tlv.proofs.walk.Walk.pass_last.Statement.{statement}
@@ -10,26 +12,42 @@ use Rattle.tlv.proofs.walk.Walk.pass_last.Tie as tie
 
 returns : tie.Need-returns
 unfolding areaBy
-returns c = (search (on-took, yes-by) depth 20, tt)
+returns c = (search (on-took, yes-by) depth 20, refl)
 
 skip-area-requires : tie.Need-skip-area-requires
 skip-area-requires c κs =
-    let p = took-placed (c .before .before .before .before .before .before .before .take-byte .ensures .1) (c .before .before .before .before .before .last .given .1) .0 .placed in
-    record { within = p .within; small = c .before .area-of .ensures .1 }
+    let at-area-of = c .before in
+    let at-last = at-area-of .before .before .before .before in
+    let at-take-byte = at-last .before .before in
+    let p = took-placed (at-take-byte .take-byte .ensures .1) (at-last .last .given .1) .0 .placed in
+    record { within = p .within; small = at-area-of .area-of .ensures .1 }
 
 returns-2 : tie.Need-returns-2
-returns-2 c = (search (on-none) depth 20, tt)
+returns-2 c = (search (on-none) depth 20, refl)
 
 returns-3 : tie.Need-returns-3
 unfolding areaBy
 returns-3 c =
-    let s = c .before .before .skip-area in
-    let r = c .before .before .before .before .area-of in
-    let g = c .before .before .before .before .before .before .before .before .last .given in
-    let t = c .before .before .before .before .before .before .before .before .before .before .take-byte in
-    let d = c .before .before .before .before .before .before .before .before .before .before .before .before .before .before .args in
-    let e = s .ensures .0 ∙ ap (λ a. without a (ahead (d .table .now) (g .0 .1 .1 .0))) (r .ensures .0) in
-    (search (on-took, no-by, ap more e, t .ensures .0) depth 20, skipped (took-placed (t .ensures .1) (g .1) .0) (s .ensures .1))
+    let at-skip-area = c .before .before in
+    let at-area-of = at-skip-area .before .before in
+    let at-if1 = at-area-of .before in
+    let at-is-reserved = at-if1 .before in
+    let at-last = at-is-reserved .before .before in
+    let at-take-byte = at-last .before .before in
+    let at-start = at-take-byte .before .before .before .before in
+    let s = at-skip-area .skip-area in
+    let g = at-last .last .given in
+    let t = at-take-byte .take-byte in
+    let d = at-start .args in
+    let w = g .0 .1 .1 .0 in
+    let us = ahead (d .table .now) (d .self) in
+    let k = controlAs (d .kind) in
+    let e = s .ensures .0 ∙ ap (λ a. without a (ahead (d .table .now) w)) (at-area-of .area-of .ensures .0) in
+    let p = took-placed (t .ensures .1) (g .1) in (
+      on-took (t .result) (d .table .now) (d .image .now) us (stop 7) _ (λ b2 _ xs. areaBy anyArea k (d .place) (d .size) b2 xs) (g .0 .0) (g .0 .1 .0) w (t .ensures .0) (g .1)
+          (no-by _ (reserved k (g .0 .0)) _ _ _ (at-is-reserved .is-reserved .ensures) (at-if1 .if1 .left) (ap more e)),
+      skipped (at-start .pre .within .few) (omega (arith, p .1, p .2)) (p .0) (s .ensures .1),
+    )
 
 pub pass-last-spec : {M : Type 1} → statement M
 pass-last-spec =

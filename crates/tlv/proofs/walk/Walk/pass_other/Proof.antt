@@ -1,5 +1,5 @@
 -- `Walk::pass_other` meets its contract. Assumes nothing.
-use mathlib.Core.Path.{_∙_, sym, ap}
+use mathlib.Core.Path.{refl, _∙_, sym, ap}
 use borrow.Author.Needs.{needs}
 use Rattle.tlv.specs.Walk.{passValue}
 use Rattle.tlv.specs.Passing.{fieldAs}
@@ -14,14 +14,19 @@ pass-value-requires c κs =
 returns : tie.Need-returns
 unfolding passValue
 returns c =
-    let t = c .before .before .before .before .before .args .table .now in
-    (ap passValue (sym (ap (fieldAs t) (c .enum-told .given .1)) ∙ c .before .before .take-length .ensures .0), tt)
+    let at-take-length = c .before .before in
+    let at-start = at-take-length .before .before .before in
+    let t = at-start .args .table .now in
+    (ap passValue (sym (ap (fieldAs t) (c .enum-told .given .1)) ∙ at-take-length .take-length .ensures .0), refl)
 
 returns-2 : tie.Need-returns-2
 returns-2 c =
-    let t = c .before .before .before .before .before .before .before .args .table .now in
-    let f = c .before .before .before .before .take-length in
-    let g = c .before .before .n .given .1 in
+    let at-n = c .before .before in
+    let at-take-length = at-n .before .before in
+    let at-start = at-take-length .before .before .before in
+    let t = at-start .args .table .now in
+    let f = at-take-length .take-length in
+    let g = at-n .n .given .1 in
     (c .pass-value .ensures .0 ∙ ap passValue (sym (ap (fieldAs t) g) ∙ f .ensures .0), passed-moved (c .pass-value .result) (field-placed (f .ensures .1) g .0) (c .pass-value .ensures .1))
 
 pub pass-other-spec : {M : Type 1} → statement M

@@ -1,5 +1,6 @@
 -- `Walk::skip_area` meets its contract. Assumes nothing.
 use mathlib.Core.Path.{refl}
+use native.Mathlib.Omega.{arith}
 use borrow.Author.Needs.{needs}
 use Rattle.tlv.specs.Marks.{areaAs}
 use Rattle.tlv.proofs.Marking.{area-marked}
@@ -8,13 +9,30 @@ use Rattle.tlv.proofs.walk.Walk.skip_area.Tie as tie
 
 returns : tie.Need-returns
 returns c =
-    let d = c .before .before .before .before .before .before .before .before .before .before in
-    let m = c .before .before .mark in
-    let from = c .before .before .before .before .before .later in
-    let to = c .before .before .before .before .earlier in
-    let w = d .args .self in (
-      area-marked (d .args .table .now) (m .last .0) (areaAs (d .args .area)) (w .at .0) (w .end .0) (from .result .0) (to .result .0) (m .ensures) (from .ensures) (to .ensures) (d .pre .within .ordered),
-      record { same-length = m .ensures .same-length; same-at = refl; same-end = refl },
+    let at-end = c .before in
+    let at-mark = at-end .before .before .before .before in
+    let at-earlier = at-mark .before .before in
+    let at-later = at-earlier .before in
+    let at-struct-known2 = at-later .before in
+    let at-start = at-struct-known2 .before .before .before .before in
+    let m = at-mark .mark in
+    let from = at-later .later in
+    let to = at-earlier .earlier in
+    let a = at-start .args in
+    let w = a .self in (
+      area-marked (a .table .now) (m .last .0) (areaAs (a .area)) (w .at .0) (w .end .0) (from .result .0) (to .result .0) (m .ensures) (from .ensures) (to .ensures) (at-start .pre .within .ordered),
+      record {
+        one-more = record {
+          from = from .result .0;
+          to = to .result .0;
+          late = omega (arith, from .ensures);
+          inside = omega (arith, to .ensures);
+          marked = m .ensures;
+        };
+        counted = omega arith;
+        same-at = refl;
+        same-end = refl;
+      },
     )
 
 pub skip-area-spec : {M : Type 1} → statement M
@@ -25,5 +43,6 @@ skip-area-spec =
     (λ c κs. search needs)
     (λ c κs. search needs)
     (λ c κs. search needs)
+    (λ c. search needs)
     (λ c. search needs)
     returns)
