@@ -3,7 +3,6 @@
 use tag::Block;
 use tag::CountAnswer;
 use tag::numbers;
-use tag::slices;
 use type3::commands;
 use type3::names;
 use type3::read;
@@ -13,14 +12,14 @@ use type3::space;
 ghost use mathlib.Core.Path.{_≡_};
 ghost use mathlib.Core.List.{[], _∷_, _++_};
 ghost use Prim.Native.Nat.{_+_, _-_, _*_, _/_, _<_, _≤_};
-ghost use lib.ListN.{length, take, drop};
+ghost use lib.ListN.{length, drop};
 ghost use Rattle.tag.specs.Bytes.{run};
 ghost use Rattle.tag.specs.Contracts.{Wrote};
 ghost use Rattle.type3.specs.Update.{blocksFor};
 ghost use Rattle.type3.specs.Codec.{namesBytes, opening};
 ghost use Rattle.type3.specs.Type3.{type3};
 ghost use Rattle.type3.specs.Views.{Readable};
-ghost use Rattle.type3_write.specs.Listing.{filled, blocksAt, attributeBlock, attributeCommand, messageCommand, messageCommands, listAs, Fills, Dealt, Listing};
+ghost use Rattle.type3_write.specs.Listing.{filled, attributeBlock, attributeCommand, messageCommand, messageCommands, listAs, Fills, Dealt, Listing};
 
 // ---- the parts of a command
 
@@ -48,48 +47,20 @@ fn put_names(first: Block, count: usize, out: &mut [u8])
     }
 }
 
-// The first sixteen bytes of the part. They go through an array, and the compiler makes one load and one store of them.
-fn whole_block(part: &[u8]) -> [u8; 16]
-    requires { ⌜ 16 ≤ length (now part) ⌝ }
-    ensures { λ r. ⌜ r ≡ take 16 (now (part .entry)) ⌝ }
+// Blocks of the message: the first `size` bytes of the part, 00h past its end. Only the last block of a message is short.
+fn fill_blocks(part: &[u8], size: usize, out: &mut [u8])
+    requires { ⌜ (size ≤ length (now out)) × (size ≤ length (now part) + 15) ⌝ }
+    ensures { λ _. ⌜ now (out .exit) ≡ filled size (now (part .entry)) ++ drop size (now (out .entry)) ⌝ }
 {
-    let mut block = [0u8; 16];
-    slices::store(&part[0..16], 0, &mut block);
-    block
-}
-
-// The part, filled with 00h.
-fn short_block(part: &[u8]) -> [u8; 16]
-    requires { ⌜ length (now part) ≤ 16 ⌝ }
-    ensures { λ r. ⌜ r ≡ filled (now (part .entry)) ⌝ }
-{
-    let mut block = [0u8; 16];
-    slices::store(part, 0, &mut block);
-    block
-}
-
-// One block of the message, which is handed on from the block's offset as a part: sixteen bytes, 00h past the end.
-fn fill_block(part: &[u8]) -> [u8; 16]
-    ensures { λ r. ⌜ r ≡ filled (now (part .entry)) ⌝ }
-{
-    if part.len() < 16 {
-        return short_block(part);
+    let n = part.len();
+    if size <= n {
+        bytes::copy(&part[..size], out);
+        return;
     }
-    whole_block(part)
-}
-
-// The bytes of `count` blocks of the message, past its first `skip`.
-fn put_blocks(message: &[u8], skip: usize, count: usize, out: &mut [u8])
-    requires { ⌜ Fills (now message) skip count × (16 * count ≤ length (now out)) ⌝ }
-    ensures { λ _. ⌜ now (out .exit) ≡ blocksAt (now (message .entry)) skip count ++ drop (16 * count) (now (out .entry)) ⌝ }
-{
-    let mut j = 0usize;
-    while j < count {
-        let i = skip + j;
-        let block = fill_block(&message[16 * i..]);
-        slices::store(&block, 16 * j, out);
-        j += 1;
-    }
+    let zeros = [0u8; 15];
+    let rest = size - n;
+    bytes::copy(part, out);
+    bytes::copy(&zeros[..rest], &mut out[n..]);
 }
 
 // Block 0 with this WriteFlag and this Ln, and its checksum; all else as the image has it.
@@ -146,9 +117,10 @@ fn put_command(message: &[u8], number: [u8; 8], skip: usize, count: usize, out: 
 {
     let first = Block(1 + skip);
     let at = 13 + 2 * count;
+    let size = 16 * count;
     put_opening(number, count, out);
     put_names(first, count, &mut out[13..]);
-    put_blocks(message, skip, count, &mut out[at..]);
+    fill_blocks(&message[16 * skip..], size, &mut out[at..]);
 }
 
 // Writes all blocks of the message, `w` to a command, in `turns` commands.
