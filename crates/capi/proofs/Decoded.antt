@@ -1,25 +1,27 @@
--- A command that was decoded has at most eight blocks.
+-- A command that was decoded has at most eight blocks, and as many as its count says.
 -- Assumes nothing.
 use mathlib.Core.Path.{_≡_, sym, ap, _∙_}
-use mathlib.Core.Bool.{true}
 use mathlib.Core.List.{List}
-use Prim.Native.Nat.{ℕ, _≤_}
+use Prim.Native.Nat.{ℕ, _*_, _≤_}
 use native.Mathlib.Omega.{arith}
 use borrow.Author.Tests.{eq-eqb}
-use lib.ListN.{length, drop}
+use lib.ListN.{length, take, drop}
 use Rattle.tag.specs.Bytes.{byte}
 use Rattle.type3.specs.declared.commands.Decoded as code
-use Rattle.type3.specs.Codec.{decode}
-use Rattle.type3.specs.InPlace.{numbers}
-use Rattle.type3.specs.CodecViews.{decodedAs, commandAs, isCommand}
+use Rattle.type3.specs.Codec.{decoded}
+use Rattle.type3.specs.InPlace.{numbers, carried}
+use Rattle.type3.specs.CodecViews.{blockNumbers, decodedAs, commandAs, isCommand, DecodedTo}
 use Rattle.type3.proofs.Naming.{length-numbers}
 use Rattle.type3.proofs.Decoding.{decode-carried, frame}
 
-pub few-blocks : (number : List ℕ) (nbw nmaxb : ℕ) (all : List ℕ) (d : code.Decoded) → decodedAs d ≡ decode number nbw nmaxb all
-    → d .command ≡ commandAs (decode number nbw nmaxb all) → d .refusal ≡ 0 → d .command .count ≤ 8
-few-blocks number nbw nmaxb all d e k z =
-    let read : isCommand (decodedAs d) ≡ true = rw (eq-eqb (d .refusal) 0 z) in
-    let w = decode-carried number nbw nmaxb all (ap isCommand (sym e) ∙ read) in
-    let f = frame number nbw all (w .1) in
-    let n : d .command .count ≡ length (numbers (byte all 12) (drop 13 all)) = ap (λ x. x .count) (k ∙ ap commandAs (w .0)) in
-    omega (arith, length-numbers (byte all 12) (drop 13 all), f .few)
+pub used-blocks : (number : List ℕ) (nbw nmaxb : ℕ) (all : List ℕ) (d : code.Decoded) → DecodedTo number nbw nmaxb all d → d .refusal ≡ 0
+    → (d .command .count ≤ 8) × (length (take (d .command .count) (blockNumbers (d .command .blocks))) ≡ d .command .count)
+used-blocks number nbw nmaxb all d (e, k) z =
+    let ns = numbers (byte all 12) (drop 13 all) in
+    let used = take (d .command .count) (blockNumbers (d .command .blocks)) in
+    let read : decodedAs d ≡ decoded used (take (16 * d .command .count) (d .command .bytes)) = rw (eq-eqb (d .refusal) 0 z) in
+    let (was, ok, named-once) = decode-carried number nbw nmaxb all (ap isCommand (sym e ∙ read)) in
+    let same : decoded used (take (16 * d .command .count) (d .command .bytes)) ≡ carried all = sym read ∙ e ∙ was in
+    let named : used ≡ ns = cc same in
+    let n : d .command .count ≡ length ns = ap (λ x. x .count) (k ∙ ap commandAs was) in
+    (omega (arith, length-numbers (byte all 12) (drop 13 all), frame number nbw all ok .few), ap length named ∙ sym n)

@@ -7,7 +7,8 @@ use Prim.Native.Nat.{ℕ, _+_, _*_, _%_, _^_}
 use lib.ListN.{length}
 use Rattle.tag.specs.Bytes.{overwrite}
 use Rattle.tag.specs.Reading.{What, message, empty, being-written, Answer, refusal, answer}
-use Rattle.tag.specs.Answers.{Counting, uncounted, counts, Storing, unstoring, storing}
+use Rattle.tag.specs.Refusals.{Refusal, plain, positioned}
+use Rattle.tag.specs.Answers.{Returned, refuses, gives}
 use Rattle.tag.specs.Judge.{Verdict, accepted, refused}
 use Rattle.type2.specs.Codec as two
 use Rattle.type3.specs.Codec as three
@@ -16,10 +17,15 @@ use Rattle.type3.specs.Codec as three
 abbrev pub above : ℕ → ℕ
 above n = 256 * (n % 2 ^ 56)
 
+-- a refusal, with its position where it has one
+abbrev pub packedRefusal : Refusal → ℕ
+packedRefusal (plain r) = r
+packedRefusal (positioned r p) = r + above p
+
 -- writing and encoding give a count
-abbrev pub packedCount : Counting → ℕ
-packedCount (uncounted r) = r
-packedCount (counts n) = above n
+abbrev pub packedCount : Returned ℕ → ℕ
+packedCount (refuses f) = packedRefusal f
+packedCount (gives n) = above n
 
 -- judging gives a count, or a refusal with a position
 abbrev pub packedVerdict : Verdict → ℕ
@@ -27,9 +33,9 @@ packedVerdict (accepted n) = above n
 packedVerdict (refused r p) = r + above p
 
 -- the model gives no count
-abbrev pub packedStoring : Storing → ℕ
-packedStoring (unstoring r) = r
-packedStoring storing = 0
+abbrev pub packedStoring : Returned (Unit {0}) → ℕ
+packedStoring (refuses f) = packedRefusal f
+packedStoring (gives u) = 0
 
 -- ---- reading
 
@@ -54,31 +60,31 @@ reportInto out (answer what a n interrupted w) = kindOf what ∷ a ∷ n ∷ fla
 -- ---- decoding
 
 abbrev pub packedDecoded2 : two.Decoded → ℕ
-packedDecoded2 (two.undecoded r) = r
+packedDecoded2 (two.undecoded f) = packedRefusal f
 packedDecoded2 (two.decoded b bytes) = 0
 
 -- a command's block, and its bytes; what they were after a refusal
 abbrev pub blockInto : ℕ → two.Decoded → ℕ
-blockInto old (two.undecoded r) = old
+blockInto old (two.undecoded f) = old
 blockInto old (two.decoded b bytes) = b
 
 abbrev pub dataInto : List ℕ → two.Decoded → List ℕ
-dataInto old (two.undecoded r) = old
+dataInto old (two.undecoded f) = old
 dataInto old (two.decoded b bytes) = bytes
 
 abbrev pub packedDecoded3 : three.Decoded → ℕ
-packedDecoded3 (three.undecoded r) = r
+packedDecoded3 (three.undecoded f) = packedRefusal f
 packedDecoded3 (three.decoded bs bytes) = 0
 
 -- how many blocks, their numbers, their bytes; unused entries keep what they held
 abbrev pub countInto : ℕ → three.Decoded → ℕ
-countInto old (three.undecoded r) = old
+countInto old (three.undecoded f) = old
 countInto old (three.decoded bs bytes) = length bs
 
 abbrev pub blocksInto : List ℕ → three.Decoded → List ℕ
-blocksInto old (three.undecoded r) = old
+blocksInto old (three.undecoded f) = old
 blocksInto old (three.decoded bs bytes) = overwrite bs old
 
 abbrev pub sixteensInto : List ℕ → three.Decoded → List ℕ
-sixteensInto old (three.undecoded r) = old
+sixteensInto old (three.undecoded f) = old
 sixteensInto old (three.decoded bs bytes) = overwrite bytes old

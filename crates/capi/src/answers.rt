@@ -8,8 +8,9 @@ use tag::Report;
 use tag::What;
 ghost use mathlib.Core.Path.{_≡_};
 ghost use mathlib.Core.List.{[]};
+ghost use Rattle.tag.specs.Refusals.{refusalAt};
 ghost use Rattle.tag.specs.Answers.{whatOf, readAs, countAs, verdictAs, modelAs};
-ghost use Rattle.capi.specs.Packed.{above, packedCount, packedVerdict, packedStoring, packedRead, kindOf, flagOf, reportInto};
+ghost use Rattle.capi.specs.Packed.{above, packedRefusal, packedCount, packedVerdict, packedStoring, packedRead, kindOf, flagOf, reportInto};
 
 // 2^56: a count below it fits above the low byte.
 const COUNTS: usize = 72057594037927936;
@@ -21,11 +22,18 @@ fn above(n: usize) -> u64
     256 * ((n % COUNTS) as u64)
 }
 
+// A refusal of a call that takes one command at most: its position is 0.
+pub(crate) fn refusal(r: u8) -> u64
+    ensures { λ n. ⌜ n ≡ packedRefusal (refusalAt r 0) ⌝ }
+{
+    r as u64 + above(0)
+}
+
 pub(crate) fn count(answer: CountAnswer) -> u64
     ensures { λ r. ⌜ r ≡ packedCount (countAs answer) ⌝ }
 {
     match answer {
-        CountAnswer::Refused(r) => r as u64,
+        CountAnswer::Refused(r) => refusal(r),
         CountAnswer::Count(n) => above(n),
     }
 }
@@ -43,7 +51,7 @@ pub(crate) fn storing(answer: ModelAnswer) -> u64
     ensures { λ r. ⌜ r ≡ packedStoring (modelAs answer) ⌝ }
 {
     match answer {
-        ModelAnswer::Refused(r) => r as u64,
+        ModelAnswer::Refused(r) => refusal(r),
         ModelAnswer::Stored => 0,
     }
 }

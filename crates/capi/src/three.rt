@@ -1,9 +1,11 @@
 // The C functions for Type 3 tags.
 
 use crate::answers;
+use tag::Block;
 use tag::slices;
 use type3::Command;
 use type3::commands;
+use type3::names;
 ghost use mathlib.Core.Path.{_≡_};
 ghost use Prim.Native.Nat.{_*_, _≤_};
 ghost use lib.ListN.{length, take};
@@ -17,6 +19,7 @@ ghost use Rattle.tag.specs.Model.{model, imageAfter};
 ghost use Rattle.type3.specs.Message.{reading};
 ghost use Rattle.type3.specs.Type3.{type3};
 ghost use Rattle.type3.specs.Codec.{encode, decode};
+ghost use Rattle.type3.specs.CodecViews.{blockNumbers, blocksOf};
 ghost use Rattle.capi.specs.Packed.{packedRead, reportInto, packedCount, packedVerdict, packedStoring, packedDecoded3, countInto, blocksInto, sixteensInto};
 
 #[no_mangle]
@@ -77,7 +80,7 @@ pub extern "C" fn zan_type3_encode(
     ensures answer { λ r. ⌜ r ≡ packedCount (countOf (encode (now (number .entry)) nbw nmaxb count (now (blocks .entry)) (now (sixteens .entry)) (length (now (bytes .entry))))) ⌝ }
     ensures written { λ _. ⌜ now (bytes .exit) ≡ outputInto (now (bytes .entry)) (encode (now (number .entry)) nbw nmaxb count (now (blocks .entry)) (now (sixteens .entry)) (length (now (bytes .entry)))) ⌝ }
 {
-    let named = numbers(blocks);
+    let named = blocks_from(blocks);
     let carried = *sixteens;
     let used = count as usize;
     let command = Command {
@@ -89,20 +92,20 @@ pub extern "C" fn zan_type3_encode(
     answers::count(answer)
 }
 
-// Eight block numbers from C.
-fn numbers(blocks: &[u64]) -> [usize; 8]
-    requires { ⌜ length (now blocks) ≡ 8 ⌝ }
-    ensures { λ r. ⌜ r ≡ now (blocks .entry) ⌝ }
+// Eight blocks, by their numbers from C.
+fn blocks_from(numbers: &[u64]) -> [Block; 8]
+    requires { ⌜ length (now numbers) ≡ 8 ⌝ }
+    ensures { λ r. ⌜ r ≡ blocksOf (now (numbers .entry)) ⌝ }
 {
     [
-        blocks[0] as usize,
-        blocks[1] as usize,
-        blocks[2] as usize,
-        blocks[3] as usize,
-        blocks[4] as usize,
-        blocks[5] as usize,
-        blocks[6] as usize,
-        blocks[7] as usize,
+        Block(numbers[0] as usize),
+        Block(numbers[1] as usize),
+        Block(numbers[2] as usize),
+        Block(numbers[3] as usize),
+        Block(numbers[4] as usize),
+        Block(numbers[5] as usize),
+        Block(numbers[6] as usize),
+        Block(numbers[7] as usize),
     ]
 }
 
@@ -118,8 +121,14 @@ fn store(from: &[usize], to: &mut [u64])
     }
 }
 
-// Delivers the first `count` blocks of a command and their bytes.
-fn deliver(count: usize, named: &[usize], carried: &[u8], blocks: &mut [u64], sixteens: &mut [u8])
+// Stores the first `count` of a command's block numbers, and their bytes.
+fn store_used(
+    count: usize,
+    named: &[usize],
+    carried: &[u8],
+    blocks: &mut [u64],
+    sixteens: &mut [u8],
+)
     requires { ⌜ (count ≤ 8) × (length (now named) ≡ 8) × (length (now carried) ≡ 128) × (length (now blocks) ≡ 8) × (length (now sixteens) ≡ 128) ⌝ }
     ensures { λ _. ⌜ now (blocks .exit) ≡ overwrite (take count (now (named .entry))) (now (blocks .entry)) ⌝ }
     ensures { λ _. ⌜ now (sixteens .exit) ≡ overwrite (take (16 * count) (now (carried .entry))) (now (sixteens .entry)) ⌝ }
@@ -127,6 +136,21 @@ fn deliver(count: usize, named: &[usize], carried: &[u8], blocks: &mut [u64], si
     let used = 16 * count;
     store(&named[..count], blocks);
     slices::store(&carried[..used], 0, sixteens);
+}
+
+// Delivers a command: how many blocks it has, their numbers and their bytes.
+fn deliver(command: Command, count: &mut u64, blocks: &mut [u64; 8], sixteens: &mut [u8; 128])
+    requires { ⌜ command .count ≤ 8 ⌝ }
+    ensures { λ _. ⌜ now (count .exit) ≡ command .count ⌝ }
+    ensures { λ _. ⌜ now (blocks .exit) ≡ overwrite (take (command .count) (blockNumbers (command .blocks))) (now (blocks .entry)) ⌝ }
+    ensures { λ _. ⌜ now (sixteens .exit) ≡ overwrite (take (16 * command .count) (command .bytes)) (now (sixteens .entry)) ⌝ }
+{
+    let used = command.count;
+    let read = command.blocks;
+    let named = names::block_numbers(read);
+    let carried = command.bytes;
+    *count = used as u64;
+    store_used(used, &named, &carried, blocks, sixteens);
 }
 
 #[no_mangle]
@@ -147,12 +171,9 @@ pub extern "C" fn zan_type3_decode(
     let decoded = commands::decode(bytes, number, nbw as usize, nmaxb as usize);
     let refusal = decoded.refusal;
     if refusal != 0 {
-        return refusal as u64;
+        return answers::refusal(refusal);
     }
-    let used = decoded.command.count;
-    let named = decoded.command.blocks;
-    let carried = decoded.command.bytes;
-    *count = used as u64;
-    deliver(used, &named, &carried, blocks, sixteens);
+    let command = decoded.command;
+    deliver(command, count, blocks, sixteens);
     0
 }

@@ -79,7 +79,7 @@ pub extern "C" fn zan_type2_decode(
     let decoded = commands::decode(bytes, blocks as usize);
     let refusal = decoded.refusal;
     if refusal != 0 {
-        return refusal as u64;
+        return answers::refusal(refusal);
     }
     let number = decoded.command.block.0;
     let carried = decoded.command.bytes;

@@ -3,10 +3,10 @@
 -- Assumes nothing.
 use mathlib.Core.Path.{_≡_, refl, sym, ap, _∙_}
 use mathlib.Core.Bool.{Bool, true, false, cond, and-false}
-use mathlib.Core.List.{List}
+use mathlib.Core.List.{List, [], _∷_}
 use Prim.Native.Nat.{ℕ, _+_, _≤_}
 use native.Mathlib.Omega.{arith}
-use borrow.Author.Tests.{ltb-false, le-leb, le-ltb}
+use borrow.Author.Tests.{ltb-false, le-leb, lt-ltb, le-ltb}
 use lib.ListN.{length, drop, length-append}
 use lib.Seq.{take-append-seam}
 use Rattle.tag.specs.Bytes.{overwrite}
@@ -25,6 +25,16 @@ part-front bytes buffer l =
 -- a buffer that every message fits is never too short
 pub roomy : (buffer : List ℕ) (p : Report) → length (p .bytes) ≤ length buffer → tooShort (length buffer) p ≡ false
 roomy buffer p l = rw (le-ltb (length buffer) (length (p .bytes)) l) (and-false (p .interrupted))
+
+-- an empty buffer stays empty
+pub gathered-none : (v : Reading) → gatheredInto [] v ≡ []
+gathered-none (unreadable r) = refl
+gathered-none (reads p) = go (p .interrupted) refl (p .bytes) refl
+  where
+    go : (b : Bool) → p .interrupted ≡ b → (bs : List ℕ) → p .bytes ≡ bs → gatheredInto [] (reads p) ≡ []
+    go false q bs e = rw q
+    go true q [] e = rw (q, e)
+    go true q (x ∷ bs) e = rw (q, e, lt-ltb 0 (length (x ∷ bs)) (omega arith))
 
 -- a message that is not interrupted needs no buffer
 module _ (v : Reading) (plain : (p : Report) → v ≡ reads p → p .interrupted ≡ false) where

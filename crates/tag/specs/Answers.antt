@@ -1,5 +1,5 @@
--- The code's answers as the definitions have them: each case of an enum with its number and its values. The contracts of the
--- public functions go through these.
+-- The code's answers as the requirements have them: each case of an enum with its number, its position and its values. The contracts
+-- of the public functions go through these.
 -- Assumes nothing.
 use mathlib.Core.Bool.{Bool, true, false, cond}
 use mathlib.Core.List.{List}
@@ -14,6 +14,7 @@ use Rattle.tag.specs.declared.JudgeAnswer.{JudgeAnswer}
 use Rattle.tag.specs.declared.JudgeAnswer.the-variants as judged
 use Rattle.tag.specs.declared.ModelAnswer.{ModelAnswer}
 use Rattle.tag.specs.declared.ModelAnswer.the-variants as modelled
+use Rattle.tag.specs.Refusals.{Refusal, refusalAt}
 use Rattle.tag.specs.Reading.{What, message, empty, being-written, Answer, refusal, answer, Held, broken, nothing, holds, heldAs}
 use Rattle.tag.specs.TagType.{Output, withheld, output}
 use Rattle.tag.specs.Judge.{Verdict, accepted, refused}
@@ -29,36 +30,37 @@ abbrev pub readAs : ReadAnswer → Answer
 readAs (read.Refused r) = refusal r
 readAs (read.Reads p) = answer (whatOf (p .what)) (p .address .0) (p .length) (p .interrupted) (p .writable)
 
--- writing and encoding: a refusal, or the number that is returned
-pub data Counting : Type 0 where
-  uncounted : ℕ → Counting
-  counts : ℕ → Counting
+-- what a call returns: a refusal, or what it gives on success
+pub data Returned (A : Type 0) : Type 0 where
+  refuses : Refusal → Returned A
+  gives : A → Returned A
 
-abbrev pub countOf : Output → Counting
-countOf (withheld r) = uncounted r
-countOf (output n bytes) = counts n
+-- a call that takes one command at most: the position of its 20 is 0
+abbrev pub refusesOne : {A : Type 0} → ℕ → Returned A
+refusesOne r = refuses (refusalAt r 0)
 
-abbrev pub countAs : CountAnswer → Counting
-countAs (counted.Refused r) = uncounted r
-countAs (counted.Count n) = counts n
+-- writing and encoding give a number
+abbrev pub countOf : Output → Returned ℕ
+countOf (withheld r) = refusesOne r
+countOf (output n bytes) = gives n
+
+abbrev pub countAs : CountAnswer → Returned ℕ
+countAs (counted.Refused r) = refusesOne r
+countAs (counted.Count n) = gives n
 
 -- judging
 abbrev pub verdictAs : JudgeAnswer → Verdict
 verdictAs (judged.Refused r p) = refused r p
 verdictAs (judged.Accepted n) = accepted n
 
--- the model: a refusal, or only that it stored
-pub data Storing : Type 0 where
-  unstoring : ℕ → Storing
-  storing : Storing
+-- the model gives only that it stored
+abbrev pub storingOf : Modelled → Returned (Unit {0})
+storingOf (unstored r) = refusesOne r
+storingOf (stored j) = gives tt
 
-abbrev pub storingOf : Modelled → Storing
-storingOf (unstored r) = unstoring r
-storingOf (stored j) = storing
-
-abbrev pub modelAs : ModelAnswer → Storing
-modelAs (modelled.Refused r) = unstoring r
-modelAs modelled.Stored = storing
+abbrev pub modelAs : ModelAnswer → Returned (Unit {0})
+modelAs (modelled.Refused r) = refusesOne r
+modelAs modelled.Stored = gives tt
 
 -- ---- a tag by what was answered of it and the part that was shown
 

@@ -1,21 +1,35 @@
--- The contracts of `write`, `judge` and `model` as relations between what is handed in and what comes back, for every type of tag.
--- The public functions of each type ensure these, and demand 3 of the code speaks of whatever stands in them.
+-- The contracts of the public functions as relations between what is handed in and what comes back, for every type of tag. The
+-- public functions of each type ensure these, and demands 2 and 3 of the code speak of whatever stands in them.
 -- Assumes nothing.
 use mathlib.Core.Path.{_≡_}
 use mathlib.Core.List.{List}
 use Prim.Native.Nat.{ℕ}
 use lib.ListN.{length}
+use Rattle.tag.specs.declared.ReadAnswer.{ReadAnswer}
 use Rattle.tag.specs.declared.CountAnswer.{CountAnswer}
 use Rattle.tag.specs.declared.JudgeAnswer.{JudgeAnswer}
 use Rattle.tag.specs.declared.ModelAnswer.{ModelAnswer}
-use Rattle.tag.specs.TagType.{TagType, outputInto, write}
+use Rattle.tag.specs.Reading.{Reading, answerOf, gatheredInto, shown}
+use Rattle.tag.specs.TagType.{TagType, Output, outputInto, write}
 use Rattle.tag.specs.Judge.{judged}
 use Rattle.tag.specs.Model.{model, imageAfter}
-use Rattle.tag.specs.Answers.{countOf, countAs, verdictAs, storingOf, modelAs}
+use Rattle.tag.specs.Answers.{readAs, countOf, countAs, verdictAs, storingOf, modelAs}
+
+-- `read`, given a tag and a gathering buffer, answers r and leaves the buffer as out; how the type reads is the first argument
+abbrev pub Read : (List ℕ → Reading) → List ℕ → List ℕ → ReadAnswer → List ℕ → Type 0
+Read reading i buffer r out = (readAs r ≡ answerOf (length buffer) (reading i)) × (out ≡ gatheredInto buffer (reading i))
+
+-- `shown`, given a tag, the gathered copy and an answer of `read`, hands back the part
+abbrev pub Showed : List ℕ → List ℕ → ReadAnswer → List ℕ → Type 0
+Showed i gathered r part = part ≡ shown i gathered (readAs r)
+
+-- a call that puts out what o says for so much room, given a buffer, answers r and leaves the buffer as out
+abbrev pub PutOut : (ℕ → Output) → List ℕ → CountAnswer → List ℕ → Type 0
+PutOut o buffer r out = (countAs r ≡ countOf (o (length buffer))) × (out ≡ outputInto buffer (o (length buffer)))
 
 -- `write`, given a tag, a message and a list buffer, answers r and leaves the buffer as out
 abbrev pub Wrote : TagType → List ℕ → List ℕ → List ℕ → CountAnswer → List ℕ → Type 0
-Wrote T i m buffer r out = (countAs r ≡ countOf (write T (length buffer) i m)) × (out ≡ outputInto buffer (write T (length buffer) i m))
+Wrote T i m buffer r out = PutOut (λ room. write T room i m) buffer r out
 
 -- `judge`, given a tag, a message and the bytes of a list, answers r
 abbrev pub Judged : TagType → List ℕ → List ℕ → List ℕ → JudgeAnswer → Type 0

@@ -1,6 +1,9 @@
--- The refusals, by name. Their numbers are the table 'Refusal numbers' of the requirements.
+-- The refusals, by name. Their numbers are the table 'Refusal numbers' of the requirements. And what a refusal returns: its
+-- number and, from 20 to 23, the position of the command.
 -- Assumes nothing.
+use mathlib.Core.Bool.{_&&_, cond}
 use Prim.Native.Nat.{ℕ}
+use lib.Dec.{leb}
 
 -- the image has a length that its type does not have
 abbrev pub image-length : ℕ
@@ -64,3 +67,12 @@ misreads = 22
 -- the list ends and the tag does not read as the message
 abbrev pub ends-otherwise : ℕ
 ends-otherwise = 23
+
+-- what a refusal returns: its number alone, or its number and the position of the command, counted from 0
+pub data Refusal : Type 0 where
+  plain : ℕ → Refusal
+  positioned : ℕ → ℕ → Refusal
+
+-- refusal r where the command at p is the one looked at: 20 to 23 have a position, the others have none
+abbrev pub refusalAt : ℕ → ℕ → Refusal
+refusalAt r p = cond (leb not-well-formed r && leb r ends-otherwise) (positioned r p) (plain r)

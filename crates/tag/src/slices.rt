@@ -13,6 +13,7 @@ ghost use Rattle.tag.specs.Bytes.{byte, same};
 ghost use Rattle.tag.specs.Flags.{flagTo};
 ghost use Rattle.tag.specs.Reading.{part, shown};
 ghost use Rattle.tag.specs.Answers.{readAs};
+ghost use Rattle.tag.specs.Contracts.{Showed};
 
 // `len` bytes of a slice from `start` on; the empty part where they do not lie in it.
 fn part<'a>(s: &'a [u8], start: usize, len: usize) -> &'a [u8]
@@ -50,7 +51,7 @@ fn shown_of<'a>(image: &'a [u8], gathered: &'a [u8], report: Report) -> &'a [u8]
 // The part shown after `read` answered: of the image or, if the message is interrupted, of the gathered copy; empty without
 // a message, after a refusal, and where the answer's numbers do not fit.
 pub fn shown<'a>(image: &'a [u8], gathered: &'a [u8], answer: ReadAnswer) -> &'a [u8]
-    ensures { λ r. ⌜ now r ≡ shown (now (image .entry)) (now (gathered .entry)) (readAs answer) ⌝ }
+    ensures { λ r. ⌜ Showed (now (image .entry)) (now (gathered .entry)) answer (now r) ⌝ }
 {
     match answer {
         ReadAnswer::Refused(_) => &image[0..0],

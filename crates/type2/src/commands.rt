@@ -9,10 +9,8 @@ ghost use mathlib.Core.Path.{_≡_};
 ghost use Prim.Native.Nat.{_/_};
 ghost use lib.ListN.{length, drop};
 ghost use Rattle.tag.specs.Bytes.{byte};
-ghost use Rattle.tag.specs.Answers.{countOf, countAs};
-ghost use Rattle.tag.specs.TagType.{outputInto};
-ghost use Rattle.type2.specs.Codec.{nameable, commandBytes, encode, wellFormed, decode, decoded};
-ghost use Rattle.type2.specs.CodecViews.{decodedAs, commandAs};
+ghost use Rattle.type2.specs.Codec.{nameable, commandBytes, wellFormed, decoded};
+ghost use Rattle.type2.specs.CodecViews.{commandAs, EncodedTo, DecodedTo};
 
 // The bytes of a command.
 pub const LENGTH: usize = 6;
@@ -45,8 +43,7 @@ pub fn command_bytes(block: u8, four: [u8; 4]) -> [u8; 6]
 
 // Writes the command's bytes to the front of `bytes`: 20 if its block may not be named, 12 if they do not fit.
 pub fn encode(command: Command, blocks: usize, bytes: &mut [u8]) -> CountAnswer
-    ensures answer { λ r. ⌜ countAs r ≡ countOf (encode blocks (command .block .0) (command .bytes) (length (now (bytes .entry)))) ⌝ }
-    ensures written { λ _. ⌜ now (bytes .exit) ≡ outputInto (now (bytes .entry)) (encode blocks (command .block .0) (command .bytes) (length (now (bytes .entry)))) ⌝ }
+    ensures { λ r. ⌜ EncodedTo blocks command (now (bytes .entry)) r (now (bytes .exit)) ⌝ }
 {
     let block = command.block.0;
     let four = command.bytes;
@@ -94,8 +91,7 @@ fn carried(bytes: &[u8]) -> Command
 
 // Reads a command: 20 if the bytes are not well formed.
 pub fn decode(bytes: &[u8], blocks: usize) -> Decoded
-    ensures is { λ r. ⌜ decodedAs r ≡ decode blocks (now (bytes .entry)) ⌝ }
-    ensures command { λ r. ⌜ r .command ≡ commandAs (decode blocks (now (bytes .entry))) ⌝ }
+    ensures { λ r. ⌜ DecodedTo blocks (now (bytes .entry)) r ⌝ }
 {
     if is_command(bytes, blocks) {
         let command = carried(bytes);

@@ -8,17 +8,15 @@ use tag::Address;
 use tag::ReadAnswer;
 use tag::slices;
 ghost use mathlib.Core.Path.{_≡_};
-ghost use lib.ListN.{length};
-ghost use Rattle.tag.specs.Reading.{answerOf, gatheredInto, refusalNumber, shown};
-ghost use Rattle.tag.specs.Answers.{readAs};
+ghost use Rattle.tag.specs.Reading.{refusalNumber};
+ghost use Rattle.tag.specs.Contracts.{Read, Showed};
 ghost use Rattle.type2.specs.Type2.{type2};
 ghost use Rattle.type2.specs.Table.{Clear};
 
 // Reading, with the skip table lent.
 fn read_with(image: &[u8], gathered: &mut [u8], table: &mut [u16]) -> ReadAnswer
     requires { ⌜ Clear (now table) ⌝ }
-    ensures answer { λ r. ⌜ readAs r ≡ answerOf (length (now (gathered .entry))) ((type2 .reading) (now (image .entry))) ⌝ }
-    ensures buffer { λ _. ⌜ now (gathered .exit) ≡ gatheredInto (now (gathered .entry)) ((type2 .reading) (now (image .entry))) ⌝ }
+    ensures { λ r. ⌜ Read (type2 .reading) (now (image .entry)) (now (gathered .entry)) r (now (gathered .exit)) ⌝ }
 {
     match container::data_area(image) {
         DataArea::Refused(r) => ReadAnswer::Refused(r),
@@ -37,8 +35,7 @@ fn read_with(image: &[u8], gathered: &mut [u8], table: &mut [u16]) -> ReadAnswer
 
 // What the tag reads as. An interrupted message is gathered into the front of `gathered`.
 pub fn read(image: &[u8], gathered: &mut [u8]) -> ReadAnswer
-    ensures answer { λ r. ⌜ readAs r ≡ answerOf (length (now (gathered .entry))) ((type2 .reading) (now (image .entry))) ⌝ }
-    ensures buffer { λ _. ⌜ now (gathered .exit) ≡ gatheredInto (now (gathered .entry)) ((type2 .reading) (now (image .entry))) ⌝ }
+    ensures { λ r. ⌜ Read (type2 .reading) (now (image .entry)) (now (gathered .entry)) r (now (gathered .exit)) ⌝ }
 {
     let mut table = [0u16; 1024];
     read_with(image, gathered, &mut table)
@@ -47,7 +44,7 @@ pub fn read(image: &[u8], gathered: &mut [u8]) -> ReadAnswer
 // The part shown after `read` answered: of the image or, if the message is interrupted, of the gathered copy; empty without
 // a message, after a refusal, and where the answer's numbers do not fit.
 pub fn shown<'a>(image: &'a [u8], gathered: &'a [u8], answer: ReadAnswer) -> &'a [u8]
-    ensures { λ r. ⌜ now r ≡ shown (now (image .entry)) (now (gathered .entry)) (readAs answer) ⌝ }
+    ensures { λ r. ⌜ Showed (now (image .entry)) (now (gathered .entry)) answer (now r) ⌝ }
 {
     slices::shown(image, gathered, answer)
 }

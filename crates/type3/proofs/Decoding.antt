@@ -9,15 +9,17 @@ use borrow.Author.Tests.{eqb-true, eq-eqb}
 use lib.Dec.{leb, eqb}
 use lib.ListN.{length, take, drop, replicate, length-drop}
 use lib.Seq.{take-at, drop-drop, split-at}
+use Rattle.tag.specs.declared.Block.{Block}
 use Rattle.tag.specs.Bytes.{byte, same, overwrite}
-use Rattle.tag.specs.Refusals.{not-well-formed}
+use Rattle.tag.specs.Refusals.{Refusal, positioned, not-well-formed}
 use Rattle.tag.proofs.Logic.{and-l, and-r, and-three, and-both, same-eq, same-refl, true-false, nope}
 use Rattle.type3.specs.declared.Command.{Command}
 use Rattle.type3.specs.Update.{blocksPerCommand}
 use Rattle.type3.specs.Codec.{namesBytes, Names, no-names, names, namesOf, nameable, wellNamed, opening, commandBytes, Decoded, undecoded, decoded, decodeBy, decode}
 use Rattle.type3.specs.InPlace.{marked, numbers, framedBy, framed, carried}
-use Rattle.type3.specs.CodecViews.{commandAs, isCommand, Framed}
+use Rattle.type3.specs.CodecViews.{blockNumbers, commandAs, isCommand, Framed}
 use Rattle.type3.proofs.Codec.{length-opening, past-count, grouped, decode-encode, encode-decode, length-command, count-at}
+use Rattle.type3.proofs.Numbering.{numbers-back}
 use Rattle.type3.proofs.Naming.{length-numbers}
 use Rattle.type3.proofs.Encoding.{count-bounds}
 
@@ -144,21 +146,21 @@ decoded-framed number nbw nmaxb all bs bytes e =
     )
 
 -- whatever does not decode is refused with 20
-undecoded-by : (nbw nmaxb : ℕ) (ns : Names) (r : ℕ) → decodeBy nbw nmaxb ns ≡ undecoded r → r ≡ not-well-formed
+undecoded-by : (nbw nmaxb : ℕ) (ns : Names) (r : Refusal) → decodeBy nbw nmaxb ns ≡ undecoded r → r ≡ positioned not-well-formed 0
 unfolding decodeBy
 undecoded-by nbw nmaxb no-names r e = cc
 undecoded-by nbw nmaxb (names cs t) r e = go (wellNamed nbw nmaxb cs && eqb (length t) (16 * length cs)) refl
   where
-    go : (q : Bool) → wellNamed nbw nmaxb cs && eqb (length t) (16 * length cs) ≡ q → r ≡ not-well-formed
-    go false q = let z : undecoded not-well-formed ≡ undecoded r = rw q at e in cc
+    go : (q : Bool) → wellNamed nbw nmaxb cs && eqb (length t) (16 * length cs) ≡ q → r ≡ positioned not-well-formed 0
+    go false q = let z : undecoded (positioned not-well-formed 0) ≡ undecoded r = rw q at e in cc
     go true q = let z : decoded cs t ≡ undecoded r = rw q at e in absurd (nope (cc))
 
-undecoded-is : (number : List ℕ) (nbw nmaxb : ℕ) (all : List ℕ) (r : ℕ) → decode number nbw nmaxb all ≡ undecoded r → r ≡ not-well-formed
+undecoded-is : (number : List ℕ) (nbw nmaxb : ℕ) (all : List ℕ) (r : Refusal) → decode number nbw nmaxb all ≡ undecoded r → r ≡ positioned not-well-formed 0
 unfolding decode
 undecoded-is number nbw nmaxb all r e = go (same (take 12 all) (opening number)) refl
   where
-    go : (q : Bool) → same (take 12 all) (opening number) ≡ q → r ≡ not-well-formed
-    go false q = let z : undecoded not-well-formed ≡ undecoded r = rw q at e in cc
+    go : (q : Bool) → same (take 12 all) (opening number) ≡ q → r ≡ positioned not-well-formed 0
+    go false q = let z : undecoded (positioned not-well-formed 0) ≡ undecoded r = rw q at e in cc
     go true q = undecoded-by nbw nmaxb (namesOf (byte all 12) (drop 13 all)) r (rw q at e)
 
 module _ (number : List ℕ) (nbw nmaxb : ℕ) (all : List ℕ) where
@@ -180,10 +182,10 @@ module _ (number : List ℕ) (nbw nmaxb : ℕ) (all : List ℕ) where
           let z : undecoded u ≡ carried all = sym q ∙ decode-framed number nbw all p nmaxb n r in
           absurd (nope (cc))
 
-  pub decode-refused : isCommand (decode number nbw nmaxb all) ≡ false → decode number nbw nmaxb all ≡ undecoded not-well-formed
+  pub decode-refused : isCommand (decode number nbw nmaxb all) ≡ false → decode number nbw nmaxb all ≡ undecoded (positioned not-well-formed 0)
   decode-refused h = go (decode number nbw nmaxb all) refl
     where
-      go : (d : Decoded) → decode number nbw nmaxb all ≡ d → decode number nbw nmaxb all ≡ undecoded not-well-formed
+      go : (d : Decoded) → decode number nbw nmaxb all ≡ d → decode number nbw nmaxb all ≡ undecoded (positioned not-well-formed 0)
       go (undecoded r) q = q ∙ ap undecoded (undecoded-is number nbw nmaxb all r q)
       go (decoded bs bytes) q = absurd (true-false (ap isCommand q) h)
 
@@ -201,17 +203,18 @@ module _ (number : List ℕ) (nbw nmaxb : ℕ) (all : List ℕ) where
           (decode-framed number nbw all (k .0) nmaxb (n .3) (k .1), k .0, k .1)
 
 -- a command by its parts
-pub same-command : {n m : ℕ} {x u y v : List ℕ} → n ≡ m → x ≡ u → y ≡ v
+pub same-command : {n m : ℕ} {x u : List Block} {y v : List ℕ} → n ≡ m → x ≡ u → y ≡ v
     → _≡_ {A = Command} (record { count = n; blocks = x; bytes = y }) (record { count = m; blocks = u; bytes = v })
 same-command p q r = λ i. record { count = p i; blocks = q i; bytes = r i }
 
 -- of a command's arrays its count takes what was carried
 pub carried-viewed : (bytes : List ℕ) → Framed bytes
-    → (let d = commandAs (carried bytes) in decoded (take (d .count) (d .blocks)) (take (16 * d .count) (d .bytes))) ≡ carried bytes
+    → (let d = commandAs (carried bytes) in decoded (take (d .count) (blockNumbers (d .blocks))) (take (16 * d .count) (d .bytes))) ≡ carried bytes
 carried-viewed bytes f =
     let b = byte bytes 12 in
     let ns = numbers b (drop 13 bytes) in
     let sixteens = drop (13 + 2 * b) bytes in
     let k : length sixteens ≡ 16 * length ns = omega (arith, length-drop (13 + 2 * b) bytes, length-numbers b (drop 13 bytes)) in
-    ap (λ l. decoded l (take (16 * length ns) (overwrite sixteens (replicate 128 0)))) (take-at ns (drop (length ns) (replicate 8 0)) (length ns) refl)
+    ap (λ l. decoded l (take (16 * length ns) (overwrite sixteens (replicate 128 0))))
+    (ap (take (length ns)) (numbers-back (overwrite ns (replicate 8 0))) ∙ take-at ns (drop (length ns) (replicate 8 0)) (length ns) refl)
     ∙ ap (decoded ns) (take-at sixteens (drop (length sixteens) (replicate 128 0)) (16 * length ns) k)

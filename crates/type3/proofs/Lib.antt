@@ -5,6 +5,7 @@ pub mod Update
 pub mod Shown
 pub mod Laws
 pub mod Counts
+pub mod Numbering
 pub mod Naming
 pub mod Encoding
 pub mod Decoding

@@ -8,7 +8,7 @@ use native.Mathlib.Omega.{arith}
 use borrow.Author.Tests.{lt-ltb, le-ltb}
 use lib.ListN.{length}
 use Rattle.tag.specs.Bytes.{byte}
-use Rattle.tag.specs.Refusals.{not-well-formed}
+use Rattle.tag.specs.Refusals.{positioned, not-well-formed}
 use Rattle.tag.specs.Checks.{fine, fault, firstOf}
 use Rattle.tag.specs.Stores.{Store, ill, stores, formed, done}
 use Rattle.tag.specs.Judging.{Applied}
@@ -24,7 +24,7 @@ use Rattle.type3.proofs.Message.{unread, passes-reads}
 -- ---- which commands are taken
 
 module _ (n : ℕ) (number : List ℕ) (nbw nmaxb : ℕ) (bytes : List ℕ) where
-  pub decode-past : n / 16 ≤ nmaxb → decodeFor n number nbw nmaxb bytes ≡ undecoded not-well-formed
+  pub decode-past : n / 16 ≤ nmaxb → decodeFor n number nbw nmaxb bytes ≡ undecoded (positioned not-well-formed 0)
   decode-past l = rw (le-ltb nmaxb (n / 16) l)
 
   pub decode-inside : nmaxb < n / 16 → decodeFor n number nbw nmaxb bytes ≡ decode number nbw nmaxb bytes

@@ -1,29 +1,42 @@
--- The code's answer of `decode` as the definition has it; what framed bytes are, and what writing a command asks.
+-- The code's answer of `decode` as the definition has it, and the contracts of the codec as relations; what framed bytes are, and what
+-- writing a command asks.
 -- Assumes nothing.
 use mathlib.Core.Bool.{Bool, true, false, cond}
 use mathlib.Core.Path.{_≡_}
-use mathlib.Core.List.{List}
+use mathlib.Core.List.{List, map}
 use Prim.Native.Nat.{ℕ, _+_, _*_, _<_, _≤_}
 use lib.Dec.{eqb}
 use lib.ListN.{length, take, replicate, getD}
+use Rattle.tag.specs.declared.Block.{Block}
+use Rattle.tag.specs.declared.CountAnswer.{CountAnswer}
 use Rattle.tag.specs.Bytes.{byte, overwrite}
+use Rattle.tag.specs.Refusals.{refusalAt}
+use Rattle.tag.specs.Contracts.{PutOut}
 use Rattle.type3.specs.declared.Command.{Command}
 use Rattle.type3.specs.declared.commands.Decoded as code
-use Rattle.type3.specs.Codec.{Decoded, undecoded, decoded}
+use Rattle.type3.specs.Codec.{encode, Decoded, undecoded, decoded, decode}
 
+-- the numbers of blocks, and blocks by their numbers
+abbrev pub blockNumbers : List Block → List ℕ
+blockNumbers bs = map (λ b. b .0) bs
+
+abbrev pub blocksOf : List ℕ → List Block
+blocksOf ns = map (λ n. record { 0 = n }) ns
+
+-- the struct's refusal is a number, and its position is 0
 abbrev pub decodedAs : code.Decoded → Decoded
 decodedAs d =
     cond (eqb (d .refusal) 0)
-    (decoded (take (d .command .count) (d .command .blocks)) (take (16 * d .command .count) (d .command .bytes)))
-    (undecoded (d .refusal))
+    (decoded (take (d .command .count) (blockNumbers (d .command .blocks))) (take (16 * d .command .count) (d .command .bytes)))
+    (undecoded (refusalAt (d .refusal) 0))
 
 -- the command that was read; what it does not use of its arrays is zero, and beside a refusal all of it is
 abbrev pub commandAs : Decoded → Command
-commandAs (undecoded r) = record { count = 0; blocks = replicate 8 0; bytes = replicate 128 0 }
+commandAs (undecoded r) = record { count = 0; blocks = blocksOf (replicate 8 0); bytes = replicate 128 0 }
 commandAs (decoded bs bytes) =
     record {
       count = length bs;
-      blocks = overwrite bs (replicate 8 0);
+      blocks = blocksOf (overwrite bs (replicate 8 0));
       bytes = overwrite bytes (replicate 128 0);
     }
 
@@ -31,6 +44,14 @@ commandAs (decoded bs bytes) =
 abbrev pub isCommand : Decoded → Bool
 isCommand (undecoded r) = false
 isCommand (decoded bs bytes) = true
+
+-- `encode`, given our number, Nbw, Nmaxb, a command and a buffer, answers r and leaves the buffer as out
+abbrev pub EncodedTo : List ℕ → ℕ → ℕ → Command → List ℕ → CountAnswer → List ℕ → Type 0
+EncodedTo number nbw nmaxb c buffer r out = PutOut (encode number nbw nmaxb (c .count) (blockNumbers (c .blocks)) (c .bytes)) buffer r out
+
+-- `decode`, given our number, Nbw, Nmaxb and bytes, answers d
+abbrev pub DecodedTo : List ℕ → ℕ → ℕ → List ℕ → code.Decoded → Type 0
+DecodedTo number nbw nmaxb bytes d = (decodedAs d ≡ decode number nbw nmaxb bytes) × (d .command ≡ commandAs (decode number nbw nmaxb bytes))
 
 -- a command's bytes have the length that their count says, for at most eight blocks
 pub record Framed (bytes : List ℕ) : Type 0 where

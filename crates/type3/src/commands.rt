@@ -3,6 +3,7 @@
 
 use crate::Command;
 use crate::names;
+use tag::Block;
 use tag::CountAnswer;
 use tag::numbers;
 use tag::slices;
@@ -12,13 +13,12 @@ ghost use mathlib.Core.List.{_++_, _∷_, []};
 ghost use Prim.Native.Nat.{_<_, _≤_};
 ghost use lib.Dec.{leb};
 ghost use lib.ListN.{length, take, drop};
-ghost use Rattle.tag.specs.Answers.{countOf, countAs};
 ghost use Rattle.tag.specs.Bytes.{byte, same, overwrite};
-ghost use Rattle.tag.specs.TagType.{outputInto};
+ghost use Rattle.tag.specs.Contracts.{PutOut};
 ghost use Rattle.type3.specs.Update.{blocksPerCommand};
 ghost use Rattle.type3.specs.Codec.{nameable, wellNamed, opening, commandBytes, encode, decode, span};
 ghost use Rattle.type3.specs.InPlace.{numbers, framed, carried};
-ghost use Rattle.type3.specs.CodecViews.{decodedAs, commandAs, isCommand, PutAsked, Framed};
+ghost use Rattle.type3.specs.CodecViews.{commandAs, isCommand, EncodedTo, DecodedTo, PutAsked, Framed};
 
 // The answer of `decode`: a refusal with an empty command, or 0 and the command.
 pub struct Decoded {
@@ -97,8 +97,7 @@ fn encode_parts(
     bytes: &mut [u8],
 ) -> CountAnswer
     requires { ⌜ (length (now blocks) ≡ 8) × (length (now sixteens) ≡ 128) ⌝ }
-    ensures answer { λ r. ⌜ countAs r ≡ countOf (encode number nbw nmaxb count (now (blocks .entry)) (now (sixteens .entry)) (length (now (bytes .entry)))) ⌝ }
-    ensures written { λ _. ⌜ now (bytes .exit) ≡ outputInto (now (bytes .entry)) (encode number nbw nmaxb count (now (blocks .entry)) (now (sixteens .entry)) (length (now (bytes .entry)))) ⌝ }
+    ensures { λ r. ⌜ PutOut (encode number nbw nmaxb count (now (blocks .entry)) (now (sixteens .entry))) (now (bytes .entry)) r (now (bytes .exit)) ⌝ }
 {
     if !well_named(count, blocks, nbw, nmaxb) {
         return CountAnswer::Refused(20);
@@ -120,11 +119,11 @@ pub fn encode(
     nmaxb: usize,
     bytes: &mut [u8],
 ) -> CountAnswer
-    ensures answer { λ r. ⌜ countAs r ≡ countOf (encode (now (number .entry)) nbw nmaxb (command .count) (command .blocks) (command .bytes) (length (now (bytes .entry)))) ⌝ }
-    ensures written { λ _. ⌜ now (bytes .exit) ≡ outputInto (now (bytes .entry)) (encode (now (number .entry)) nbw nmaxb (command .count) (command .blocks) (command .bytes) (length (now (bytes .entry)))) ⌝ }
+    ensures { λ r. ⌜ EncodedTo (now (number .entry)) nbw nmaxb command (now (bytes .entry)) r (now (bytes .exit)) ⌝ }
 {
     let count = command.count;
-    let blocks = command.blocks;
+    let named = command.blocks;
+    let blocks = names::block_numbers(named);
     let sixteens = command.bytes;
     encode_parts(count, &blocks, &sixteens, *number, nbw, nmaxb, bytes)
 }
@@ -208,8 +207,9 @@ fn carried(bytes: &[u8]) -> Command
     ensures { λ r. ⌜ r ≡ commandAs (carried (now (bytes .entry))) ⌝ }
 {
     let count = bytes[12] as usize;
-    let mut blocks = [0usize; 8];
-    names::read(bytes, count, &mut blocks);
+    let mut numbers = [0usize; 8];
+    names::read(bytes, count, &mut numbers);
+    let blocks = names::blocks_of(numbers);
     let start = 13 + 2 * count;
     let mut sixteens = [0u8; 128];
     slices::store(&bytes[start..], 0, &mut sixteens);
@@ -222,8 +222,7 @@ fn carried(bytes: &[u8]) -> Command
 
 // Reads a command: 20 if the bytes are not well formed.
 pub fn decode(bytes: &[u8], number: &[u8; 8], nbw: usize, nmaxb: usize) -> Decoded
-    ensures is { λ r. ⌜ decodedAs r ≡ decode (now (number .entry)) nbw nmaxb (now (bytes .entry)) ⌝ }
-    ensures command { λ r. ⌜ r .command ≡ commandAs (decode (now (number .entry)) nbw nmaxb (now (bytes .entry))) ⌝ }
+    ensures { λ r. ⌜ DecodedTo (now (number .entry)) nbw nmaxb (now (bytes .entry)) r ⌝ }
 {
     if is_command(bytes, number, nbw, nmaxb) {
         let command = carried(bytes);
@@ -234,7 +233,7 @@ pub fn decode(bytes: &[u8], number: &[u8; 8], nbw: usize, nmaxb: usize) -> Decod
     }
     let command = Command {
         count: 0,
-        blocks: [0usize; 8],
+        blocks: [Block(0); 8],
         bytes: [0u8; 128],
     };
     Decoded {

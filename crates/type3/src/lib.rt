@@ -9,9 +9,11 @@ pub mod read;
 pub mod space;
 mod stores;
 
-// A write command: the numbers of its blocks, of which the first `count` are used, and sixteen bytes for each of them.
+use tag::Block;
+
+// A write command: its blocks, of which the first `count` are used, and sixteen bytes for each of them.
 pub struct Command {
     pub count: usize,
-    pub blocks: [usize; 8],
+    pub blocks: [Block; 8],
     pub bytes: [u8; 128],
 }

@@ -1,5 +1,7 @@
-// How a command names its blocks (a block list element each): 80h and the block's number, a byte.
+// How a command names its blocks (a block list element each): 80h and the block's number, a byte. The loops work with the number inside a
+// block.
 
+use tag::Block;
 ghost use mathlib.Core.Path.{_≡_};
 ghost use Prim.Native.Nat.{ℕ, _+_, _*_, _<_, _≤_};
 ghost use lib.ListN.{length, drop, getD};
@@ -7,12 +9,45 @@ ghost use lib.Seq.{sets};
 ghost use Rattle.tag.specs.Bytes.{has};
 ghost use Rattle.type3.specs.Codec.{nameBytes, namesBytes, nameable};
 ghost use Rattle.type3.specs.InPlace.{marked, numbers};
+ghost use Rattle.type3.specs.CodecViews.{blockNumbers, blocksOf};
 
 // How a command names the block.
 pub fn name(block: u8) -> [u8; 2]
     ensures { λ r. ⌜ r ≡ nameBytes block ⌝ }
 {
     [0x80, block]
+}
+
+// The numbers of a command's blocks.
+pub fn block_numbers(blocks: [Block; 8]) -> [usize; 8]
+    ensures { λ r. ⌜ r ≡ blockNumbers blocks ⌝ }
+{
+    [
+        blocks[0].0,
+        blocks[1].0,
+        blocks[2].0,
+        blocks[3].0,
+        blocks[4].0,
+        blocks[5].0,
+        blocks[6].0,
+        blocks[7].0,
+    ]
+}
+
+// The blocks of a command by their numbers, as they came in.
+pub fn blocks_of(numbers: [usize; 8]) -> [Block; 8]
+    ensures { λ r. ⌜ r ≡ blocksOf numbers ⌝ }
+{
+    [
+        Block(numbers[0]),
+        Block(numbers[1]),
+        Block(numbers[2]),
+        Block(numbers[3]),
+        Block(numbers[4]),
+        Block(numbers[5]),
+        Block(numbers[6]),
+        Block(numbers[7]),
+    ]
 }
 
 // Whether the block is among `blocks`.

@@ -15,8 +15,9 @@ ghost use Prim.Native.Nat.{_≤_};
 ghost use lib.Dec.{eqb};
 ghost use lib.ListN.{length, drop};
 ghost use Rattle.tag.specs.Checks.{firstOf};
-ghost use Rattle.tag.specs.Reading.{answer, answerOf, shown};
-ghost use Rattle.tag.specs.Answers.{whatOf, readAs};
+ghost use Rattle.tag.specs.Reading.{answer};
+ghost use Rattle.tag.specs.Answers.{whatOf};
+ghost use Rattle.tag.specs.Contracts.{Read, Showed};
 ghost use Rattle.type3.specs.Attributes.{attributes, imageLength, flagsDefined, attributeChecks, mayWrite};
 ghost use Rattle.type3.specs.Message.{reading};
 ghost use Rattle.type3.specs.Views.{WholeBlocks, checkedAs, faultAs, Says, Known, reportAs, answerFor};
@@ -211,7 +212,7 @@ fn without(what: What, writable: bool) -> Report
 
 // Reads a tag. A Type 3 message is never interrupted, so that there is nothing to gather.
 pub fn read(image: &[u8]) -> ReadAnswer
-    ensures { λ r. ⌜ readAs r ≡ answerOf 0 (reading (now (image .entry))) ⌝ }
+    ensures { λ r. ⌜ Read reading (now (image .entry)) [] r [] ⌝ }
 {
     let refusal = fault(image);
     if refusal != 0 {
@@ -224,7 +225,7 @@ pub fn read(image: &[u8]) -> ReadAnswer
 // The message as a part of the image; empty without one, after a refusal, and where the answer's numbers do not fit or it claims
 // to be interrupted.
 pub fn shown(image: &[u8], answer: ReadAnswer) -> &[u8]
-    ensures { λ r. ⌜ now r ≡ shown (now (image .entry)) [] (readAs answer) ⌝ }
+    ensures { λ r. ⌜ Showed (now (image .entry)) [] answer (now r) ⌝ }
 {
     slices::shown(image, &image[0..0], answer)
 }

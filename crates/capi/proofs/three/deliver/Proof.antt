@@ -1,42 +1,18 @@
 -- `three::deliver` meets its contract. Assumes nothing.
-use mathlib.Core.Path.{sym, _∙_}
-use Prim.Native.Nat.{_*_}
-use native.Mathlib.Omega.{arith}
+use mathlib.Core.Path.{refl, ap, _∙_}
 use borrow.Author.Needs.{needs}
 use lib.ListN.{take}
-use lib.Seq.{length-take-le}
-use Rattle.tag.proofs.Storing.{sets-front}
+use Rattle.tag.specs.Bytes.{overwrite}
 use Rattle.capi.proofs.three.deliver.Statement.{statement}
 use Rattle.capi.proofs.three.deliver.Tie as tie
 
-slice-aggregate-store : tie.Need-slice-aggregate-store
-slice-aggregate-store c = sym (length-take-le (c .before .before .before .before .before .args .count) (c .before .before .before .before .before .args .named .now) (omega arith))
-
-store-requires : tie.Need-store-requires
-store-requires c κs = omega (arith, length-take-le (c .before .before .before .before .before .before .args .count) (c .before .before .before .before .before .before .args .named .now) (omega arith))
-
-slice-aggregate-store-2 : tie.Need-slice-aggregate-store-2
-slice-aggregate-store-2 c = sym (length-take-le (16 * c .before .before .before .before .before .before .before .before .before .before .args .count) (c .before .before .before .before .before .before .before .before .before .before .args .carried .now) (omega arith))
-
-store-requires-2 : tie.Need-store-requires-2
-store-requires-2 c κs = omega (arith, length-take-le (16 * c .before .before .before .before .before .before .before .before .before .before .before .args .count) (c .before .before .before .before .before .before .before .before .before .before .before .args .carried .now) (omega arith))
-
 returns : tie.Need-returns
 returns c =
-    let a = c .before .before .before .before .before .before .before .before .before .before .before .before .before .before .args in
-    let n = length-take-le (a .count) (a .named .now) (omega arith) in
-    let m = length-take-le (16 * a .count) (a .carried .now) (omega arith) in
-    (c .before .before .before .before .before .before .before .store .ensures ∙ sets-front (take (a .count) (a .named .now)) (a .blocks .now) (omega arith), c .before .before .store2 .ensures ∙ sets-front (take (16 * a .count) (a .carried .now)) (a .sixteens .now) (omega arith))
+    let at-named = c .before .before .before .before in
+    let at-numbers = at-named .before .before in
+    let a = at-numbers .before .before .args in
+    let stored = c .store-used .ensures in
+    (refl, (stored .0 ∙ ap (λ l. overwrite (take (a .command .count) l) (a .blocks .now)) (at-numbers .block-numbers .ensures), stored .1))
 
 pub deliver-spec : {M : Type 1} → statement M
-deliver-spec =
-    tie.close
-    (tie.spec
-    (λ c. search needs)
-    slice-aggregate-store
-    store-requires
-    slice-aggregate-store-2
-    store-requires-2
-    (λ c. search needs)
-    (λ c. search needs)
-    returns)
+deliver-spec = tie.close (tie.spec (λ c κs. search needs) (λ c. search needs) (λ c. search needs) (λ c κs. search needs) returns)

@@ -5,15 +5,20 @@ use lib.ListN.{length}
 use Rattle.tag.specs.Answers.{countOf}
 use Rattle.tag.specs.TagType.{outputInto}
 use Rattle.type3.specs.Codec.{encode}
+use Rattle.type3.specs.CodecViews.{blockNumbers}
+use Rattle.type3.proofs.Numbering.{numbers-back}
 use Rattle.capi.specs.Packed.{packedCount}
 use Rattle.capi.proofs.three.zan_type3_encode.Statement.{statement}
 use Rattle.capi.proofs.three.zan_type3_encode.Tie as tie
 
 returns : tie.Need-returns
 returns c =
-    let a = c .before .before .before .before .before .before .before .before .before .args in
-    let r = c .before .before .before .encode .ensures in
-    let e = ap (λ bs. encode (a .number .now) (a .nbw) (a .nmaxb) (a .count) bs (a .sixteens .now) (length (a .bytes .now))) (c .before .before .before .before .before .before .numbers .ensures) in
+    let at-encode = c .before .before .before in
+    let at-blocks = at-encode .before .before .before in
+    let a = at-blocks .before .before .before .args in
+    let r = at-encode .encode .ensures in
+    let numbers = ap blockNumbers (at-blocks .blocks-from .ensures) ∙ numbers-back (a .blocks .now) in
+    let e = ap (λ bs. encode (a .number .now) (a .nbw) (a .nmaxb) (a .count) bs (a .sixteens .now) (length (a .bytes .now))) numbers in
     (c .count .ensures ∙ ap packedCount (r .0 ∙ ap countOf e), r .1 ∙ ap (outputInto (a .bytes .now)) e)
 
 pub zan-type3-encode-spec : {M : Type 1} → statement M

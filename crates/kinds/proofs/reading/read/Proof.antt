@@ -19,7 +19,7 @@ returns-2 c =
     let a = at-kind .before .before .before .before .args in
     let i = a .image .now in
     rw (at-kind .kind2 .given .1)
-    (c .read2 .ensures ∙ plain-answer (reading i) (plain i) 0 (length (a .gathered .now)), sym (plain-buffer (reading i) (plain i) (a .gathered .now)))
+    (c .read2 .ensures .0 ∙ plain-answer (reading i) (plain i) 0 (length (a .gathered .now)), sym (plain-buffer (reading i) (plain i) (a .gathered .now)))
 
 pub read-spec : {M : Type 1} → statement M
 read-spec =

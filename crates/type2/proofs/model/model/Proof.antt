@@ -3,7 +3,7 @@ use mathlib.Core.Path.{sym, ap, _∙_}
 use borrow.Author.Needs.{needs}
 use Rattle.tag.specs.Stores.{done}
 use Rattle.tag.specs.Model.{imageAfter}
-use Rattle.tag.specs.Answers.{storingOf, unstoring}
+use Rattle.tag.specs.Answers.{storingOf, refusesOne}
 use Rattle.type2.proofs.Modelling.{command-ill, command-formed, model-unread, model-ill, model-stored}
 use Rattle.type2.proofs.model.model.Statement.{statement}
 use Rattle.type2.proofs.model.model.Tie as tie
@@ -13,7 +13,7 @@ returns c =
     let a = c .before .before .before .before .before .args in
     let f = c .before .refusal in
     let e = model-unread (a .image .now) (a .command .now) (λ z. c .if1 .taken (f .ensures ∙ z)) in
-    (ap unstoring (f .ensures) ∙ sym (ap storingOf e), sym (ap (imageAfter (a .image .now)) e))
+    (ap refusesOne (f .ensures) ∙ sym (ap storingOf e), sym (ap (imageAfter (a .image .now)) e))
 
 returns-2 : tie.Need-returns-2
 returns-2 c =

@@ -5,7 +5,7 @@ use native.Mathlib.Omega.{arith}
 use borrow.Author.Needs.{needs}
 use lib.ListN.{length}
 use Rattle.tag.specs.TagType.{outputInto}
-use Rattle.tag.specs.Answers.{counts, countOf}
+use Rattle.tag.specs.Answers.{gives, countOf}
 use Rattle.type2_write.proofs.Guarding.{guarded-short, guarded-count, guarded-fits, guarded-parts}
 use Rattle.type2_write.proofs.list.put_list.Statement.{statement}
 use Rattle.type2_write.proofs.list.put_list.Tie as tie
@@ -37,7 +37,7 @@ returns-2 c =
     let count = guarded-count i new marks first (s .pre) (end .result .0) (n .result) (guard .result .0) (end .ensures) (n .ensures .0) (guard .ensures) in
     let room : 6 * (n .result + 2) ≤ length list = c .before .before .before .before .before .before .before .before .before .before .before .before .before .if1 .left in
     let e = guarded-fits i new marks first (s .pre) (length list) (omega (arith, count)) in (
-      ap counts count ∙ sym (ap countOf e),
+      ap gives count ∙ sym (ap countOf e),
       guarded-parts i new marks first (s .pre) (end .result .0) (n .result) (guard .result .0) (end .ensures) (n .ensures .0) (guard .ensures)
           list (shut .last .1 .1 .0) (mid .last .1 .1 .1 .0) (last .last .1 .1 .0) room (shut .ensures) (search needs) (mid .ensures) (last .ensures)
           ∙ sym (ap (outputInto list) e),

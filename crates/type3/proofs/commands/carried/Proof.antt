@@ -8,6 +8,7 @@ use lib.Seq.{sets, take-all}
 use Rattle.tag.specs.Bytes.{byte}
 use Rattle.tag.proofs.Storing.{sets-front}
 use Rattle.type3.specs.InPlace.{numbers}
+use Rattle.type3.specs.CodecViews.{blocksOf}
 use Rattle.type3.proofs.Naming.{length-numbers}
 use Rattle.type3.proofs.Decoding.{same-command}
 use Rattle.type3.proofs.commands.carried.Statement.{statement}
@@ -15,16 +16,20 @@ use Rattle.type3.proofs.commands.carried.Tie as tie
 
 returns : tie.Need-returns
 returns c =
-    let bs = c .before .before .before .before .before .before .before .before .before .args .bytes .now in
-    let f = c .before .before .before .before .before .before .before .before .before .pre in
+    let at-store = c .before in
+    let at-blocks = at-store .before .before .before in
+    let at-read = at-blocks .before .before in
+    let at-start = at-read .before .before .before .before in
+    let bs = at-start .args .bytes .now in
+    let f = at-start .pre in
     let ns = numbers (byte bs 12) (drop 13 bs) in
     let start = 13 + 2 * byte bs 12 in
     let k : length ns ≡ byte bs 12 = length-numbers (byte bs 12) (drop 13 bs) in
     let all = take-all (length bs - start) (drop start bs) (omega (arith, length-drop start bs)) in
     same-command (sym k)
-    (c .before .before .before .before .before .read .ensures ∙ sets-front ns (replicate 8 0) (omega arith))
+    (at-blocks .blocks-of .ensures ∙ ap blocksOf (at-read .read .ensures ∙ sets-front ns (replicate 8 0) (omega arith)))
     (
-    c .before .store .ensures
+    at-store .store .ensures
     ∙ ap (sets (replicate 128 0) 0) all
     ∙ sets-front (drop start bs) (replicate 128 0) (omega (arith, length-drop start bs))
     )
@@ -36,6 +41,7 @@ carried-spec =
     (λ c. search needs)
     (λ c. search needs)
     (λ c. search needs)
+    (λ c κs. search needs)
     (λ c κs. search needs)
     (λ c. search needs)
     (λ c. search needs)

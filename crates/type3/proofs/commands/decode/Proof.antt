@@ -5,7 +5,7 @@ use borrow.Author.Needs.{needs}
 use lib.ListN.{take}
 use Rattle.type3.specs.Codec.{decoded}
 use Rattle.type3.specs.InPlace.{carried}
-use Rattle.type3.specs.CodecViews.{commandAs}
+use Rattle.type3.specs.CodecViews.{blockNumbers, commandAs}
 use Rattle.type3.proofs.Decoding.{frame, decode-carried, decode-refused, carried-viewed}
 use Rattle.type3.proofs.commands.decode.Statement.{statement}
 use Rattle.type3.proofs.commands.decode.Tie as tie
@@ -21,7 +21,7 @@ returns c =
     let a = c .before .before .before .before .args in
     let k = decode-carried (a .number .now) (a .nbw) (a .nmaxb) (a .bytes .now) (sym (c .before .before .is-command .ensures) ∙ c .before .if1 .taken) in
     let f = frame (a .number .now) (a .nbw) (a .bytes .now) (k .1) in (
-      ap (λ d. decoded (take (d .count) (d .blocks)) (take (16 * d .count) (d .bytes))) (c .carried .ensures) ∙ carried-viewed (a .bytes .now) f ∙ sym (k .0),
+      ap (λ d. decoded (take (d .count) (blockNumbers (d .blocks))) (take (16 * d .count) (d .bytes))) (c .carried .ensures) ∙ carried-viewed (a .bytes .now) f ∙ sym (k .0),
       c .carried .ensures ∙ ap commandAs (sym (k .0)),
     )
 

@@ -1,6 +1,8 @@
 -- `read::read` meets its contract. Assumes nothing.
 use mathlib.Core.Path.{sym, _∙_}
 use borrow.Author.Needs.{needs}
+use Rattle.tag.proofs.Showing.{gathered-none}
+use Rattle.type3.specs.Message.{reading}
 use Rattle.type3.proofs.Reading.{fault-some, fault-none, fine-long, attested, answer-refused, answer-known}
 use Rattle.type3.proofs.read.read.Statement.{statement}
 use Rattle.type3.proofs.read.read.Tie as tie
@@ -8,7 +10,7 @@ use Rattle.type3.proofs.read.read.Tie as tie
 returns : tie.Need-returns
 returns c =
     let i = c .before .before .before .args .image .now in
-    sym (answer-refused i (c .before .fault .result) (sym (c .before .fault .ensures) ∙ fault-some _ (c .if1 .taken)))
+    (sym (answer-refused i (c .before .fault .result) (sym (c .before .fault .ensures) ∙ fault-some _ (c .if1 .taken))), sym (gathered-none (reading i)))
 
 said-requires : tie.Need-said-requires
 said-requires c κs =
@@ -22,7 +24,7 @@ returns-2 c =
     let i = at-if1 .before .before .before .args .image .now in
     let passes = sym (at-if1 .before .fault .ensures) ∙ fault-none _ (at-if1 .if1 .left) in
     let a = at-said .said .result in
-    c .report .ensures ∙ answer-known i a passes (attested i passes a (at-said .said .ensures))
+    (c .report .ensures ∙ answer-known i a passes (attested i passes a (at-said .said .ensures)), sym (gathered-none (reading i)))
 
 pub read-spec : {M : Type 1} → statement M
 read-spec = tie.close (tie.spec (λ c κs. search needs) returns said-requires (λ c κs. search needs) returns-2)

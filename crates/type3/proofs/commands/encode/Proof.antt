@@ -1,0 +1,31 @@
+-- `commands::encode` meets its contract. Assumes nothing.
+use mathlib.Core.Path.{ap, _∙_}
+use borrow.Author.Needs.{needs}
+use lib.ListN.{length}
+use Rattle.tag.specs.Answers.{countOf}
+use Rattle.tag.specs.TagType.{outputInto}
+use Rattle.type3.specs.Codec.{encode}
+use Rattle.type3.proofs.commands.encode.Statement.{statement}
+use Rattle.type3.proofs.commands.encode.Tie as tie
+
+returns : tie.Need-returns
+returns c =
+    let at-encode = c .before .before in
+    let at-blocks = at-encode .before .before .before .before in
+    let at-numbers = at-blocks .before .before in
+    let a = at-numbers .before .before .before .args in
+    let r = at-encode .encode-parts .ensures in
+    let room = length (a .bytes .now) in
+    let e = ap (λ bs. encode (a .number .now) (a .nbw) (a .nmaxb) (a .command .count) bs (a .command .bytes) room) (at-numbers .block-numbers .ensures) in
+    (r .0 ∙ ap countOf e, r .1 ∙ ap (outputInto (a .bytes .now)) e)
+
+pub encode-spec : {M : Type 1} → statement M
+encode-spec =
+    tie.close
+    (tie.spec
+    (λ c κs. search needs)
+    (λ c. search needs)
+    (λ c. search needs)
+    (λ c κs. search needs)
+    (λ c. search needs)
+    returns)
