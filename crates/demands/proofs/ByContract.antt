@@ -14,64 +14,43 @@ use Rattle.tag.specs.declared.JudgeAnswer as judge
 use Rattle.tag.specs.declared.JudgeAnswer.the-variants as verdict
 use Rattle.tag.specs.declared.ModelAnswer as model-answer
 use Rattle.tag.specs.declared.ModelAnswer.the-variants as storing
+use Rattle.tag.specs.Bytes.{overwrite}
 use Rattle.tag.specs.Plan.{list}
 use Rattle.tag.specs.TagType.{TagType, Output, withheld, output, outputInto, fitted, writing, written, writeBy, write, pieces, commands}
 use Rattle.tag.specs.Judge.{accepted, refused, judged}
 use Rattle.tag.specs.Model.{Modelled, unstored, stored, model, imageAfter}
-use Rattle.tag.specs.Answers.{uncounted, counts, countOf, countAs, verdictAs, unstoring, storing, storingOf, modelAs}
+use Rattle.tag.specs.Answers.{refusesOne, gives, countOf, countAs, verdictAs, storingOf, modelAs}
 use Rattle.tag.specs.Contracts.{Wrote, Judged, Took}
 use Rattle.tag.proofs.Logic.{nope}
 use Rattle.demands.specs.Demand3.{cutOf, ourBytes, ourImage, Demand3}
 use Rattle.demands.specs.ByContract.{Run, end, give, refuse, Code3}
+use Rattle.demands.proofs.Answered.{accepted-is, refused-is, stored-is, counted-is, put-all, put-counted}
 use Rattle.demands.proofs.Demand2.{fitted-is}
 
--- an answer is the one that its verdict says
-accepted-is : (r : judge.JudgeAnswer) (n : ℕ) → verdictAs r ≡ accepted n → r ≡ verdict.Accepted n
-accepted-is (verdict.Refused f p) n e = absurd (nope (cc))
-accepted-is (verdict.Accepted k) n e = let q : k ≡ n = cc in ap verdict.Accepted q
-
-refused-is : (r : judge.JudgeAnswer) (f p : ℕ) → verdictAs r ≡ refused f p → r ≡ verdict.Refused f p
-refused-is (verdict.Accepted k) f p e = absurd (nope (cc))
-refused-is (verdict.Refused g q) f p e = let a : g ≡ f = cc in let b : q ≡ p = cc in ap₂ verdict.Refused a b
-
-stored-is : (r : model-answer.ModelAnswer) → modelAs r ≡ storing → r ≡ storing.Stored
-stored-is (storing.Refused f) e = absurd (nope (cc))
-stored-is storing.Stored e = refl
-
-refused-same : (o : Modelled) (j : List ℕ) (f : ℕ) → unstoring f ≡ storingOf o → imageAfter j o ≡ j
+refused-same : (o : Modelled) (j : List ℕ) (f : ℕ) → refusesOne f ≡ storingOf o → imageAfter j o ≡ j
 refused-same (unstored r) j f e = refl
 refused-same (stored k) j f e = absurd (nope (cc))
 
 took-none : (T : TagType) (j command : List ℕ) (f : ℕ) (k : List ℕ) → Took T j command (storing.Refused f) k → k ≡ j
 took-none T j command f k (a, b) = b ∙ refused-same (model T j command) j f a
 
-counted-is : (r : count.CountAnswer) (n : ℕ) → countAs r ≡ counts n → r ≡ counted.Count n
-counted-is (counted.Refused f) n e = absurd (nope (cc))
-counted-is (counted.Count k) n e = let q : k ≡ n = cc in ap counted.Count q
+-- a writing that is counted has put out our list
+pub wrote-ours : (T : TagType) (i m : List ℕ) → writing T i m ≡ written ((T .plan) i m) → (buffer out : List ℕ) (n : ℕ) → Wrote T i m buffer (counted.Count n) out
+    → (length (list ((T .plan) i m) i) ≡ n) × (write T (length buffer) i m ≡ output n (ourBytes T i m)) × (take (length (ourBytes T i m)) out ≡ ourBytes T i m)
+wrote-ours T i m w buffer out n wrote =
+    let (all, e, q) = put-counted (λ room. write T room i m) buffer out n wrote in
+    let by-plan : write T (length buffer) i m ≡ fitted (length buffer) (length (list ((T .plan) i m) i)) (ourBytes T i m) = ap (writeBy T (length buffer) i) w in
+    let (k, b) = fitted-is (length buffer) (length (list ((T .plan) i m) i)) n (ourBytes T i m) all (sym by-plan ∙ e) in (
+      k,
+      e ∙ ap (output n) (sym b),
+      ap (take (length (ourBytes T i m))) (q ∙ ap (λ x. overwrite x buffer) (sym b)) ∙ take-append-seam (ourBytes T i m) (drop (length (ourBytes T i m)) buffer),
+    )
 
 module _ (T : TagType) (i m : List ℕ) (d : Demand3 T i m) (w : writing T i m ≡ written ((T .plan) i m)) where
-  -- a writing that is counted has put out our list
-  count-ours : (buffer : List ℕ) (n : ℕ) → counts n ≡ countOf (write T (length buffer) i m)
-      → write T (length buffer) i m ≡ output (length (list ((T .plan) i m) i)) (ourBytes T i m)
-  count-ours buffer n e = go (write T (length buffer) i m) refl
-    where
-      by-plan : write T (length buffer) i m ≡ fitted (length buffer) (length (list ((T .plan) i m) i)) (ourBytes T i m)
-      by-plan = ap (writeBy T (length buffer) i) w
-
-      go : (o : Output) → write T (length buffer) i m ≡ o → write T (length buffer) i m ≡ output (length (list ((T .plan) i m) i)) (ourBytes T i m)
-      go (withheld r) q = let f : counts n ≡ uncounted r = e ∙ ap countOf q in absurd (nope (cc))
-      go (output k all) q =
-          let (a, b) = fitted-is (length buffer) (length (list ((T .plan) i m) i)) k (ourBytes T i m) all (sym by-plan ∙ q) in
-          q ∙ cc (a, b)
-
   our-answer : (buffer out : List ℕ) (n : ℕ) → Wrote T i m buffer (counted.Count n) out
       → (r : judge.JudgeAnswer) → Judged T i m (take (length (ourBytes T i m)) out) r → r ≡ verdict.Accepted n
-  our-answer buffer out n (a, b) r j =
-      let o : write T (length buffer) i m ≡ output (length (list ((T .plan) i m) i)) (ourBytes T i m) = count-ours buffer n a in
-      let c : counts n ≡ counts (length (list ((T .plan) i m) i)) = a ∙ ap countOf o in
-      let k : length (list ((T .plan) i m) i) ≡ n = cc in
-      let front : take (length (ourBytes T i m)) out ≡ ourBytes T i m
-      = ap (take (length (ourBytes T i m))) (b ∙ ap (outputInto buffer) o) ∙ take-append-seam (ourBytes T i m) (drop (length (ourBytes T i m)) buffer) in
+  our-answer buffer out n wrote r j =
+      let (k, o, front) = wrote-ours T i m w buffer out n wrote in
       accepted-is r n (j ∙ ap (judged T i m) front ∙ d .ours ∙ ap accepted k)
 
   module _ (bytes : List ℕ) (n : ℕ) (e : Judged T i m bytes (verdict.Accepted n)) where
@@ -115,15 +94,13 @@ module _ (T : TagType) (i m : List ℕ) (d : Demand3 T i m) (w : writing T i m �
         → (r ≡ counted.Count (length (list ((T .plan) (cutOf T i bytes k) m) (cutOf T i bytes k))))
         × (ourImage T (cutOf T i bytes k) m ≡ ourImage T i m)
         × (take (length (ourBytes T (cutOf T i bytes k) m)) out ≡ ourBytes T (cutOf T i bytes k) m)
-    afresh k l buffer out r room (a, b) =
+    afresh k l buffer out r room wrote =
         let x = cutOf T i bytes k in
         let (u, v) = d .restart bytes n (sym e) k l in
         let o : write T (length buffer) x m ≡ output (length (list ((T .plan) x m) x)) (ourBytes T x m)
-        = ap (writeBy T (length buffer) x) u ∙ rw (le-leb (length (ourBytes T x m)) (length buffer) room) in (
-          counted-is r (length (list ((T .plan) x m) x)) (a ∙ ap countOf o),
-          v,
-          ap (take (length (ourBytes T x m))) (b ∙ ap (outputInto buffer) o) ∙ take-append-seam (ourBytes T x m) (drop (length (ourBytes T x m)) buffer),
-        )
+        = ap (writeBy T (length buffer) x) u ∙ rw (le-leb (length (ourBytes T x m)) (length buffer) room) in
+        let (c, b) = put-all (λ room. write T room x m) buffer out r (length (list ((T .plan) x m) x)) (ourBytes T x m) wrote o in
+        (c, v, ap (take (length (ourBytes T x m))) b ∙ take-append-seam (ourBytes T x m) (drop (length (ourBytes T x m)) buffer))
 
   pub by-contract : Code3 T i m
   by-contract = record {

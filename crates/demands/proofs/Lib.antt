@@ -4,6 +4,9 @@ pub mod Demand2
 pub mod Octets
 pub mod TooLong
 pub mod Codecs
+pub mod Answered
 pub mod ByContract
+pub mod CodecsOfCode
+pub mod Code2
 pub mod Theorems
 pub mod Witness

@@ -1,7 +1,8 @@
--- The theorems of demands 2 and 3 by name, for both types of tag. What each says is in `specs/Demand2.antt`, `specs/Demand3.antt`
--- and `specs/ByContract.antt`.
+-- The theorems of demands 2 and 3 by name, for both types of tag. What each says is in `specs/Demand2.antt`, `specs/Demand3.antt`,
+-- `specs/Code2.antt` and `specs/ByContract.antt`.
 -- Assumes nothing.
-use mathlib.Core.Path.{_≡_, refl}
+use mathlib.Core.Path.{_≡_, refl, sym, ap, _∙_}
+use mathlib.Core.Logic.{_↔_}
 use mathlib.Core.List.{List}
 use Prim.Native.Nat.{ℕ, _/_}
 use native.Mathlib.Omega.{arith}
@@ -23,14 +24,20 @@ use Rattle.type2.proofs.Laws.{type2-laws}
 use Rattle.type3.specs.Type3.{type3}
 use Rattle.type3.proofs.Laws.{type3-laws}
 use Rattle.type3.proofs.Counts.{list-count}
-use Rattle.demands.specs.Demand2.{Demand2, TooLong2, TooLong3, Codec2, Codec3, Count2, Count3}
+use Rattle.demands.specs.Demand2.{Demand2, Alike3, TooLong2, TooLong3, Codec2, Codec3, Count2, Count3}
 use Rattle.demands.specs.Demand3.{Demand3}
 use Rattle.demands.specs.ByContract.{Code3}
+use Rattle.demands.specs.Code2.{codec2, codec3, alike2, count2, count3, Code2}
 use Rattle.demands.proofs.Demand2 as demand2
 use Rattle.demands.proofs.Demand3 as demand3
-use Rattle.demands.proofs.TooLong.{too-long-2, too-long-3}
-use Rattle.demands.proofs.ByContract.{by-contract}
+use Rattle.demands.proofs.TooLong.{too-long-2, alike-2, too-long-3}
+use Rattle.demands.proofs.ByContract.{wrote-ours, by-contract}
 use Rattle.demands.proofs.Codecs.{codec-2, codec-3}
+use Rattle.demands.proofs.CodecsOfCode.{back-2, there-2, back-3, there-3}
+use Rattle.demands.proofs.Code2.{written-tells, counted-ready, too-long-answer, unreadable-answer, short-answer}
+
+chained : {A B C : Type 0} → A ↔ B → B ↔ C → A ↔ C
+chained f g = ((λ a. g .0 (f .0 a)), (λ c. f .1 (g .1 c)))
 
 -- ---- Type 2
 
@@ -49,6 +56,20 @@ type2-count i m r =
     let some = writes.some memory memory-laws command span encoded i m r in
     length-single ((type2 .plan) i m) i refl (type2-laws .sound i m r .blockwise .inside)
     (touch-of 4 us (content m) (lengthAt us) (lengthAt us / 4) (first-set us m some) (block-of 4 (lengthAt us) (omega arith)))
+
+-- and of the code, by the contracts of read, shown, write, model, encode and decode
+pub type2-code2 : (blocks end : ℕ) → Code2 type2 (codec2 blocks) (alike2 end) count2
+type2-code2 blocks end = record {
+  written-reads = written-tells type2 type2-laws;
+  counts = λ i m buffer out n w.
+      let r = counted-ready type2 i m buffer out n w in
+      sym (wrote-ours type2 i m (ready-written type2 i m r) buffer out n w .0) ∙ type2-count i m r;
+  too-long-exactly = λ i m a buffer out r w. chained (too-long-answer type2 i m buffer out r w) (alike-2 i m a end);
+  refuses = unreadable-answer type2 type2-laws;
+  gathers = short-answer type2;
+  encode-decode = back-2 blocks;
+  decode-encode = there-2 blocks;
+}
 
 pub type2-demand3 : (i m : List ℕ) → Ready type2 i m → Demand3 type2 i m
 type2-demand3 = demand3.claim type2 type2-laws
@@ -71,6 +92,19 @@ module _ (number : List ℕ) (eight : length number ≡ 8) where
 
   pub type3-count : Count3 number
   type3-count = list-count number
+
+  pub type3-code2 : (nbw nmaxb : ℕ) → Code2 (type3 number) (codec3 number nbw nmaxb) Alike3 count3
+  type3-code2 nbw nmaxb = record {
+    written-reads = written-tells (type3 number) (type3-laws number eight);
+    counts = λ i m buffer out n w.
+        let r = counted-ready (type3 number) i m buffer out n w in
+        sym (wrote-ours (type3 number) i m (ready-written (type3 number) i m r) buffer out n w .0) ∙ type3-count i m r;
+    too-long-exactly = λ i m a buffer out r w. chained (too-long-answer (type3 number) i m buffer out r w) (type3-too-long-exactly i m a);
+    refuses = unreadable-answer (type3 number) (type3-laws number eight);
+    gathers = short-answer (type3 number);
+    encode-decode = back-3 number eight nbw nmaxb;
+    decode-encode = there-3 number eight nbw nmaxb;
+  }
 
   pub type3-demand3 : (i m : List ℕ) → Ready (type3 number) i m → Demand3 (type3 number) i m
   type3-demand3 = demand3.claim (type3 number) (type3-laws number eight)

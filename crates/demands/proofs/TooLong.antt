@@ -33,6 +33,7 @@ use Rattle.type3.specs.Update.{fits, blocksFor, addresses, lnSum, values, plan}
 use Rattle.type3.specs.Type3.{type3}
 use Rattle.type3.proofs.Message.{Agrees, bounds, reads-passes}
 use Rattle.type3.proofs.Update as update3
+use Rattle.demands.specs.Code2.{alike2}
 use Rattle.demands.specs.Demand2.{Octets, Asked, Alike2, TooLong2, Alike3, TooLong3}
 use Rattle.demands.proofs.Octets.{octets-byte, octets-overlay, octets-append, octets-zeros}
 
@@ -133,6 +134,25 @@ module _ (i m : List ℕ) (a : Asked type2 i m) (t : ℕ) (us : List ℕ) (e : m
 pub too-long-2 : TooLong2
 too-long-2 i m a t us e end =
     exactly type2 i m a ((j : List ℕ) → Octets j → Alike2 end t us i j → held type2 j ≡ holds m → ⊥) (no-room i m a t us e end) (with-room i m a t us e end)
+
+-- the image's own message TLV is the one that 11 goes by
+pub alike-2 : (i m : List ℕ) → Asked type2 i m → (end : ℕ) → (writing type2 i m ≡ unwritten too-long) ↔ ((j : List ℕ) → Octets j → alike2 end i j → held type2 j ≡ holds m → ⊥)
+alike-2 i m a end =
+    let p = placed memory i (a .report) (a .reads-as) .0 in
+    let us = usable (viewed memory i) in
+    let e = too-long-2 i m a (p .at) us (p .tlv-at) end in (
+      (λ w j o k h. e .0 w j o (k (p .at) us (p .tlv-at)) h),
+      (λ none. e .1 (λ j o k h. none j o (λ t vs q. same-tlv t vs q k) h)),
+    )
+  where
+    same-tlv : {j : List ℕ} (t : ℕ) (vs : List ℕ) → messageTlv layout i ≡ found t vs
+        → Alike2 end (placed memory i (a .report) (a .reads-as) .0 .at) (usable (viewed memory i)) i j → Alike2 end t vs i j
+    same-tlv t vs q k =
+        let p = placed memory i (a .report) (a .reads-as) .0 in
+        let z : found (p .at) (usable (viewed memory i)) ≡ found t vs = sym (p .tlv-at) ∙ q in
+        let at-t : p .at ≡ t = cc in
+        let us-vs : usable (viewed memory i) ≡ vs = cc in
+        rw (at-t, us-vs) at k
 
 -- ---- Type 3
 

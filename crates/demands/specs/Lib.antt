@@ -3,3 +3,4 @@ pub mod Specimens
 pub mod Demand3
 pub mod Demand2
 pub mod ByContract
+pub mod Code2

@@ -1,0 +1,141 @@
+-- Demand 2 of any answers that meet the contracts, for every type of tag, from demands 2 and 3 of the definitions.
+-- Assumes nothing.
+use mathlib.Core.Path.{_≡_, refl, sym, ap, ap₂, _∙_}
+use mathlib.Core.Bool.{Bool, true, false}
+use mathlib.Core.Logic.{_↔_}
+use mathlib.Core.List.{List}
+use Prim.Native.Nat.{ℕ, _≤_}
+use native.Mathlib.Omega.{arith}
+use lib.Dec.{leb}
+use lib.ListN.{length, take, replicate, length-map}
+use lib.Seq.{take-all}
+use Rattle.tag.specs.declared.ReadAnswer as read
+use Rattle.tag.specs.declared.ReadAnswer.the-variants as reading
+use Rattle.tag.specs.declared.CountAnswer as count
+use Rattle.tag.specs.declared.CountAnswer.the-variants as counted
+use Rattle.tag.specs.declared.ModelAnswer as model-answer
+use Rattle.tag.specs.declared.ModelAnswer.the-variants as storing
+use Rattle.tag.specs.Refusals.{too-long, short-buffer, short-gathering}
+use Rattle.tag.specs.Reading.{What, message, empty, being-written, Report, Reading, unreadable, reads, answerOf, tooShort, refusal, answer, shown, broken, nothing, holds, heldOf}
+use Rattle.tag.specs.Plan.{Plan, list}
+use Rattle.tag.specs.TagType.{TagType, held, Writing, unwritten, written, writing, listBytes, writeBy, pieces}
+use Rattle.tag.specs.Judge.{accepted, judged}
+use Rattle.tag.specs.Cuts.{Ready}
+use Rattle.tag.specs.Answers.{refusesOne, gives, readAs, countOf, countAs}
+use Rattle.tag.specs.Contracts.{Read, Showed, Wrote}
+use Rattle.tag.proofs.Logic.{nope}
+use Rattle.tag.proofs.Laws.{Laws, ready-written, written-ready}
+use Rattle.demands.specs.Demand3.{cutOf, ourBytes}
+use Rattle.demands.specs.Demand2.{Demand2}
+use Rattle.demands.specs.ByContract.{Run}
+use Rattle.demands.specs.Code2.{Tells}
+use Rattle.demands.proofs.Demand2 as demand2
+use Rattle.demands.proofs.Demand3 as demand3
+use Rattle.demands.proofs.Answered.{same-refusal, uncounted-is, unread-is, told}
+use Rattle.demands.proofs.ByContract.{wrote-ours, by-contract}
+
+module _ (T : TagType) where
+  -- the answer for a tag that reads, by its gathering buffer
+  reads-answer : (i gathering : List ℕ) (r : read.ReadAnswer) → readAs r ≡ answerOf (length gathering) ((T .reading) i) → (p : Report) → (T .reading) i ≡ reads p
+      → (b : Bool) → tooShort (length gathering) p ≡ b
+      → readAs r ≡ elim b [ true ↦ refusal short-gathering | false ↦ answer (p .what) (p .address) (length (p .bytes)) (p .interrupted) (p .writable) ]
+  reads-answer i gathering r a p q true t = a ∙ ap (answerOf (length gathering)) q ∙ rw t
+  reads-answer i gathering r a p q false t = a ∙ ap (answerOf (length gathering)) q ∙ rw t
+
+  -- 13 is answered just where the gathering buffer is too short
+  pub short-answer : (i gathering gathered : List ℕ) (r : read.ReadAnswer) → Read (T .reading) i gathering r gathered
+      → (p : Report) → (T .reading) i ≡ reads p → (r ≡ reading.Refused short-gathering) ↔ (tooShort (length gathering) p ≡ true)
+  short-answer i gathering gathered r (a, b) p q = ((λ e. go e (tooShort (length gathering) p) refl), (λ t. unread-is r short-gathering (reads-answer i gathering r a p q true t)))
+    where
+      go : r ≡ reading.Refused short-gathering → (x : Bool) → tooShort (length gathering) p ≡ x → tooShort (length gathering) p ≡ true
+      go e true t = t
+      go e false t =
+          let z : refusal short-gathering ≡ answer (p .what) (p .address) (length (p .bytes)) (p .interrupted) (p .writable)
+          = sym (ap readAs e) ∙ reads-answer i gathering r a p q false t in
+          absurd (nope (cc))
+
+  -- a writing that is counted: the tag was ready
+  pub counted-ready : (i m buffer out : List ℕ) (n : ℕ) → Wrote T i m buffer (counted.Count n) out → Ready T i m
+  counted-ready i m buffer out n (a, b) = go (writing T i m) refl
+    where
+      go : (w : Writing) → writing T i m ≡ w → Ready T i m
+      go (unwritten r) q = let z : gives n ≡ refusesOne r = a ∙ ap (λ w. countOf (writeBy T (length buffer) i w)) q in absurd (nope (cc))
+      go (written p) q = written-ready T i m p q .0
+
+  -- 11 is answered just where writing is refused with it
+  pub too-long-answer : (i m buffer out : List ℕ) (r : count.CountAnswer) → Wrote T i m buffer r out
+      → (r ≡ counted.Refused too-long) ↔ (writing T i m ≡ unwritten too-long)
+  too-long-answer i m buffer out r (a, b) = (
+    (λ e. go e (writing T i m) refl),
+    (λ q. uncounted-is r too-long (a ∙ ap (λ w. countOf (writeBy T (length buffer) i w)) q)),
+  )
+    where
+      go : r ≡ counted.Refused too-long → (w : Writing) → writing T i m ≡ w → writing T i m ≡ unwritten too-long
+      go e (unwritten f) q =
+          let z : refusesOne {A = ℕ} too-long ≡ refusesOne f = sym (ap countAs e) ∙ a ∙ ap (λ w. countOf (writeBy T (length buffer) i w)) q in
+          q ∙ ap unwritten (sym (same-refusal too-long f z))
+      go e (written p) q = absurd (by-room (leb (length (listBytes T p i)) (length buffer)) refl)
+        where
+          z : refusesOne {A = ℕ} too-long ≡ countOf (writeBy T (length buffer) i (written p))
+          z = sym (ap countAs e) ∙ a ∙ ap (λ w. countOf (writeBy T (length buffer) i w)) q
+
+          by-room : (x : Bool) → leb (length (listBytes T p i)) (length buffer) ≡ x → ⊥
+          by-room true t = let y : refusesOne {A = ℕ} too-long ≡ gives (length (list p i)) = rw t at z in nope (cc)
+          by-room false t = let y : refusesOne {A = ℕ} too-long ≡ refusesOne short-buffer = rw t at z in let u : too-long ≡ short-buffer = same-refusal too-long short-buffer y in nope (cc)
+
+module _ (T : TagType) (L : Laws T) where
+  pub tells : (m j gathering gathered part : List ℕ) (r : read.ReadAnswer) → Read (T .reading) j gathering r gathered → Showed j gathered r part
+      → (r ≡ reading.Refused short-gathering → ⊥) → held T j ≡ holds m → Tells m r part
+  tells m j gathering gathered part r (a, b) s n h = go ((T .reading) j) refl
+    where
+      go : (v : Reading) → (T .reading) j ≡ v → Tells m r part
+      go (unreadable f) q = let z : broken ≡ holds m = sym (ap heldOf q) ∙ h in absurd (nope (cc))
+      go (reads p) q = by-what (p .what) refl
+        where
+          by-what : (k : What) → p .what ≡ k → Tells m r part
+          by-what empty w = let z : nothing ≡ holds m = rw w at (sym (ap heldOf q) ∙ h) in absurd (nope (cc))
+          by-what being-written w = let z : nothing ≡ holds m = rw w at (sym (ap heldOf q) ∙ h) in absurd (nope (cc))
+          by-what message w = by-room (tooShort (length gathering) p) refl
+            where
+              by-room : (x : Bool) → tooShort (length gathering) p ≡ x → Tells m r part
+              by-room true t = absurd (n (unread-is r short-gathering (reads-answer T j gathering r a p q true t)))
+              by-room false t =
+                  let z : holds (p .bytes) ≡ holds m = rw w at (sym (ap heldOf q) ∙ h) in
+                  let bytes : p .bytes ≡ m = cc in
+                  let answered : readAs r ≡ answer message (p .address) (length (p .bytes)) (p .interrupted) (p .writable)
+                  = rw w at (reads-answer T j gathering r a p q false t) in
+                  let part-is : part ≡ p .bytes = s ∙ ap₂ (λ x y. shown j x y) b a ∙ demand2.claim T L .shown-is j gathering p q t in
+                  told m r part (p .address) (length (p .bytes)) (p .interrupted) (p .writable) answered (ap length bytes) (part-is ∙ bytes)
+
+  pub unreadable-answer : (i gathering gathered : List ℕ) (r : read.ReadAnswer) → Read (T .reading) i gathering r gathered
+      → (n : ℕ) → (T .reading) i ≡ unreadable n → (r ≡ reading.Refused n) × (1 ≤ n) × (n ≤ 8)
+  unreadable-answer i gathering gathered r (a, b) n q =
+      let k = L .numbered i n q in
+      (unread-is r n (a ∙ ap (answerOf (length gathering)) q), k .0, k .1)
+
+  -- given the commands written, the model stores each and leaves a tag that holds the message
+  taken : (i m buffer out : List ℕ) (n : ℕ) → Wrote T i m buffer (counted.Count n) out
+      → (rs : List model-answer.ModelAnswer) (j : List ℕ) → Run T i (pieces T i (take (length (ourBytes T i m)) out)) rs j
+      → (rs ≡ replicate n storing.Stored) × (held T j ≡ holds m)
+  taken i m buffer out n wrote rs j run =
+      let ready = counted-ready T i m buffer out n wrote in
+      let w = ready-written T i m ready in
+      let (k, o, front) = wrote-ours T i m w buffer out n wrote in
+      let d = demand3.claim T L i m ready in
+      let ours = ourBytes T i m in
+      let judged-ours : judged T i m ours ≡ accepted n = d .ours ∙ ap accepted k in
+      let all : length (pieces T i ours) ≡ n = sym (length-map (pieces T i ours) ((T .command) i)) ∙ sym (d .exactly ours n .0 judged-ours .0) in
+      let every : take n (pieces T i ours) ≡ pieces T i ours = take-all n (pieces T i ours) (omega arith) in
+      let run′ : Run T i (take n (pieces T i ours)) rs j = rw every (rw front at run) in
+      let (stored, left) = by-contract T i m d w .followed ours n (sym judged-ours) n (omega arith) rs j run′ in
+      (stored, ap (held T) left ∙ demand2.claim T L .written-reads (length buffer) n i m ours o .1)
+
+  pub written-tells : (i m buffer out : List ℕ) (n : ℕ) → Wrote T i m buffer (counted.Count n) out
+      → (rs : List model-answer.ModelAnswer) (j : List ℕ) → Run T i (pieces T i (take (length (ourBytes T i m)) out)) rs j
+      → (rs ≡ replicate n storing.Stored)
+      × (
+      (gathering gathered part : List ℕ) (r : read.ReadAnswer) → Read (T .reading) j gathering r gathered → Showed j gathered r part
+      → (r ≡ reading.Refused short-gathering → ⊥) → Tells m r part)
+  written-tells i m buffer out n wrote rs j run =
+      let (stored, h) = taken i m buffer out n wrote rs j run in
+      (stored, λ gathering gathered part r a s x. tells m j gathering gathered part r a s x h)

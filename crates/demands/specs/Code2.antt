@@ -1,0 +1,137 @@
+-- Demand 2 about what the public functions answer: of any answers that meet the contracts of `read`, `shown`, `write`, `model`, `encode`
+-- and `decode`, which are the relations `Read`, `Showed`, `Wrote`, `Took`, `EncodedTo` and `DecodedTo`. The record `Code2` is the whole
+-- claim. This file states; `proofs/Code2.antt` proves.
+-- Assumes nothing.
+use mathlib.Core.Path.{_≡_}
+use mathlib.Core.Bool.{true}
+use mathlib.Core.Logic.{_↔_}
+use mathlib.Core.List.{List}
+use Prim.Native.Nat.{ℕ, _+_, _-_, _*_, _/_, _≤_}
+use lib.ListN.{length, take, replicate}
+use Rattle.tag.specs.declared.Report as code
+use Rattle.tag.specs.declared.What.the-variants as what
+use Rattle.tag.specs.declared.ReadAnswer as read
+use Rattle.tag.specs.declared.ReadAnswer.the-variants as reading
+use Rattle.tag.specs.declared.CountAnswer as count
+use Rattle.tag.specs.declared.CountAnswer.the-variants as counted
+use Rattle.tag.specs.declared.ModelAnswer as model-answer
+use Rattle.tag.specs.declared.ModelAnswer.the-variants as storing
+use Rattle.tag.specs.Bytes.{byte, overwrite}
+use Rattle.tag.specs.Refusals.{too-long, short-gathering}
+use Rattle.tag.specs.Reading.{Report, unreadable, reads, tooShort, holds}
+use Rattle.tag.specs.Plan.{touched}
+use Rattle.tag.specs.TagType.{TagType, held, pieces}
+use Rattle.tag.specs.Contracts.{Read, Showed, Wrote}
+use Rattle.tlv.specs.Walk.{found, messageTlv}
+use Rattle.type2.specs.declared.Command as command2
+use Rattle.type2.specs.declared.commands.Decoded as decoded2
+use Rattle.type2.specs.Memory.{layout}
+use Rattle.type2.specs.Type2.{type2}
+use Rattle.type2.specs.CodecViews as views2
+use Rattle.type3.specs.declared.Command as command3
+use Rattle.type3.specs.declared.commands.Decoded as decoded3
+use Rattle.type3.specs.Update.{blocksFor, blocksPerCommand}
+use Rattle.type3.specs.Type3.{type3}
+use Rattle.type3.specs.CodecViews as views3
+use Rattle.demands.specs.Demand3.{ourBytes}
+use Rattle.demands.specs.Demand2.{Octets, Asked, Alike2, Alike3}
+use Rattle.demands.specs.ByContract.{Run}
+
+-- ---- what the claim goes by, type by type
+
+-- a codec of the code, told what it is told: the contracts of `encode` and `decode`, for its own struct of a command
+pub record CommandCodec : Type 1 where
+  pub Command : Type 0
+  -- the answer of `decode`: its refusal, or 0, and the command
+  pub Decoded : Type 0
+  pub refusal : Decoded → ℕ
+  pub command : Decoded → Command
+  pub EncodedTo : Command → List ℕ → count.CountAnswer → List ℕ → Type 0
+  pub DecodedTo : List ℕ → Decoded → Type 0
+  -- the struct's arrays have their lengths, as those of every value have
+  pub Whole : Command → Type 0
+  -- the command with zeros for what it does not use of its arrays
+  pub used : Command → Command
+
+-- Type 2's, told how many blocks the tag has
+abbrev pub codec2 : ℕ → CommandCodec
+codec2 blocks =
+    record {
+      Command = command2.Command;
+      Decoded = decoded2.Decoded;
+      refusal = λ d. d .refusal;
+      command = λ d. d .command;
+      EncodedTo = views2.EncodedTo blocks;
+      DecodedTo = views2.DecodedTo blocks;
+      Whole = λ c. length (c .bytes) ≡ 4;
+      used = λ c. c;
+    }
+
+-- Type 3's, told our number, Nbw and Nmaxb
+abbrev pub codec3 : List ℕ → ℕ → ℕ → CommandCodec
+codec3 number nbw nmaxb =
+    record {
+      Command = command3.Command;
+      Decoded = decoded3.Decoded;
+      refusal = λ d. d .refusal;
+      command = λ d. d .command;
+      EncodedTo = views3.EncodedTo number nbw nmaxb;
+      DecodedTo = views3.DecodedTo number nbw nmaxb;
+      Whole = λ c. (length (c .blocks) ≡ 8) × (length (c .bytes) ≡ 128);
+      used =
+          λ c.
+          record {
+            count = c .count;
+            blocks = views3.blocksOf (overwrite (take (c .count) (views3.blockNumbers (c .blocks))) (replicate 8 0));
+            bytes = overwrite (take (16 * c .count) (c .bytes)) (replicate 128 0);
+          };
+    }
+
+-- Type 2: which images refusal 11 looks at, for every end up to which an address that is not usable counts as skipped
+abbrev pub alike2 : ℕ → List ℕ → List ℕ → Type 0
+alike2 end i j = (t : ℕ) (us : List ℕ) → messageTlv layout i ≡ found t us → Alike2 end t us i j
+
+-- how many commands there are: blocks touched + 1; 2 + k/w rounded up
+abbrev pub count2 : List ℕ → List ℕ → ℕ
+count2 i m = touched ((type2 .plan) i m) i + 1
+
+abbrev pub count3 : List ℕ → List ℕ → ℕ
+count3 i m = 2 + (blocksFor (length m) + (blocksPerCommand (byte i 2) - 1)) / blocksPerCommand (byte i 2)
+
+-- ---- the claim
+
+-- the answer r and the part shown tell that the tag holds the message m
+pub record Tells (m : List ℕ) (r : read.ReadAnswer) (part : List ℕ) : Type 0 where
+  pub report : code.Report
+  pub answered : r ≡ reading.Reads report
+  pub a-message : report .what ≡ what.Message
+  pub its-length : report .length ≡ length m
+  pub its-bytes : part ≡ m
+
+pub record Code2 (T : TagType) (C : CommandCodec) (Alike : List ℕ → List ℕ → Type 0) (commands : List ℕ → List ℕ → ℕ) : Type 0 where
+  -- given the commands written, one a call, the model stores each; the tag that it leaves is read as the message, and the message is
+  -- shown, unless the gathering buffer is too short
+  pub written-reads : (i m buffer out : List ℕ) (n : ℕ) → Wrote T i m buffer (counted.Count n) out
+      → (rs : List model-answer.ModelAnswer) (j : List ℕ) → Run T i (pieces T i (take (length (ourBytes T i m)) out)) rs j
+      → (rs ≡ replicate n storing.Stored)
+      × (
+      (gathering gathered part : List ℕ) (r : read.ReadAnswer) → Read (T .reading) j gathering r gathered → Showed j gathered r part
+      → (r ≡ reading.Refused short-gathering → ⊥) → Tells m r part)
+  -- as many commands as the requirements count
+  pub counts : (i m buffer out : List ℕ) (n : ℕ) → Wrote T i m buffer (counted.Count n) out → n ≡ commands i m
+  -- 11 exactly if no image that is alike but for what writing may set reads as the message
+  pub too-long-exactly : (i m : List ℕ) → Asked T i m → (buffer out : List ℕ) (r : count.CountAnswer) → Wrote T i m buffer r out
+      → (r ≡ counted.Refused too-long) ↔ ((j : List ℕ) → Octets j → Alike i j → held T j ≡ holds m → ⊥)
+  -- a tag that does not read gets one of 1 to 8
+  pub refuses : (i gathering gathered : List ℕ) (r : read.ReadAnswer) → Read (T .reading) i gathering r gathered
+      → (n : ℕ) → (T .reading) i ≡ unreadable n → (r ≡ reading.Refused n) × (1 ≤ n) × (n ≤ 8)
+  -- a tag that reads gets 13 exactly if its message is interrupted and longer than the gathering buffer
+  pub gathers : (i gathering gathered : List ℕ) (r : read.ReadAnswer) → Read (T .reading) i gathering r gathered
+      → (p : Report) → (T .reading) i ≡ reads p → (r ≡ reading.Refused short-gathering) ↔ (tooShort (length gathering) p ≡ true)
+  -- the command that was decoded encodes to the bytes that it was decoded from
+  pub encode-decode : (all : List ℕ) (d : C .Decoded) → (C .DecodedTo) all d → (C .refusal) d ≡ 0
+      → (buffer out : List ℕ) (r : count.CountAnswer) → length all ≤ length buffer → (C .EncodedTo) ((C .command) d) buffer r out
+      → (r ≡ counted.Count (length all)) × (out ≡ overwrite all buffer)
+  -- the bytes that were encoded decode to the command, with zeros for what it does not use
+  pub decode-encode : (c : C .Command) → (C .Whole) c → (buffer out : List ℕ) (n : ℕ) → (C .EncodedTo) c buffer (counted.Count n) out
+      → (d : C .Decoded) → (C .DecodedTo) (take n out) d → ((C .refusal) d ≡ 0) × ((C .command) d ≡ (C .used) c)
