@@ -1,9 +1,12 @@
 // What theorems of crates/demands take for granted of a caller's values, as facts about every value of the code's types: a slice of
-// bytes holds octets, and an eight-byte number has eight of them. The functions do nothing; their contracts are what they are for.
+// bytes holds octets, an eight-byte number has eight of them, and a command's arrays have their lengths. The functions do nothing; their
+// contracts are what they are for.
 
+use tag::Block;
 ghost use mathlib.Core.Path.{_≡_};
 ghost use lib.ListN.{length};
 ghost use Rattle.demands.specs.Demand2.{Octets};
+ghost use Rattle.demands.specs.Code2.{codec2, codec3};
 
 // What a slice of bytes holds are octets.
 pub fn octets(bytes: &[u8])
@@ -20,3 +23,19 @@ pub fn eight(number: &[u8; 8])
 {
     octets(number);
 }
+
+// The arrays of a command have their lengths, for both types.
+pub fn whole_type2(command: type2::Command, blocks: usize)
+    ensures { λ _. ⌜ (codec2 blocks .Whole) command ⌝ }
+{}
+
+pub fn whole_type3(command: type3::Command, number: &[u8; 8], nbw: usize, nmaxb: usize)
+    ensures { λ _. ⌜ (codec3 (now (number .entry)) nbw nmaxb .Whole) command ⌝ }
+{
+    let blocks = command.blocks;
+    eight_blocks(blocks);
+}
+
+fn eight_blocks(blocks: [Block; 8])
+    ensures { λ _. ⌜ length blocks ≡ 8 ⌝ }
+{}
