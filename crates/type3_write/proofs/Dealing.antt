@@ -12,9 +12,9 @@ use Rattle.tag.specs.Bytes.{run}
 use Rattle.tag.proofs.Runs.{length-run}
 use Rattle.tag.proofs.Chunks.{rounded-up}
 use Rattle.type3.specs.Update.{blocksFor}
-use Rattle.type3_write.specs.Listing.{messageCommand, messageCommands, Dealt}
+use Rattle.type3_write.specs.Listing.{blocksAt, messageCommand, messageCommands, Dealt}
 use Rattle.type3.proofs.Codec.{length-command}
-use Rattle.type3_write.proofs.Body.{blocksAt, length-blocks}
+use Rattle.type3_write.proofs.Body.{length-blocks}
 
 pub times-more : (w t : ℕ) → w * (t + 1) ≡ w * t + w
 times-more w t = rw (add-one t) (omega arith)

@@ -8,9 +8,13 @@ use Rattle.type3.specs.Attributes.{steadySum}
 use Rattle.type3.specs.Update.{blocksFor, lnSum, body}
 use Rattle.type3.specs.Codec.{commandBytes}
 
--- the first n bytes of a part of the message, 00h past its end; a last block lacks at most fifteen
-abbrev pub filled : ℕ → List ℕ → List ℕ
-filled n part = take n (part ++ replicate 15 0x00)
+-- the block at the start of a part of the message: its first sixteen bytes, 00h past its end
+abbrev pub filled : List ℕ → List ℕ
+filled part = take 16 (part ++ replicate 16 0x00)
+
+-- the bytes of n of the message's blocks, past its first s
+abbrev pub blocksAt : List ℕ → ℕ → ℕ → List ℕ
+blocksAt m s n = take (16 * n) (drop (16 * s) (body m))
 
 -- block 0 with this WriteFlag, this Ln and this checksum, all else as it is
 abbrev pub attributeBlockBy : List ℕ → ℕ → ℕ → ℕ → List ℕ
@@ -42,7 +46,7 @@ attributeCommand number i flag n = commandBytes number (0 ∷ []) (attributeBloc
 
 -- the command for `count` of the message's blocks, past its first `skip`
 abbrev pub messageCommand : List ℕ → List ℕ → ℕ → ℕ → List ℕ
-messageCommand number m skip count = commandBytes number (run (1 + skip) count) (take (16 * count) (drop (16 * skip) (body m)))
+messageCommand number m skip count = commandBytes number (run (1 + skip) count) (blocksAt m skip count)
 
 -- the first t commands for the message's blocks, w to a command, the last taking what remains
 unfoldable pub messageCommands : List ℕ → List ℕ → ℕ → ℕ → List ℕ

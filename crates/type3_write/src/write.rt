@@ -3,6 +3,7 @@
 use tag::Block;
 use tag::CountAnswer;
 use tag::numbers;
+use tag::slices;
 use type3::commands;
 use type3::names;
 use type3::read;
@@ -12,14 +13,15 @@ use type3::space;
 ghost use mathlib.Core.Path.{_≡_};
 ghost use mathlib.Core.List.{[], _∷_, _++_};
 ghost use Prim.Native.Nat.{_+_, _-_, _*_, _/_, _<_, _≤_};
-ghost use lib.ListN.{length, drop};
+ghost use lib.ListN.{length, take, drop};
+ghost use lib.Seq.{sets};
 ghost use Rattle.tag.specs.Bytes.{run};
 ghost use Rattle.tag.specs.Contracts.{Wrote};
 ghost use Rattle.type3.specs.Update.{blocksFor};
 ghost use Rattle.type3.specs.Codec.{namesBytes, opening};
 ghost use Rattle.type3.specs.Type3.{type3};
 ghost use Rattle.type3.specs.Views.{Readable};
-ghost use Rattle.type3_write.specs.Listing.{filled, attributeBlock, attributeCommand, messageCommand, messageCommands, listAs, Fills, Dealt, Listing};
+ghost use Rattle.type3_write.specs.Listing.{filled, blocksAt, attributeBlock, attributeCommand, messageCommand, messageCommands, listAs, Fills, Dealt, Listing};
 
 // ---- the parts of a command
 
@@ -47,20 +49,71 @@ fn put_names(first: Block, count: usize, out: &mut [u8])
     }
 }
 
-// Blocks of the message: the first `size` bytes of the part, 00h past its end. Only the last block of a message is short.
-fn fill_blocks(part: &[u8], size: usize, out: &mut [u8])
-    requires { ⌜ (size ≤ length (now out)) × (size ≤ length (now part) + 15) ⌝ }
-    ensures { λ _. ⌜ now (out .exit) ≡ filled size (now (part .entry)) ++ drop size (now (out .entry)) ⌝ }
+// The first sixteen bytes of the part. They go through an array, and the compiler makes one load and one store of them.
+fn whole_block(part: &[u8]) -> [u8; 16]
+    requires { ⌜ 16 ≤ length (now part) ⌝ }
+    ensures { λ r. ⌜ r ≡ take 16 (now (part .entry)) ⌝ }
 {
-    let n = part.len();
-    if size <= n {
-        bytes::copy(&part[..size], out);
-        return;
+    let mut block = [0u8; 16];
+    slices::store(&part[0..16], 0, &mut block);
+    block
+}
+
+// The part, filled with 00h.
+fn short_block(part: &[u8]) -> [u8; 16]
+    requires { ⌜ length (now part) ≤ 16 ⌝ }
+    ensures { λ r. ⌜ r ≡ filled (now (part .entry)) ⌝ }
+{
+    let mut block = [0u8; 16];
+    slices::store(part, 0, &mut block);
+    block
+}
+
+// One block of the message, which is handed on from the block's offset as a part: sixteen bytes, 00h past the end.
+fn fill_block(part: &[u8]) -> [u8; 16]
+    ensures { λ r. ⌜ r ≡ filled (now (part .entry)) ⌝ }
+{
+    if part.len() < 16 {
+        return short_block(part);
     }
-    let zeros = [0u8; 15];
-    let rest = size - n;
-    bytes::copy(part, out);
-    bytes::copy(&zeros[..rest], &mut out[n..]);
+    whole_block(part)
+}
+
+// Block `j` of those past the first `skip`, at its place among them.
+fn put_block(message: &[u8], skip: usize, j: usize, out: &mut [u8])
+    requires { ⌜ Fills (now message) skip (j + 1) × (16 * (j + 1) ≤ length (now out)) ⌝ }
+    ensures { λ _. ⌜ now (out .exit) ≡ sets (now (out .entry)) (16 * j) (filled (drop (16 * (skip + j)) (now (message .entry)))) ⌝ }
+{
+    let i = skip + j;
+    let block = fill_block(&message[16 * i..]);
+    slices::store(&block, 16 * j, out);
+}
+
+// The whole blocks among `count` past the first `skip`, and how many they are. The loop's test tells the compiler that each is
+// whole: it then leaves out the filler's own.
+fn put_whole_blocks(message: &[u8], skip: usize, count: usize, out: &mut [u8]) -> usize
+    requires { ⌜ Fills (now message) skip count × (16 * count ≤ length (now out)) ⌝ }
+    ensures laid { λ r. ⌜ now (out .exit) ≡ blocksAt (now (message .entry)) skip r ++ drop (16 * r) (now (out .entry)) ⌝ }
+    ensures left { λ r. ⌜ (r ≤ count) × (count ≤ r + 1) ⌝ }
+{
+    let end = numbers::smaller(16 * (skip + count), message.len());
+    let mut j = 0usize;
+    while 16 * (skip + j) + 15 < end {
+        put_block(message, skip, j, out);
+        j += 1;
+    }
+    j
+}
+
+// The bytes of `count` blocks of the message, past its first `skip`. Only the last can be short.
+fn put_blocks(message: &[u8], skip: usize, count: usize, out: &mut [u8])
+    requires { ⌜ Fills (now message) skip count × (16 * count ≤ length (now out)) ⌝ }
+    ensures { λ _. ⌜ now (out .exit) ≡ blocksAt (now (message .entry)) skip count ++ drop (16 * count) (now (out .entry)) ⌝ }
+{
+    let j = put_whole_blocks(message, skip, count, out);
+    if j < count {
+        put_block(message, skip, j, out);
+    }
 }
 
 // Block 0 with this WriteFlag and this Ln, and its checksum; all else as the image has it.
@@ -117,10 +170,9 @@ fn put_command(message: &[u8], number: [u8; 8], skip: usize, count: usize, out: 
 {
     let first = Block(1 + skip);
     let at = 13 + 2 * count;
-    let size = 16 * count;
     put_opening(number, count, out);
     put_names(first, count, &mut out[13..]);
-    fill_blocks(&message[16 * skip..], size, &mut out[at..]);
+    put_blocks(message, skip, count, &mut out[at..]);
 }
 
 // Writes all blocks of the message, `w` to a command, in `turns` commands.
