@@ -19,11 +19,11 @@ use Rattle.tag.proofs.Picks.{picks-same}
 use Rattle.tag.proofs.Chunks.{joined-append}
 use Rattle.tag.proofs.Counts.{length-list, counted-same}
 use Rattle.tlv.specs.declared.walk.Walk.{Walk}
-use Rattle.tlv.specs.Update.{content, lengthAt, planBy}
 use Rattle.tlv.specs.Views.{ahead}
 use Rattle.tlv.specs.Values.{BlocksMarked}
 use Rattle.tlv.proofs.Usable.{from, At, from-first, from-end}
-use Rattle.tlv_tag.specs.Update.{contentLength}
+use Rattle.tlv_tag.specs.Update.{content, lengthAt, planBy}
+use Rattle.tlv_tag.specs.UpdateViews.{contentLength}
 use Rattle.tlv_tag.proofs.Content.{length-content}
 use Rattle.type2.specs.Codec.{encoded}
 use Rattle.type2.specs.Type2.{type2}

@@ -6,8 +6,8 @@ use Prim.Native.Nat.{ℕ, _*_, _/_, _<_, _≤_}
 use lib.ListN.{length, replicate}
 use Rattle.tag.specs.Plan.{newImage, between}
 use Rattle.tlv.specs.declared.walk.Walk.{Walk}
-use Rattle.tlv.specs.Update.{lengthAt, planBy}
-use Rattle.tlv_tag.specs.Space.{Room}
+use Rattle.tlv_tag.specs.Update.{lengthAt, planBy}
+use Rattle.tlv_tag.specs.SpaceViews.{Room}
 use Rattle.type2.specs.Table.{Clear}
 use Rattle.type2_write.specs.Listing.{marked}
 

@@ -5,8 +5,8 @@ use native.Mathlib.Omega.{arith}
 use borrow.Author.Needs.{needs}
 use lib.ListN.{set, length-set}
 use Rattle.tag.specs.Bytes.{overlay}
-use Rattle.tlv.specs.Update.{content, lengthAt}
 use Rattle.tlv.specs.Views.{ahead}
+use Rattle.tlv_tag.specs.Update.{content, lengthAt}
 use Rattle.type2_write.specs.Listing.{marked}
 use Rattle.type2_write.proofs.Preparing.{first-usable, marked-between}
 use Rattle.type2_write.proofs.write.prepare.Statement.{statement}

@@ -5,7 +5,7 @@ use lib.ListN.{length}
 use Rattle.tag.specs.TagType.{writeBy, outputInto}
 use Rattle.tag.specs.Answers.{countOf}
 use Rattle.tlv.specs.Views.{ahead}
-use Rattle.tlv_tag.specs.Space.{spaceAs}
+use Rattle.tlv_tag.specs.SpaceViews.{spaceAs}
 use Rattle.tlv_tag.proofs.Fitting.{space-room}
 use Rattle.type2.specs.Type2.{type2}
 use Rattle.type2.proofs.Memory.{whole-blocks}
