@@ -8,4 +8,5 @@ pub mod Planning
 pub mod Fitting
 pub mod Reading
 pub mod Content
+pub mod Preparing
 pub mod Keeping
