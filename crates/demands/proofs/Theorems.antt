@@ -12,10 +12,10 @@ use Rattle.tag.proofs.Blocks.{block-of}
 use Rattle.tag.proofs.Counts.{length-single}
 use Rattle.tag.proofs.Writes.{touch-of}
 use Rattle.tag.proofs.Laws.{ready-written}
-use Rattle.tlv.specs.Message.{viewed}
-use Rattle.tlv.specs.Update.{usable, content, lengthAt}
-use Rattle.tlv.proofs.Field.{first-set}
-use Rattle.tlv.proofs.Writes as writes
+use Rattle.tlv_tag.specs.Message.{viewed}
+use Rattle.tlv_tag.specs.Update.{usable, content, lengthAt}
+use Rattle.tlv_tag.proofs.Field.{first-set}
+use Rattle.tlv_tag.proofs.Writes as writes
 use Rattle.type2.specs.Memory.{memory}
 use Rattle.type2.specs.Codec.{encoded}
 use Rattle.type2.specs.Type2.{command, span, type2}

@@ -20,11 +20,11 @@ use Rattle.tag.proofs.Logic.{nope, or-l, or-cases}
 use Rattle.tag.proofs.Addresses.{above-length}
 use Rattle.tag.proofs.Laws.{ready-written, ready-reads}
 use Rattle.tlv.specs.Walk.{found, messageTlv}
-use Rattle.tlv.specs.Message.{viewed}
-use Rattle.tlv.specs.Update.{usable, fitsIn, lengthField, content}
-use Rattle.tlv.proofs.Field.{fits-is}
-use Rattle.tlv.proofs.Tag as tlv
-use Rattle.tlv.proofs.Writes.{placed}
+use Rattle.tlv_tag.specs.Message.{viewed}
+use Rattle.tlv_tag.specs.Update.{usable, fitsIn, lengthField, content}
+use Rattle.tlv_tag.proofs.Field.{fits-is}
+use Rattle.tlv_tag.proofs.Tag as tlv
+use Rattle.tlv_tag.proofs.Writes.{placed}
 use Rattle.type2.specs.Memory.{layout, memory}
 use Rattle.type2.specs.Type2.{type2}
 use Rattle.type2.proofs.Memory.{memory-laws}

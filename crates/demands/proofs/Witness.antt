@@ -15,8 +15,8 @@ use Rattle.tag.specs.Cuts.{Ready}
 use Rattle.tag.proofs.Logic.{and-l, and-r}
 use Rattle.tlv.specs.Areas.{without}
 use Rattle.tlv.specs.Walk.{longBy, lengthBy, passValue, areaBy, controlBy, found, find, messageTlv}
-use Rattle.tlv.specs.Message.{viewBy, viewed, reading}
-use Rattle.tlv.specs.Update.{fitsIn}
+use Rattle.tlv_tag.specs.Message.{viewBy, viewed, reading}
+use Rattle.tlv_tag.specs.Update.{fitsIn}
 use Rattle.type2.specs.Memory.{layout}
 use Rattle.type2.specs.Type2.{type2}
 use Rattle.type3.specs.Message as message3

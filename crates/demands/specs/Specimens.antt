@@ -14,8 +14,8 @@ use Rattle.tag.specs.TagType.{TagType, held, Output, withheld, output, writing,
 use Rattle.tag.specs.Judge.{Verdict, accepted, refused, holdsAs, fault, judge, judged}
 use Rattle.tlv.specs.Areas.{without}
 use Rattle.tlv.specs.Walk.{longBy, lengthBy, passValue, areaBy, controlBy, find}
-use Rattle.tlv.specs.Message.{viewBy, viewed, reading}
-use Rattle.tlv.specs.Update.{fitsIn, lengthField}
+use Rattle.tlv_tag.specs.Message.{viewBy, viewed, reading}
+use Rattle.tlv_tag.specs.Update.{fitsIn, lengthField}
 use Rattle.type2.specs.Codec.{decode}
 use Rattle.type2.specs.Type2.{type2}
 use Rattle.type3.specs.Message as message3

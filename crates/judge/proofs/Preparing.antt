@@ -7,8 +7,8 @@ use Prim.Native.Nat.{ℕ}
 use lib.ListN.{length}
 use Rattle.tag.specs.TagType.{written, writing}
 use Rattle.tag.proofs.Laws.{written-ready}
-use Rattle.tlv.specs.Update.{planBy}
-use Rattle.tlv.specs.Space.{space, spaceOf}
+use Rattle.tlv_tag.specs.Update.{planBy}
+use Rattle.tlv_tag.specs.Space.{space, spaceOf}
 use Rattle.tlv_tag.specs.Reading.{areaView}
 use Rattle.type2.specs.Type2.{type2}
 use Rattle.type2.specs.Views.{Inside}

@@ -15,7 +15,7 @@ ghost use lib.ListN.{length};
 ghost use Rattle.tag.specs.Contracts.{Judged};
 ghost use Rattle.tag.specs.Judging.{ListJudged};
 ghost use Rattle.tlv.specs.Views.{ahead};
-ghost use Rattle.tlv_tag.specs.Space.{Room};
+ghost use Rattle.tlv_tag.specs.SpaceViews.{Room};
 ghost use Rattle.type2.specs.Type2.{type2};
 ghost use Rattle.type2.specs.Views.{Inside};
 ghost use Rattle.type2.specs.Table.{Clear};

@@ -14,7 +14,7 @@ use Rattle.tag.proofs.Logic.{nope}
 use Rattle.tlv.specs.Areas.{Control, Area, covers, without, areaOf}
 use Rattle.tlv.specs.Walk.{len, lengthOf, more, stop, passValue, Kind, null, message, terminator, other, control, kindOf, Step, on, hit, lost, found, controlValue, passControl, stepAt, step, find}
 use Rattle.tlv.proofs.Locality.{passValue-is, areaBy-is, controlBy-is}
-use Rattle.tlv.proofs.Field.{length-size}
+use Rattle.tlv.proofs.Sizes.{length-size}
 
 -- ---- a step takes an address
 

@@ -1,10 +1,7 @@
 -- Laws about the definitions of `tlv`, and what the code needs of them. Nothing here states a rule.
 pub mod Locality
-pub mod Field
+pub mod Sizes
 pub mod Fuel
-pub mod Tag
-pub mod Writes
-pub mod Shown
 pub mod Skipping
 pub mod Counted
 pub mod Usable
@@ -13,8 +10,6 @@ pub mod Touches
 pub mod Rising
 pub mod Measured
 pub mod Turns
-pub mod Space
 pub mod Steps
 pub mod Marking
 pub mod Finding
-pub mod Refusals

@@ -1,20 +1,15 @@
 -- A value measured by its n-th address z, which is the walk's end where there is none, and its first address f.
 -- Assumes nothing.
-use mathlib.Core.Path.{_≡_, refl, sym, ap, _∙_}
-use mathlib.Core.List.{List, [], _∷_, map}
-use mathlib.Core.Bool.{Bool, not}
-use Prim.Native.Nat.{ℕ, zero, suc, _+_, _-_, _<_, _≤_}
-use native.Mathlib.Nat.{not-suc-le-zero}
+use mathlib.Core.Path.{_≡_, sym, ap, _∙_}
+use mathlib.Core.List.{List}
+use Prim.Native.Nat.{ℕ, suc, _+_, _-_, _<_, _≤_}
 use native.Mathlib.Omega.{arith}
 use borrow.Author.Tests.{le-leb, lt-leb}
 use lib.Dec.{ltb}
-use lib.ListN.{length, getD, take}
-use Rattle.tag.specs.Bytes.{byte, consecutive}
-use Rattle.tag.specs.Reading.{message}
+use lib.ListN.{length, getD}
 use Rattle.tlv.specs.declared.walk.Walk.{Walk}
 use Rattle.tag.specs.Refusals.{bad-length}
 use Rattle.tlv.specs.Walk.{len, more, stop, passValue}
-use Rattle.tlv.specs.Message.{reportOf}
 use Rattle.tlv.specs.Views.{ahead, Within}
 use Rattle.tlv.specs.Values.{short, at, measured}
 use Rattle.tlv.proofs.Skipping.{unskipped-past}
@@ -65,16 +60,3 @@ module _ (t : List ℕ) (w : Walk) (n z : ℕ) (inside : Within t w) (some : 1 �
 pub passed-none : (us : List ℕ) (n : ℕ) → n ≡ 0 → more us ≡ passValue (len n us)
 unfolding passValue
 passed-none us n z = rw (z, le-leb 0 (length us) (omega arith))
-
--- what is reported of a message that was measured
-pub report-measured : (b : Bool) (i us : List ℕ) (n : ℕ) → 1 ≤ n → n ≤ length us
-    → reportOf b i (take n us) ≡ record {
-      what = message;
-      bytes = map (byte i) (take n us);
-      address = getD us 0 0;
-      interrupted = not (consecutive (take n us));
-      writable = b;
-    }
-report-measured b i us zero p l = absurd (omega arith)
-report-measured b i [] (suc n) p l = absurd (not-suc-le-zero l)
-report-measured b i (a ∷ us) (suc n) p l = refl

@@ -1,9 +1,6 @@
--- The TLV area of a tag: the walk to the message TLV, and what reading and writing a message there come to. Read them in this order.
+-- The TLV area of a tag: the walk to the message TLV, and the usable bytes from there on. Read them in this order.
 pub mod Areas
 pub mod Walk
-pub mod Message
-pub mod Update
-pub mod Tag
 pub mod Table
 pub mod Marks
 pub mod Counted
@@ -11,4 +8,3 @@ pub mod Views
 pub mod Passing
 pub mod Finding
 pub mod Values
-pub mod Space

@@ -6,8 +6,8 @@ use Prim.Native.Nat.{ℕ, _/_, _%_, _<_, _≤_}
 use native.Mathlib.Omega.{arith}
 use borrow.Author.Tests.{le-leb, lt-leb}
 use lib.ListN.{length, length-append}
-use Rattle.tlv.specs.Update.{lengthField, content}
-use Rattle.tlv_tag.specs.Update.{contentLength}
+use Rattle.tlv_tag.specs.Update.{lengthField, content}
+use Rattle.tlv_tag.specs.UpdateViews.{contentLength}
 
 pub length-short : (n : ℕ) → n ≤ 254 → n ∷ [] ≡ lengthField n
 unfolding lengthField

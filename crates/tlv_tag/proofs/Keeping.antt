@@ -20,8 +20,8 @@ use Rattle.tlv.specs.Table.{noneSkipped, usableIn}
 use Rattle.tlv.specs.Views.{ahead, Within}
 use Rattle.tlv.proofs.Usable.{set-usable}
 use Rattle.tlv_tag.specs.declared.kept.Extent.{Extent}
+use Rattle.tlv_tag.specs.UpdateViews.{contentLength}
 use Rattle.tlv_tag.specs.Kept.{Bounded}
-use Rattle.tlv_tag.specs.Update.{contentLength}
 
 -- the bytes set lie below the usable address that comes after as many others
 pub set-below : (t : List ℕ) (w : Walk) → Within t w → (n k z : ℕ) → k ≡ contentLength n → z ≡ getD (ahead t w) k (w .end .0)

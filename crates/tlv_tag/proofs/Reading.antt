@@ -1,18 +1,20 @@
 -- What the code answers at each step, against the reading of a tag that has a TLV area.
 -- Assumes nothing.
 use mathlib.Core.Path.{_≡_, refl, sym, ap, _∙_}
-use mathlib.Core.Bool.{Bool, true, false, cond}
-use mathlib.Core.List.{List, [], map}
-use Prim.Native.Nat.{ℕ, _-_, _<_, _≤_}
+use mathlib.Core.Bool.{Bool, true, false, not, cond}
+use mathlib.Core.List.{List, [], _∷_, map}
+use Prim.Native.Nat.{ℕ, zero, suc, _-_, _<_, _≤_}
+use native.Mathlib.Nat.{not-suc-le-zero}
+use native.Mathlib.Omega.{arith}
 use borrow.Author.Tests.{le-leb, lt-leb, lt-ltb, le-ltb}
 use lib.Dec.{leb, leb·zero}
-use lib.ListN.{length, take, length-map}
+use lib.ListN.{length, getD, take, length-map}
 use lib.Seq.{length-take-le}
 use Rattle.tag.specs.declared.Address.{Address}
 use Rattle.tag.specs.declared.Report as code
 use Rattle.tag.specs.declared.ReadAnswer.{ReadAnswer}
 use Rattle.tag.specs.declared.ReadAnswer.the-variants as read
-use Rattle.tag.specs.Bytes.{byte, overwrite}
+use Rattle.tag.specs.Bytes.{byte, consecutive, overwrite}
 use Rattle.tag.specs.Checks.{fault, firstOf}
 use Rattle.tag.specs.Reading.{message, Reading, unreadable, reads, answerOf, gatheredInto, refusalNumber}
 use Rattle.tag.specs.Answers.{readAs}
@@ -21,11 +23,10 @@ use Rattle.tlv.specs.declared.find.Found as code-found
 use Rattle.tlv.specs.declared.find.Found.the-variants as code-at
 use Rattle.tlv.specs.Areas.{anyArea}
 use Rattle.tlv.specs.Walk.{Length, bad, len, lengthOf, Passed, more, stop, passValue, find}
-use Rattle.tlv.specs.Message.{TlvTag, View, refuse, view, viewBy, viewOf, viewed, reportOf, readingOf, reading}
 use Rattle.tlv.specs.Views.{ahead}
 use Rattle.tlv.specs.Finding.{foundAs}
 use Rattle.tlv.specs.Values.{at, measured}
-use Rattle.tlv.proofs.Measured.{report-measured}
+use Rattle.tlv_tag.specs.Message.{TlvTag, View, refuse, view, viewBy, viewOf, viewed, reportOf, readingOf, reading}
 use Rattle.tlv_tag.specs.Blank.{Blank}
 use Rattle.tlv_tag.specs.Reading.{areaView, tlvView, valueReading, refusalOf, reportAs}
 use Rattle.tlv_tag.proofs.Fitting.{Begins, found-all}
@@ -51,6 +52,19 @@ module _ (i us buffer : List ℕ) (p : code.Report) (room : p .length ≤ length
   fit after e l q = rw (e, size, le-ltb (length buffer) (p .length) l) (refl, rw size at q)
 
 -- ---- a value by its length
+
+-- what is reported of a message that was measured
+report-measured : (b : Bool) (i us : List ℕ) (n : ℕ) → 1 ≤ n → n ≤ length us
+    → reportOf b i (take n us) ≡ record {
+      what = message;
+      bytes = map (byte i) (take n us);
+      address = getD us 0 0;
+      interrupted = not (consecutive (take n us));
+      writable = b;
+    }
+report-measured b i us zero p l = absurd (omega arith)
+report-measured b i [] (suc n) p l = absurd (not-suc-le-zero l)
+report-measured b i (a ∷ us) (suc n) p l = refl
 
 module _ (w : Bool) (i us : List ℕ) where
   pub value-none : (n : ℕ) → n ≡ 0 → valueReading w i n us ≡ reads (reportOf w i [])

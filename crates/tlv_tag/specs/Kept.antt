@@ -8,7 +8,7 @@ use lib.ListN.{length}
 use Rattle.tag.specs.Bytes.{isSet}
 use Rattle.tlv.specs.Table.{noneSkipped, usableIn}
 use Rattle.tlv_tag.specs.declared.kept.Extent.{Extent}
-use Rattle.tlv_tag.specs.Update.{contentLength}
+use Rattle.tlv_tag.specs.UpdateViews.{contentLength}
 
 -- the extent lies inside the table and below `end`, and `skips` says whether an address in it is skipped
 pub record Bounded (table : List ℕ) (end : ℕ) (e : Extent) : Type 0 where

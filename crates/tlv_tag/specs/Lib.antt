@@ -1,6 +1,10 @@
--- Views of the code over a tag with a TLV area.
+-- Tags with a TLV area: what reading and writing a message there come to, then views of the code. Read them in this order.
+pub mod Message
+pub mod Update
+pub mod Tag
+pub mod Space
 pub mod Blank
 pub mod Reading
-pub mod Space
-pub mod Update
+pub mod SpaceViews
+pub mod UpdateViews
 pub mod Kept

@@ -13,7 +13,7 @@ use Rattle.tag.specs.Reading.{Report, Reading, unreadable, reads}
 use Rattle.tag.specs.Answers.{whatOf}
 use Rattle.tlv.specs.Areas.{anyArea}
 use Rattle.tlv.specs.Walk.{lengthOf, find}
-use Rattle.tlv.specs.Message.{View, refuse, view, viewBy, viewOf, reportOf}
+use Rattle.tlv_tag.specs.Message.{View, refuse, view, viewBy, viewOf, reportOf}
 
 -- the data area from first up to end
 abbrev pub areaView : List ℕ → ℕ → ℕ → View

@@ -1,9 +1,47 @@
--- How many bytes writing sets.
+-- Writing a message to a tag that has a TLV area: whether it fits, and which bytes are set.
 -- Assumes nothing.
-use Prim.Native.Nat.{ℕ, _+_}
-use lib.ListN.{length}
-use Rattle.tlv.specs.Update.{lengthField}
+use mathlib.Core.Bool.{Bool, cond}
+use mathlib.Core.List.{List, [], _∷_, _++_}
+use Prim.Native.Nat.{ℕ, _+_, _/_, _%_}
+use lib.Dec.{leb}
+use lib.ListN.{length, getD, set}
+use Rattle.tag.specs.Plan.{Plan}
+use Rattle.tlv_tag.specs.Message.{TlvTag, View, refuse, view, viewed}
 
--- how many bytes there are to set for a message of n bytes
-abbrev pub contentLength : ℕ → ℕ
-contentLength n = length (lengthField n) + (n + 1)
+-- the usable addresses after the type byte
+abbrev pub usable : View → List ℕ
+usable (refuse r) = []
+usable (view us ms) = us
+
+-- u usable bytes have room for a message of n, with its length
+unfoldable pub fitsIn : ℕ → ℕ → Bool
+fitsIn n u = cond (leb n 254) (leb (1 + n) u) (leb (3 + n) u)
+
+-- the length in its shortest form
+unfoldable pub lengthField : ℕ → List ℕ
+lengthField n = cond (leb n 254) (n ∷ []) (0xFF ∷ n / 256 ∷ n % 256 ∷ [])
+
+-- the bytes to set, at the usable addresses in order: length, message, and FEh if an address is left for it
+abbrev pub content : List ℕ → List ℕ
+content m = lengthField (length m) ++ (m ++ 0xFE ∷ [])
+
+-- the address of the first length byte
+abbrev pub lengthAt : List ℕ → ℕ
+lengthAt us = getD us 0 0
+
+-- the guard block, the requirements' A, is that of the first length byte, shut with that byte 00h
+abbrev pub planBy : ℕ → List ℕ → List ℕ → List ℕ → Plan
+planBy z us i m = record {
+  addresses = us;
+  values = content m;
+  size = z;
+  width = 1;
+  guard = lengthAt us / z;
+  closed = set i (lengthAt us) 0x00;
+}
+
+abbrev pub fits : TlvTag → List ℕ → ℕ → Bool
+fits T i n = fitsIn n (length (usable (viewed T i)))
+
+abbrev pub plan : TlvTag → List ℕ → List ℕ → Plan
+plan T i m = planBy (T .block) (usable (viewed T i)) i m

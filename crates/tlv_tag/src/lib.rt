@@ -1,6 +1,8 @@
-// Tags that have a TLV area, whatever else their type: reading the message, where a message goes, and what writing sets.
+// Tags that have a TLV area, whatever else their type: reading the message, where a message goes, what writing sets, and what a
+// list is laid from.
 
 pub mod kept;
+pub mod prepare;
 pub mod read;
 pub mod space;
-pub mod update;
+mod update;

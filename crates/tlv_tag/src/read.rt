@@ -17,7 +17,7 @@ ghost use Rattle.tag.specs.Reading.{reads, answerOf, gatheredInto};
 ghost use Rattle.tag.specs.Answers.{readAs};
 ghost use Rattle.tlv.specs.Counted.{Declared};
 ghost use Rattle.tlv.specs.Views.{ahead, Placed};
-ghost use Rattle.tlv.specs.Message.{readingOf};
+ghost use Rattle.tlv_tag.specs.Message.{readingOf};
 ghost use Rattle.tlv_tag.specs.Blank.{Blank};
 ghost use Rattle.tlv_tag.specs.Reading.{areaView, tlvView, valueReading, refusalOf, reportAs};
 

@@ -7,10 +7,10 @@ ghost use mathlib.Core.Path.{_≡_};
 ghost use Prim.Native.Nat.{_*_, _<_, _≤_};
 ghost use lib.ListN.{length, drop};
 ghost use Rattle.tag.specs.Bytes.{overlay};
-ghost use Rattle.tlv.specs.Update.{lengthField, content};
 ghost use Rattle.tlv.specs.Views.{ahead, Placed, Within, Along};
 ghost use Rattle.tlv.specs.Values.{BlocksMarked};
-ghost use Rattle.tlv_tag.specs.Update.{contentLength};
+ghost use Rattle.tlv_tag.specs.Update.{lengthField, content};
+ghost use Rattle.tlv_tag.specs.UpdateViews.{contentLength};
 
 // Sets the length in its shortest form, and hands back the walk past it.
 fn set_length(w: Walk, n: usize, table: &[u16], image: &mut [u8]) -> Walk
@@ -28,7 +28,7 @@ fn set_length(w: Walk, n: usize, table: &[u16], image: &mut [u8]) -> Walk
 }
 
 // Sets length, message and FEh in the image.
-pub fn set_content(w: Walk, message: &[u8], table: &[u16], image: &mut [u8])
+pub(crate) fn set_content(w: Walk, message: &[u8], table: &[u16], image: &mut [u8])
     requires { ⌜ Placed (now image) (now table) w × (length (now message) ≤ 65534) ⌝ }
     ensures { λ _. ⌜ now (image .exit) ≡ overlay (ahead (now (table .entry)) w) (content (now (message .entry))) (now (image .entry)) ⌝ }
 {
@@ -50,7 +50,7 @@ pub(crate) fn content_length(n: usize) -> usize
 }
 
 // Marks each block of `size` bytes that holds a byte to set for a message of `n` bytes.
-pub fn mark_content(w: Walk, n: usize, size: usize, table: &[u16], marks: &mut [u8])
+pub(crate) fn mark_content(w: Walk, n: usize, size: usize, table: &[u16], marks: &mut [u8])
     requires { ⌜ Within (now table) w × (n ≤ 65534) × (0 < size) × (w .end .0 ≤ size * length (now marks)) ⌝ }
     ensures { λ _. ⌜ BlocksMarked size (contentLength n) (ahead (now (table .entry)) w) (now (marks .entry)) (now (marks .exit)) ⌝ }
 {

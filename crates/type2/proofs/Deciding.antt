@@ -8,11 +8,11 @@ use Prim.Native.Nat.{ℕ}
 use lib.ListN.{length}
 use Rattle.tag.specs.Checks.{fault, firstOf}
 use Rattle.tag.specs.TagType.{unwritten, written, writing}
-use Rattle.tlv.specs.Message.{View, refuse, viewAfter, viewed}
-use Rattle.tlv.specs.Update.{planBy}
-use Rattle.tlv.specs.Space.{no-space, space, spaceOf}
-use Rattle.tlv.proofs.Space.{writingIn, writing-space}
+use Rattle.tlv_tag.specs.Message.{View, refuse, viewAfter, viewed}
+use Rattle.tlv_tag.specs.Update.{planBy}
+use Rattle.tlv_tag.specs.Space.{no-space, space, spaceOf}
 use Rattle.tlv_tag.specs.Reading.{areaView}
+use Rattle.tlv_tag.proofs.Planning.{writingIn, writing-space}
 use Rattle.type2.specs.Memory.{memory}
 use Rattle.type2.specs.Codec.{encoded}
 use Rattle.type2.specs.Type2.{command, span, type2}

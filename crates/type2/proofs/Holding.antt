@@ -9,8 +9,8 @@ use Rattle.tag.specs.Reading.{Report, reads, Answer, answerOf, gatheredInto, sh
 use Rattle.tag.specs.TagType.{held}
 use Rattle.tag.specs.Answers.{heldBy}
 use Rattle.tag.proofs.Showing.{roomy, held-shown}
-use Rattle.tlv.proofs.Shown.{message-short}
-use Rattle.tlv.proofs.Writes as writes
+use Rattle.tlv_tag.proofs.Writes as writes
+use Rattle.tlv_tag.proofs.Shown.{message-short}
 use Rattle.type2.specs.Memory.{memory}
 use Rattle.type2.specs.Type2.{type2}
 use Rattle.type2.proofs.Memory.{memory-laws, short-image}

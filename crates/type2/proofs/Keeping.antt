@@ -11,11 +11,11 @@ use Rattle.tag.specs.Judge.{equalAt, keeps, task}
 use Rattle.tag.proofs.Keeping.{equal-same}
 use Rattle.tlv.specs.declared.walk.Walk.{Walk}
 use Rattle.tlv.specs.Table.{usableIn}
-use Rattle.tlv.specs.Update.{content}
 use Rattle.tlv.specs.Views.{ahead}
 use Rattle.tlv_tag.specs.declared.kept.Extent.{Extent}
+use Rattle.tlv_tag.specs.Update.{content}
+use Rattle.tlv_tag.specs.SpaceViews.{Room}
 use Rattle.tlv_tag.specs.Kept.{Bounded, Extends}
-use Rattle.tlv_tag.specs.Space.{Room}
 use Rattle.tlv_tag.proofs.Content.{length-content}
 use Rattle.type2.specs.Type2.{type2}
 use Rattle.type2.specs.Kept.{Covered}

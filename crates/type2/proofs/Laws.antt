@@ -16,12 +16,12 @@ use Rattle.tag.proofs.Each.{Each, each-of}
 use Rattle.tag.proofs.Blocks.{in-block, block-of}
 use Rattle.tag.proofs.Sending.{Named, Sized, Nameable, list-good, touch-bounds}
 use Rattle.tag.proofs.Laws.{Laws, Sent}
-use Rattle.tlv.specs.Message.{viewed}
-use Rattle.tlv.specs.Update.{usable, content, lengthAt, plan}
-use Rattle.tlv.proofs.Tag as tlv
-use Rattle.tlv.proofs.Writes as writes
-use Rattle.tlv.proofs.Shown.{wordless, in-place}
-use Rattle.tlv.proofs.Refusals.{numbered}
+use Rattle.tlv_tag.specs.Message.{viewed}
+use Rattle.tlv_tag.specs.Update.{usable, content, lengthAt, plan}
+use Rattle.tlv_tag.proofs.Tag as tlv
+use Rattle.tlv_tag.proofs.Writes as writes
+use Rattle.tlv_tag.proofs.Shown.{wordless, in-place}
+use Rattle.tlv_tag.proofs.Refusals.{numbered}
 use Rattle.type2.specs.Memory.{memory}
 use Rattle.type2.specs.Codec.{nameable, decode, commandOf, encoded}
 use Rattle.type2.specs.Type2.{command, span, type2}

@@ -12,7 +12,7 @@ use Rattle.tag.specs.Bytes.{byte}
 use Rattle.tag.specs.Checks.{fine, firstOf}
 use Rattle.tag.proofs.Logic.{lengths}
 use Rattle.tag.proofs.Checks.{AllPass, fine-all}
-use Rattle.tlv.proofs.Tag.{TlvLaws}
+use Rattle.tlv_tag.proofs.Tag.{TlvLaws}
 use Rattle.type2.specs.Memory.{imageLength, memory}
 
 length-is : (n : ℕ) → imageLength n ≡ true → (n ≡ 4 * (n / 4)) × (n ≤ 1024)

@@ -13,7 +13,7 @@ use Rattle.tag.specs.Reading.{Reading, unreadable, reads, refusalNumber}
 use Rattle.tag.specs.Stores.{ill, stores, formed, done}
 use Rattle.tag.specs.Judging.{Applied}
 use Rattle.tag.specs.Model.{unstored, stored, given, modelBy, model}
-use Rattle.tlv.proofs.Refusals.{numbered}
+use Rattle.tlv_tag.proofs.Refusals.{numbered}
 use Rattle.type2.specs.Memory.{memory}
 use Rattle.type2.specs.Codec.{wellFormed, decode, commandOf}
 use Rattle.type2.specs.Type2.{type2}

@@ -11,7 +11,7 @@ use Rattle.tag.specs.Checks.{firstOf}
 use Rattle.tag.specs.Reading.{unreadable, refusalNumber}
 use Rattle.tlv.specs.Areas.{anyArea}
 use Rattle.tlv.specs.Walk.{find}
-use Rattle.tlv.specs.Message.{viewOf, viewAfter, viewed, readingOf, reading}
+use Rattle.tlv_tag.specs.Message.{viewOf, viewAfter, viewed, readingOf, reading}
 use Rattle.tlv_tag.specs.Blank.{Blank}
 use Rattle.tlv_tag.specs.Reading.{areaView, refusalOf}
 use Rattle.tlv_tag.proofs.Reading.{reading-fault, reading-refusal}

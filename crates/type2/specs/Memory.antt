@@ -12,7 +12,7 @@ use Rattle.tag.specs.Checks.{Check, check}
 use Rattle.tag.specs.Version.{knownVersion}
 use Rattle.tlv.specs.Areas.{anyArea}
 use Rattle.tlv.specs.Walk.{Layout}
-use Rattle.tlv.specs.Message.{TlvTag}
+use Rattle.tlv_tag.specs.Message.{TlvTag}
 
 -- a whole number of blocks, 64 to 1,024 bytes
 abbrev pub imageLength : ℕ → Bool

@@ -5,7 +5,7 @@ use Prim.Native.Nat.{ℕ, _/_}
 use lib.ListN.{length}
 use Rattle.tag.specs.Stores.{Command}
 use Rattle.tag.specs.TagType.{TagType}
-use Rattle.tlv.specs.Tag.{tagOf}
+use Rattle.tlv_tag.specs.Tag.{tagOf}
 use Rattle.type2.specs.Memory.{memory}
 use Rattle.type2.specs.Codec.{decode, commandOf, encoded}
 

@@ -1,70 +1,36 @@
--- What the writer prepares, against the plan: the marks are the blocks between the guard block's two commands, and the list over
--- them is the plan's.
+-- What was prepared for a tag, by the answer: a refusal is that of writing, and else there is a list over it, which is the plan's.
 -- Assumes nothing.
-use mathlib.Core.Path.{_≡_, refl, sym, ap, _∙_}
-use mathlib.Core.Bool.{not, _&&_, Bool·not-not}
+use mathlib.Core.Path.{_≡_, sym, ap, _∙_, subst}
+use mathlib.Core.Bool.{Bool}
 use mathlib.Core.List.{List, [], _∷_, _++_, map}
 use Prim.Native.Nat.{ℕ, _+_, _/_, _<_, _≤_}
 use native.Mathlib.Omega.{arith}
-use native.Mathlib.Decide.{ℕ-discrete, decLt}
-use borrow.Author.Tests.{eq-eqb, ne-eqb}
-use lib.Dec.{eqb}
-use lib.ListN.{length, set, replicate, getD-replicate}
-use lib.Seq.{getD-set-same, getD-set-other}
-use Rattle.tag.specs.Bytes.{byte}
+use lib.ListN.{length, set}
+use Rattle.tag.specs.declared.Address.{Address}
 use Rattle.tag.specs.Stores.{Store}
-use Rattle.tag.specs.Plan.{newImage, blockOf, touches, between, picks, middle, list}
-use Rattle.tag.specs.TagType.{written, joined, listBytes, fitted, writeBy}
+use Rattle.tag.specs.Plan.{newImage, blockOf, between, picks, middle, list}
+use Rattle.tag.specs.TagType.{unwritten, written, writing, joined, listBytes, fitted, writeBy}
 use Rattle.tag.proofs.Picks.{picks-same}
 use Rattle.tag.proofs.Chunks.{joined-append}
 use Rattle.tag.proofs.Counts.{length-list, counted-same}
-use Rattle.tlv.specs.declared.walk.Walk.{Walk}
-use Rattle.tlv.specs.Update.{content, lengthAt, planBy}
-use Rattle.tlv.specs.Views.{ahead}
-use Rattle.tlv.specs.Values.{BlocksMarked}
-use Rattle.tlv.proofs.Usable.{from, At, from-first, from-end}
-use Rattle.tlv_tag.specs.Update.{contentLength}
-use Rattle.tlv_tag.proofs.Content.{length-content}
+use Rattle.tlv_tag.specs.declared.prepare.Preparation as code
+use Rattle.tlv_tag.specs.declared.prepare.Preparation.the-variants as answer
+use Rattle.tlv_tag.specs.Update.{lengthAt, planBy}
+use Rattle.tlv_tag.specs.Space.{space, spaceOf}
+use Rattle.tlv_tag.specs.Reading.{areaView}
+use Rattle.tlv_tag.specs.UpdateViews.{marked, Spare, Prepared, PreparedIn}
 use Rattle.type2.specs.Codec.{encoded}
 use Rattle.type2.specs.Type2.{type2}
-use Rattle.type2_write.specs.Listing.{blockBytes, oneEach, marked, markedCount, markedBytes, guardedBytes, guardedOutput}
-use Rattle.type2_write.specs.Writing.{Prepared}
+use Rattle.type2.specs.Views.{Inside}
+use Rattle.type2.proofs.Memory.{whole-blocks}
+use Rattle.type2.proofs.Deciding.{no-space-writing, space-writing}
+use Rattle.type2_write.specs.Listing.{blockBytes, oneEach, markedCount, markedBytes, guardedBytes, guardedOutput, Listed}
+use Rattle.type2_write.specs.Writing.{Unmarked}
 use Rattle.type2_write.proofs.Laying.{chunks-one, block-one}
-
--- ---- the first length byte
-
--- f is the first usable address
-pub first-usable : (t : List ℕ) (w : Walk) (f : ℕ) → At t f (w .end .0) → ahead t w ≡ from t f (w .end .0) → 0 < length (ahead t w)
-    → (f ≡ lengthAt (ahead t w)) × (f < w .end .0)
-first-usable t w f p e l =
-    let some : 0 < length (from t f (w .end .0)) = omega (arith, ap length e) in
-    (sym (ap lengthAt e ∙ from-first t f (w .end .0) 0 p some), go (decLt f (w .end .0)) some)
-  where
-    go : Dec (f < w .end .0) → 0 < length (from t f (w .end .0)) → f < w .end .0
-    go (yes u) s = u
-    go (no n) s = absurd (omega (arith, ap length (from-end t f (w .end .0) (omega arith))))
-
--- ---- the marks
-
-module _ (us i m before after : List ℕ) (first : ℕ) (zeros : before ≡ replicate (length before) 0) (same : length after ≡ length before)
-    (is : BlocksMarked 4 (contentLength (length m)) us before after) (at : first ≡ lengthAt us) where
-  -- the blocks that hold a byte to set
-  marked-touches : (b : ℕ) → b < length before → marked after b ≡ touches 4 us (content m) b
-  marked-touches b l =
-      let z : byte before b ≡ 0 = ap (λ k. byte k b) zeros ∙ getD-replicate (length before) b 0 0 l in
-      ap not (is (content m) b (length-content m) l) ∙ rw z (Bool·not-not (touches 4 us (content m) b))
-
-  -- and with the guard block's mark taken away
-  pub marked-between : (b : ℕ) → b < length before → marked (set after (first / 4) 0) b ≡ between (planBy 4 us i m) b
-  marked-between b l = rw (← at) (go (ℕ-discrete b (first / 4)))
-    where
-      go : Dec (b ≡ first / 4) → marked (set after (first / 4) 0) b ≡ not (eqb b (first / 4)) && touches 4 us (content m) b
-      go (yes e) = rw (e, getD-set-same after (first / 4) 0 0 (omega arith), eq-eqb (first / 4) (first / 4) refl)
-      go (no n) = rw (getD-set-other after (first / 4) b 0 0 n, ne-eqb b (first / 4) n) (marked-touches b l)
 
 -- ---- the list
 
-module _ (us i m new marks : List ℕ) (first : ℕ) (p : Prepared us i m new marks first) (long : length i / 4 ≤ length marks) where
+module _ (us i m new marks : List ℕ) (first : ℕ) (p : Prepared 4 us i m new marks first) (long : length i / 4 ≤ length marks) where
   agree : (b : ℕ) → b < length i / 4 → between (planBy 4 us i m) b ≡ marked marks b
   agree b l = sym (p .marks-are b (omega arith))
 
@@ -96,6 +62,43 @@ module _ (us i m new marks : List ℕ) (first : ℕ) (p : Prepared us i m new ma
       ∙ ap (λ bytes. blockBytes closed g ++ bytes) rest)
 
   -- the list is the plan's
-  pub prepared-output : (room : ℕ) → guardedOutput room i new marks first ≡ writeBy type2 room i (written (planBy 4 us i m))
+  prepared-output : (room : ℕ) → guardedOutput room i new marks first ≡ writeBy type2 room i (written (planBy 4 us i m))
   prepared-output room =
       ap (λ n. fitted room n (guardedBytes i new marks first)) count-is ∙ ap (fitted room (length (list (planBy 4 us i m) i))) bytes-are
+
+-- ---- by the answer
+
+module _ (i m : List ℕ) (end : ℕ) (w : Bool) (h : Inside i end w) where
+  pub spare : (new marks : List ℕ) → length new ≡ length i → Unmarked marks → Spare 4 i new marks
+  spare new marks e u = record {
+    some-size = omega arith;
+    as-long = e;
+    each-marked = omega (arith, h .area .short, u .size);
+    unmarked = u .zeros;
+  }
+
+  -- the new image and the marks afterwards, and the answer
+  module _ (new marks : List ℕ) (r : code.Preparation) (p : PreparedIn 4 (spaceOf w (length m) (areaView i 16 end)) i m new marks r) where
+    pub refused : (k : ℕ) → r ≡ answer.Refused k → writing type2 i m ≡ unwritten k
+    refused k e = no-space-writing i m end w h k (subst (PreparedIn 4 (spaceOf w (length m) (areaView i 16 end)) i m new marks) e p)
+
+    module _ (a : Address) (e : r ≡ answer.At a) (as-long : length new ≡ length i) (marks-long : length marks ≡ 256) where
+      there : (us : List ℕ) × (space us ≡ spaceOf w (length m) (areaView i 16 end)) × Prepared 4 us i m new marks (a .0)
+      there = subst (PreparedIn 4 (spaceOf w (length m) (areaView i 16 end)) i m new marks) e p
+
+      each-marked : length i / 4 ≤ length marks
+      each-marked = omega (arith, h .area .short)
+
+      pub listed : Listed i new marks (a .0)
+      listed = record {
+        whole = whole-blocks i (h .sound);
+        short = h .area .short;
+        as-long = as-long;
+        each-marked = each-marked;
+        inside = there .2 .inside;
+      }
+
+      pub listed-output : (room : ℕ) → guardedOutput room i new marks (a .0) ≡ writeBy type2 room i (writing type2 i m)
+      listed-output room =
+          prepared-output (there .0) i m new marks (a .0) (there .2) each-marked room
+          ∙ ap (writeBy type2 room i) (sym (space-writing i m end w h (there .0) (there .1)))

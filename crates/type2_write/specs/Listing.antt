@@ -2,15 +2,13 @@
 -- and the address of the first length byte.
 -- Assumes nothing.
 use mathlib.Core.Path.{_≡_}
-use mathlib.Core.Bool.{Bool, not}
 use mathlib.Core.List.{List, [], _∷_, _++_}
 use Prim.Native.Nat.{ℕ, _+_, _*_, _/_, _<_, _≤_}
-use lib.Dec.{eqb}
 use lib.ListN.{length, set, take, drop}
-use Rattle.tag.specs.Bytes.{byte}
 use Rattle.tag.specs.Stores.{Store}
 use Rattle.tag.specs.Plan.{picks, counted}
 use Rattle.tag.specs.TagType.{Output, fitted}
+use Rattle.tlv_tag.specs.UpdateViews.{marked}
 use Rattle.type2.specs.Codec.{commandBytes, encoded}
 
 -- the command of block b, with the image's bytes
@@ -21,10 +19,6 @@ blockBytes i b = commandBytes b (take 4 (drop (4 * b) i))
 unfoldable pub oneEach : List Store → List ℕ
 oneEach [] = []
 oneEach (s ∷ ss) = encoded (s ∷ []) ++ oneEach ss
-
--- is block b marked
-abbrev pub marked : List ℕ → ℕ → Bool
-marked marks b = not (eqb (byte marks b) 0)
 
 -- of the first k blocks, how many are marked, and the commands of those
 abbrev pub markedCount : List ℕ → ℕ → ℕ

@@ -12,7 +12,8 @@ ghost use Prim.Native.Nat.{_+_, _*_, _/_, _<_, _≤_};
 ghost use lib.ListN.{length, set, take, drop};
 ghost use Rattle.tag.specs.TagType.{outputInto};
 ghost use Rattle.tag.specs.Answers.{countAs, countOf};
-ghost use Rattle.type2_write.specs.Listing.{blockBytes, marked, markedCount, markedBytes, guardedOutput, Listed};
+ghost use Rattle.tlv_tag.specs.UpdateViews.{marked};
+ghost use Rattle.type2_write.specs.Listing.{blockBytes, markedCount, markedBytes, guardedOutput, Listed};
 
 // Writes the command of a block, with the image's bytes, to the front of `out`.
 fn put_block(image: &[u8], block: Block, out: &mut [u8])

@@ -2,7 +2,7 @@
 use Prim.Native.Nat.{_+_}
 use native.Mathlib.Omega.{arith}
 use borrow.Author.Tests.{le-leb, lt-leb}
-use Rattle.tlv.specs.Update.{fitsIn}
+use Rattle.tlv_tag.specs.Update.{fitsIn}
 use Rattle.tlv_tag.proofs.Fitting.{ltb-leb, leb-less}
 use Rattle.tlv_tag.proofs.space.fits.Statement.{statement}
 use Rattle.tlv_tag.proofs.space.fits.Tie as tie

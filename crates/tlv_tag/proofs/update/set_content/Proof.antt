@@ -3,10 +3,10 @@
 use mathlib.Core.List.{[], _∷_}
 use borrow.Author.Needs.{needs}
 use lib.ListN.{length}
-use Rattle.tlv.specs.Update.{lengthField}
 use Rattle.tlv.specs.Views.{ahead}
 use Rattle.tlv.proofs.Usable.{ahead-rising}
 use Rattle.tlv.proofs.Overlays.{overlay-parts}
+use Rattle.tlv_tag.specs.Update.{lengthField}
 use Rattle.tlv_tag.proofs.update.set_content.Statement.{statement}
 use Rattle.tlv_tag.proofs.update.set_content.Tie as tie
 

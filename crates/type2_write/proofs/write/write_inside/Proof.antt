@@ -4,57 +4,65 @@ use borrow.Author.Needs.{needs}
 use lib.ListN.{length}
 use Rattle.tag.specs.TagType.{writeBy, outputInto}
 use Rattle.tag.specs.Answers.{countOf}
-use Rattle.tlv.specs.Views.{ahead}
-use Rattle.tlv_tag.specs.Space.{spaceAs}
-use Rattle.tlv_tag.proofs.Fitting.{space-room}
 use Rattle.type2.specs.Type2.{type2}
-use Rattle.type2.proofs.Memory.{whole-blocks}
-use Rattle.type2.proofs.Deciding.{no-space-writing, space-writing}
+use Rattle.type2.proofs.Reading.{blank}
+use Rattle.type2_write.proofs.Preparing.{spare, refused, listed, listed-output}
 use Rattle.type2_write.proofs.write.write_inside.Statement.{statement}
 use Rattle.type2_write.proofs.write.write_inside.Tie as tie
 
-write-at-requires : tie.Need-write-at-requires
-write-at-requires c κs =
-    let s = c .before .before .before .before .before .before .before .before .before .before .before .before .before .before .before .before .before in
-    record {
-      room = space-room 16 (s .args .end .0) (c .before .before .before .before .before .before .before .before .before .find-space .ensures .1 .0) (c .before .before .before .before .before .w .given .1);
-      whole = whole-blocks (s .args .image .now) (s .pre .0 .sound);
-      short = s .pre .0 .area .short;
-      as-long = s .pre .2;
-      unmarked = s .pre .1 .unmarked;
-    }
+prepare-requires : tie.Need-prepare-requires
+prepare-requires c κs =
+    let s = c .before .before .before .before .before .before .before .before .before in
+    let a = s .args in (
+      blank (a .image .now) (a .table .now) (a .end .0) (a .writable) (s .pre .0 .area) (s .pre .1 .clear),
+      spare (a .image .now) (a .message .now) (a .end .0) (a .writable) (s .pre .0) (a .new .now) (a .marks .now) (s .pre .2) (s .pre .1 .unmarked),
+    )
+
+put-list-requires : tie.Need-put-list-requires
+put-list-requires c κs =
+    let at-first = c .before .before .before .before in
+    let at-prepare = at-first .before .before .before .before .before .before .before .before in
+    let s = at-prepare .before .before .before .before .before .before .before .before .before .before in
+    let a = s .args in
+    let p = at-prepare .prepare in
+    let g = at-first .first .given in
+    listed (a .image .now) (a .message .now) (a .end .0) (a .writable) (s .pre .0) (p .last .1 .1 .1 .1 .1 .1 .1 .0) (p .last .1 .1 .1 .1 .1 .1 .1 .1 .0) (p .result) (p .ensures) (g .0 .0) (g .1)
+    (p .kept .1 .1 .1 .1 .1 .1 .1 .0 ∙ s .pre .2) (p .kept .1 .1 .1 .1 .1 .1 .1 .1 .0 ∙ s .pre .1 .unmarked .size)
 
 returns : tie.Need-returns
 returns c =
-    let s = c .before .before .before .before .before .before .before .before .before .before .before .before .before in
+    let at-r = c .before in
+    let at-prepare = at-r .before .before .before .before .before .before .before .before in
+    let s = at-prepare .before .before .before .before .before .before .before .before .before .before in
     let a = s .args in
-    let f = c .before .before .before .before .before .find-space in
-    let g = c .before .r .given in
-    let e = no-space-writing (a .image .now) (a .message .now) (a .end .0) (a .writable) (s .pre .0) (g .0 .0)
-    (sym (ap (spaceAs (f .last .1 .1 .0)) (g .1)) ∙ f .ensures .0) in
+    let p = at-prepare .prepare in
+    let g = at-r .r .given in
+    let e = refused (a .image .now) (a .message .now) (a .end .0) (a .writable) (s .pre .0) (p .last .1 .1 .1 .1 .1 .1 .1 .0) (p .last .1 .1 .1 .1 .1 .1 .1 .1 .0) (p .result) (p .ensures) (g .0 .0) (g .1) in
     (sym (ap (λ v. countOf (writeBy type2 (length (a .list .now)) (a .image .now) v)) e), sym (ap (λ v. outputInto (a .list .now) (writeBy type2 (length (a .list .now)) (a .image .now) v)) e))
 
 returns-2 : tie.Need-returns-2
 returns-2 c =
-    let s = c .before .before .before .before .before .before .before .before .before .before .before .before .before .before .before .before .before .before .before .before .before .before .before .before in
+    let l = c .before .before .put-list in
+    let at-first = c .before .before .before .before .before .before .before in
+    let at-prepare = at-first .before .before .before .before .before .before .before .before in
+    let s = at-prepare .before .before .before .before .before .before .before .before .before .before in
     let a = s .args in
-    let f = c .before .before .before .before .before .before .before .before .before .before .before .before .before .before .before .before .find-space in
-    let g = c .before .before .before .before .before .before .before .before .before .before .before .before .w .given in
-    let p = c .before .before .before .before .before .before .write-at .ensures in
-    let e = sym (space-writing (a .image .now) (a .message .now) (a .end .0) (a .writable) (s .pre .0) (ahead (f .last .1 .1 .0) (g .0 .0))
-    (sym (ap (spaceAs (f .last .1 .1 .0)) (g .1)) ∙ f .ensures .0)) in (
-      p .0 ∙ ap (λ v. countOf (writeBy type2 (length (a .list .now)) (a .image .now) v)) e,
-      p .1 ∙ ap (λ v. outputInto (a .list .now) (writeBy type2 (length (a .list .now)) (a .image .now) v)) e,
-    )
+    let p = at-prepare .prepare in
+    let g = at-first .first .given in
+    let e = listed-output (a .image .now) (a .message .now) (a .end .0) (a .writable) (s .pre .0) (p .last .1 .1 .1 .1 .1 .1 .1 .0) (p .last .1 .1 .1 .1 .1 .1 .1 .1 .0) (p .result) (p .ensures) (g .0 .0) (g .1)
+    (p .kept .1 .1 .1 .1 .1 .1 .1 .0 ∙ s .pre .2) (p .kept .1 .1 .1 .1 .1 .1 .1 .1 .0 ∙ s .pre .1 .unmarked .size) (length (a .list .now)) in
+    (l .ensures .0 ∙ ap countOf e, l .ensures .1 ∙ ap (outputInto (a .list .now)) e)
 
 pub write-inside-spec : {M : Type 1} → statement M
 write-inside-spec =
     tie.close
     (tie.spec
-    (λ c κs. search needs)
+    prepare-requires
     (λ c. search needs)
     (λ c. search needs)
-    write-at-requires
+    put-list-requires
+    (λ c. search needs)
+    (λ c. search needs)
     (λ c. search needs)
     returns
     (λ c. search needs)

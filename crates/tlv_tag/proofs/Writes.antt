@@ -20,12 +20,12 @@ use Rattle.tag.proofs.Guarded.{Cell, shut, old, fresh, Between}
 use Rattle.tag.proofs.Blocks.{block-of}
 use Rattle.tag.proofs.Writes.{Sound}
 use Rattle.tag.proofs.Laws.{Near}
-use Rattle.tlv.specs.Message.{TlvTag, viewed, reportOf, reading}
-use Rattle.tlv.specs.Update.{usable, fitsIn, content, lengthAt, plan}
-use Rattle.tlv.specs.Tag.{tagOf}
-use Rattle.tlv.proofs.Field.{first-set}
-use Rattle.tlv.proofs.Tag as tlv
-use Rattle.tlv.proofs.Tag.{TlvLaws, Placed, view-placed, reads-view, by-report, usable-is}
+use Rattle.tlv_tag.specs.Message.{TlvTag, viewed, reportOf, reading}
+use Rattle.tlv_tag.specs.Update.{usable, fitsIn, content, lengthAt, plan}
+use Rattle.tlv_tag.specs.Tag.{tagOf}
+use Rattle.tlv_tag.proofs.Field.{first-set}
+use Rattle.tlv_tag.proofs.Tag as tlv
+use Rattle.tlv_tag.proofs.Tag.{TlvLaws, Placed, view-placed, reads-view, by-report, usable-is}
 
 pub report-writable : (w : Bool) (i ms : List ℕ) → reportOf w i ms .writable ≡ w
 report-writable w i [] = refl

@@ -1,29 +1,25 @@
--- The length field: what writing sets at rising addresses with room reads back as the length and the message; and where a
--- length reads back with as many bytes after it, `fitsIn` says that there is room.
+-- The length field as writing sets it: what is set at rising addresses with room reads back as the length and the message; and
+-- where a length reads back with as many bytes after it, `fitsIn` says that there is room.
 -- Assumes nothing.
-use mathlib.Core.Path.{_≡_, refl, ap, _∙_}
+use mathlib.Core.Path.{_≡_, refl, _∙_}
 use mathlib.Core.Bool.{Bool, true, false}
 use mathlib.Core.Logic.{_⊎_, inl, inr, ⊎-elim}
 use mathlib.Core.List.{List, [], _∷_, _++_, map}
-use Prim.Native.Nat.{ℕ, suc, _+_, _*_, _/_, _%_, _<_, _≤_}
+use Prim.Native.Nat.{ℕ, _+_, _*_, _/_, _%_, _<_, _≤_}
 use native.Mathlib.Omega.{arith}
-use borrow.Author.Tests.{leb-true, leb-false, le-leb, lt-leb, eq-eqb}
+use borrow.Author.Tests.{leb-true, leb-false, le-leb, eq-eqb}
 use lib.Dec.{leb, eqb}
 use lib.ListN.{length, set, take, length-set}
 use lib.Seq.{getD-set-same, getD-set-other}
 use Rattle.tag.specs.Bytes.{byte, overlay, isSet}
-use Rattle.tag.proofs.Logic.{or-l, nope}
+use Rattle.tag.proofs.Logic.{or-l}
 use Rattle.tag.proofs.Images.{length-overlay}
 use Rattle.tag.proofs.Addresses.{Above, above-less, above-hi, above-take, above-length, map-out, overlay-reads}
-use Rattle.tlv.specs.Walk.{len, longBy, longOf, lengthBy, lengthOf}
-use Rattle.tlv.specs.Update.{fitsIn, lengthField, content, lengthAt}
-use Rattle.tlv.proofs.Locality.{longBy-is}
+use Rattle.tlv.specs.Walk.{len, longBy, lengthBy, lengthOf}
+use Rattle.tlv.proofs.Sizes.{Sized}
+use Rattle.tlv_tag.specs.Update.{fitsIn, lengthField, content, lengthAt}
 
 -- ---- room
-
--- u bytes are the length field of n, in its one form or the other, and k more
-abbrev pub Sized : ℕ → ℕ → ℕ → Type 0
-Sized n u k = ((leb n 254 ≡ true) × (u ≡ 1 + k)) ⊎ ((leb n 254 ≡ false) × (u ≡ 3 + k))
 
 pub fits-is : (n u : ℕ) → fitsIn n u ≡ true → ((leb n 254 ≡ true) × (1 + n ≤ u)) ⊎ ((leb n 254 ≡ false) × (3 + n ≤ u))
 unfolding fitsIn
@@ -41,27 +37,6 @@ pub fits-of : (n u k : ℕ) → Sized n u k → n ≤ k → fitsIn n u ≡ true
 unfolding fitsIn
 fits-of n u k (inl c) l = rw (c .0, fitsIn) (le-leb (1 + n) u (omega (arith, c .1)))
 fits-of n u k (inr c) l = rw (c .0, fitsIn) (le-leb (3 + n) u (omega (arith, c .1)))
-
--- a number is read in one form only, so that no longer form is taken for a shorter one
-pub length-size : (j us ws : List ℕ) (n : ℕ) → lengthOf j us ≡ len n ws → Sized n (length us) (length ws)
-unfolding lengthBy
-length-size j [] ws n e = absurd (nope (cc))
-length-size j (a ∷ us) ws n e = go (leb (byte j a) 254) refl
-  where
-    long : (us : List ℕ) → longOf j us ≡ len n ws → (leb n 254 ≡ false) × (length us ≡ 2 + length ws)
-    long [] f = absurd (nope (cc))
-    long (b ∷ []) f = absurd (nope (cc))
-    long (b ∷ c ∷ us) f =
-        let (l, p, u) = longBy-is (256 * byte j b + byte j c) n us ws f in
-        (lt-leb n 254 (omega arith), omega (arith, ap length u))
-
-    go : (t : Bool) → leb (byte j a) 254 ≡ t → Sized n (suc (length us)) (length ws)
-    go true q =
-        let e′ : len (byte j a) us ≡ len n ws = rw (q, lengthBy) at e in
-        let u : us ≡ ws = cc in
-        let p : byte j a ≡ n = cc in
-        inl (rw p at q, omega (arith, ap length u))
-    go false q = let l = long us (rw (q, lengthBy) at e) in inr (l .0, omega (arith, l .1))
 
 -- ---- what is written reads back
 

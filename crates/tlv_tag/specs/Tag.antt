@@ -4,8 +4,8 @@ use mathlib.Core.List.{List}
 use Prim.Native.Nat.{ℕ}
 use Rattle.tag.specs.Stores.{Store, Command}
 use Rattle.tag.specs.TagType.{TagType}
-use Rattle.tlv.specs.Message.{TlvTag, reading}
-use Rattle.tlv.specs.Update.{fits, plan}
+use Rattle.tlv_tag.specs.Message.{TlvTag, reading}
+use Rattle.tlv_tag.specs.Update.{fits, plan}
 
 -- by its TLV area and its commands: what the tag handed in takes a command's bytes for, how many bytes of a list one takes, and a
 -- command's bytes

@@ -14,10 +14,10 @@ use Rattle.tag.specs.Reading.{What, message, Report, Reading, reads, part}
 use Rattle.tag.proofs.Logic.{and-l, and-r, nope}
 use Rattle.tag.proofs.Addresses.{Above, above-length, above-take}
 use Rattle.tag.proofs.Runs.{map-run}
 use Rattle.tlv.specs.Walk.{lengthOf}
-use Rattle.tlv.specs.Message.{TlvTag, view, viewBy, viewed, reportOf, reading}
 use Rattle.tlv.proofs.Locality.{length-above}
-use Rattle.tlv.proofs.Tag.{viewBy-is, TlvLaws, Placed, view-placed, by-report, beyond}
+use Rattle.tlv_tag.specs.Message.{TlvTag, view, viewBy, viewed, reportOf, reading}
+use Rattle.tlv_tag.proofs.Tag.{viewBy-is, TlvLaws, Placed, view-placed, by-report, beyond}
 
 consecutive-run : (a : ℕ) (us : List ℕ) → consecutive (a ∷ us) ≡ true → a ∷ us ≡ run a (length (a ∷ us))
 consecutive-run a [] e = refl

@@ -10,11 +10,11 @@ use Rattle.tag.specs.Stores.{Store, Command}
 use Rattle.tag.specs.TagType.{Writing, unwritten, written, writing, planned}
 use Rattle.tag.specs.Refusals.{nothing-to-write, not-writable, too-long}
 use Rattle.tag.specs.Checks.{check, Checked, firstOf}
-use Rattle.tlv.specs.Message.{TlvTag, View, refuse, view, viewed, reading}
-use Rattle.tlv.specs.Update.{usable, fitsIn, planBy}
-use Rattle.tlv.specs.Space.{Space, no-space, space, spaceOf}
-use Rattle.tlv.specs.Tag.{tagOf}
-use Rattle.tlv.proofs.Writes.{report-writable}
+use Rattle.tlv_tag.specs.Message.{TlvTag, View, refuse, view, viewed, reading}
+use Rattle.tlv_tag.specs.Update.{usable, fitsIn, planBy}
+use Rattle.tlv_tag.specs.Tag.{tagOf}
+use Rattle.tlv_tag.specs.Space.{Space, no-space, space, spaceOf}
+use Rattle.tlv_tag.proofs.Writes.{report-writable}
 
 -- what the space is for writing
 abbrev pub writingIn : ℕ → List ℕ → List ℕ → Space → Writing

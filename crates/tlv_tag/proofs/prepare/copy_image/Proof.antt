@@ -1,9 +1,9 @@
--- `write::copy_image` meets its contract. Assumes nothing.
+-- `prepare::copy_image` meets its contract. Assumes nothing.
 use mathlib.Core.Path.{_∙_}
 use borrow.Author.Needs.{needs}
 use Rattle.tag.proofs.Filling.{copied}
-use Rattle.type2_write.proofs.write.copy_image.Statement.{statement}
-use Rattle.type2_write.proofs.write.copy_image.Tie as tie
+use Rattle.tlv_tag.proofs.prepare.copy_image.Statement.{statement}
+use Rattle.tlv_tag.proofs.prepare.copy_image.Tie as tie
 
 returns : tie.Need-returns
 returns c =

@@ -21,11 +21,12 @@ use Rattle.tag.proofs.Each.{Each}
 use Rattle.tag.proofs.Checks.{OfReading}
 use Rattle.tag.proofs.Images.{length-overlay, overlay-out}
 use Rattle.tag.proofs.Addresses.{Above, above-unset, above-run}
 use Rattle.tlv.specs.Walk.{Length, bad, len, lengthBy, lengthOf, Found, lost, found, messageTlv}
-use Rattle.tlv.specs.Message.{TlvTag, View, refuse, view, viewBy, viewed, reportOf, readingOf, reading}
-use Rattle.tlv.specs.Update.{usable, fitsIn, content, lengthAt}
 use Rattle.tlv.proofs.Locality.{find-above, find-same}
-use Rattle.tlv.proofs.Field.{Written, written, fits-less, fits-of, length-size, above-first}
+use Rattle.tlv.proofs.Sizes.{length-size}
+use Rattle.tlv_tag.specs.Message.{TlvTag, View, refuse, view, viewBy, viewed, reportOf, readingOf, reading}
+use Rattle.tlv_tag.specs.Update.{usable, fitsIn, content, lengthAt}
+use Rattle.tlv_tag.proofs.Field.{Written, written, fits-less, fits-of, above-first}
 
 -- ---- a message TLV by its length field
 

@@ -12,10 +12,10 @@ use Rattle.tag.specs.Checks.{Checked, fine, fault, firstOf}
 use Rattle.tag.specs.Reading.{unreadable}
 use Rattle.tag.proofs.Logic.{nope}
 use Rattle.tag.proofs.Checks.{OfReading, first-among}
 use Rattle.tlv.specs.Areas.{Control, Area, reserved, areaOf}
 use Rattle.tlv.specs.Walk.{Taken, none, took, takeByte, onByte, Length, bad, len, lengthOf, Passed, more, stop, passValue, Kind, null, message, terminator, other, control, kindOf, Step, on, hit, Found, lost, found, areaBy, controlValue, controlBy, stepAt, step, find, messageTlv}
-use Rattle.tlv.specs.Message.{TlvTag, View, refuse, view, viewBy, viewOf, viewAfter, viewed, readingOf, reading}
-use Rattle.tlv.proofs.Tag.{TlvLaws}
+use Rattle.tlv_tag.specs.Message.{TlvTag, View, refuse, view, viewBy, viewOf, viewAfter, viewed, readingOf, reading}
+use Rattle.tlv_tag.proofs.Tag.{TlvLaws}
 
 abbrev PassNumbered : Passed → Type 0
 PassNumbered (more us) = Unit {0}

@@ -1,0 +1,53 @@
+-- What is prepared for a list, against the plan: the address handed back is that of the first length byte, and the marks are the
+-- blocks between the guard block's two commands.
+-- Assumes nothing.
+use mathlib.Core.Path.{_≡_, refl, sym, ap, _∙_}
+use mathlib.Core.Bool.{not, _&&_, Bool·not-not}
+use mathlib.Core.List.{List}
+use Prim.Native.Nat.{ℕ, _/_, _<_}
+use native.Mathlib.Omega.{arith}
+use native.Mathlib.Decide.{ℕ-discrete, decLt}
+use borrow.Author.Tests.{eq-eqb, ne-eqb}
+use lib.Dec.{eqb}
+use lib.ListN.{length, set, replicate, getD-replicate}
+use lib.Seq.{getD-set-same, getD-set-other}
+use Rattle.tag.specs.Bytes.{byte}
+use Rattle.tag.specs.Plan.{touches, between}
+use Rattle.tlv.specs.declared.walk.Walk.{Walk}
+use Rattle.tlv.specs.Views.{ahead}
+use Rattle.tlv.specs.Values.{BlocksMarked}
+use Rattle.tlv.proofs.Usable.{from, At, from-first, from-end}
+use Rattle.tlv_tag.specs.Update.{content, lengthAt, planBy}
+use Rattle.tlv_tag.specs.UpdateViews.{contentLength, marked}
+use Rattle.tlv_tag.proofs.Content.{length-content}
+
+-- ---- the first length byte
+
+-- f is the first usable address
+pub first-usable : (t : List ℕ) (w : Walk) (f : ℕ) → At t f (w .end .0) → ahead t w ≡ from t f (w .end .0) → 0 < length (ahead t w)
+    → (f ≡ lengthAt (ahead t w)) × (f < w .end .0)
+first-usable t w f p e l =
+    let some : 0 < length (from t f (w .end .0)) = omega (arith, ap length e) in
+    (sym (ap lengthAt e ∙ from-first t f (w .end .0) 0 p some), go (decLt f (w .end .0)) some)
+  where
+    go : Dec (f < w .end .0) → 0 < length (from t f (w .end .0)) → f < w .end .0
+    go (yes u) s = u
+    go (no n) s = absurd (omega (arith, ap length (from-end t f (w .end .0) (omega arith))))
+
+-- ---- the marks, g the guard block
+
+module _ (z : ℕ) (us i m before after : List ℕ) (g : ℕ) (zeros : before ≡ replicate (length before) 0) (same : length after ≡ length before)
+    (is : BlocksMarked z (contentLength (length m)) us before after) (guard : g ≡ lengthAt us / z) where
+  -- the blocks that hold a byte to set
+  marked-touches : (b : ℕ) → b < length before → marked after b ≡ touches z us (content m) b
+  marked-touches b l =
+      let e : byte before b ≡ 0 = ap (λ k. byte k b) zeros ∙ getD-replicate (length before) b 0 0 l in
+      ap not (is (content m) b (length-content m) l) ∙ rw e (Bool·not-not (touches z us (content m) b))
+
+  -- and with the guard block's mark taken away
+  pub marked-between : (b : ℕ) → b < length before → marked (set after g 0) b ≡ between (planBy z us i m) b
+  marked-between b l = rw (← guard) (go (ℕ-discrete b g))
+    where
+      go : Dec (b ≡ g) → marked (set after g 0) b ≡ not (eqb b g) && touches z us (content m) b
+      go (yes e) = rw (e, getD-set-same after g 0 0 (omega arith), eq-eqb g g refl)
+      go (no n) = rw (getD-set-other after g b 0 0 n, ne-eqb b g n) (marked-touches b l)

@@ -1,0 +1,31 @@
+-- The code's answer about where a message goes as the definitions have it, and the numbers that callers go by.
+-- Assumes nothing.
+use mathlib.Core.Path.{_≡_}
+use mathlib.Core.List.{List}
+use Prim.Native.Nat.{ℕ, _<_, _≤_}
+use lib.ListN.{length}
+use Rattle.tlv.specs.declared.walk.Walk.{Walk}
+use Rattle.tlv.specs.Views.{ahead, Placed}
+use Rattle.tlv_tag.specs.declared.space.Space as code
+use Rattle.tlv_tag.specs.declared.space.Space.the-variants as answer
+use Rattle.tlv_tag.specs.Space.{Space, no-space, space}
+
+abbrev pub spaceAs : List ℕ → code.Space → Space
+spaceAs table (answer.Refused r) = no-space r
+spaceAs table (answer.At w) = space (ahead table w)
+
+-- a walk from whose place on there is room for a message of n bytes
+pub record Room (image table : List ℕ) (n : ℕ) (w : Walk) : Type 0 where
+  pub placed : Placed image table w
+  pub enough : n < length (ahead table w)
+  pub few : length (ahead table w) ≤ 1024
+
+-- the space is the walk's own
+abbrev pub SpaceHere : List ℕ → List ℕ → ℕ → Walk → code.Space → Type 0
+SpaceHere image table n v (answer.Refused r) = Unit {0}
+SpaceHere image table n v (answer.At w) = Room image table n w × (w .at .0 ≡ v .at .0) × (w .end .0 ≡ v .end .0)
+
+-- the space lies in the data area, after a type byte
+abbrev pub SpacePlaced : List ℕ → List ℕ → ℕ → ℕ → ℕ → code.Space → Type 0
+SpacePlaced image table n first end (answer.Refused r) = Unit {0}
+SpacePlaced image table n first end (answer.At w) = Room image table n w × (first < w .at .0) × (w .end .0 ≡ end)

@@ -1,0 +1,42 @@
+-- What the code hands on of an update: how many bytes it sets, and what it prepares for the list, which is the new image, marks of
+-- blocks and the address of the first length byte.
+-- Assumes nothing.
+use mathlib.Core.Path.{_≡_}
+use mathlib.Core.Bool.{Bool, not}
+use mathlib.Core.List.{List}
+use Prim.Native.Nat.{ℕ, _+_, _*_, _<_, _≤_}
+use lib.Dec.{eqb}
+use lib.ListN.{length, replicate}
+use Rattle.tag.specs.Bytes.{byte}
+use Rattle.tag.specs.Plan.{newImage, between}
+use Rattle.tlv_tag.specs.declared.prepare.Preparation as code
+use Rattle.tlv_tag.specs.declared.prepare.Preparation.the-variants as answer
+use Rattle.tlv_tag.specs.Update.{lengthField, lengthAt, planBy}
+use Rattle.tlv_tag.specs.Space.{Space, no-space, space}
+
+-- how many bytes there are to set for a message of n bytes
+abbrev pub contentLength : ℕ → ℕ
+contentLength n = length (lengthField n) + (n + 1)
+
+-- is block b marked
+abbrev pub marked : List ℕ → ℕ → Bool
+marked marks b = not (eqb (byte marks b) 0)
+
+-- room for the new image, and for each block of z bytes a mark, none of them set
+pub record Spare (z : ℕ) (i new marks : List ℕ) : Type 0 where
+  pub some-size : 0 < z
+  pub as-long : length new ≡ length i
+  pub each-marked : length i ≤ z * length marks
+  pub unmarked : marks ≡ replicate (length marks) 0
+
+-- the new image, the marks of the blocks between the guard block's two commands, and the address of the first length byte
+pub record Prepared (z : ℕ) (us i m new marks : List ℕ) (first : ℕ) : Type 0 where
+  pub new-is : new ≡ newImage (planBy z us i m) i
+  pub marks-are : (b : ℕ) → b < length marks → marked marks b ≡ between (planBy z us i m) b
+  pub first-is : first ≡ lengthAt us
+  pub inside : first < length i
+
+-- the code's answer, by the space that there is for the message
+abbrev pub PreparedIn : ℕ → Space → List ℕ → List ℕ → List ℕ → List ℕ → code.Preparation → Type 0
+PreparedIn z s i m new marks (answer.Refused r) = no-space r ≡ s
+PreparedIn z s i m new marks (answer.At a) = (us : List ℕ) × (space us ≡ s) × Prepared z us i m new marks (a .0)
