@@ -2,6 +2,7 @@
 
 use crate::answers;
 use tag::Block;
+use tag::refusals;
 use tag::slices;
 use type3::Command;
 use type3::commands;
@@ -170,7 +171,7 @@ pub extern "C" fn zan_type3_decode(
 {
     let decoded = commands::decode(bytes, number, nbw as usize, nmaxb as usize);
     let refusal = decoded.refusal;
-    if refusal != 0 {
+    if refusal != refusals::NONE {
         return answers::refusal(refusal);
     }
     let command = decoded.command;

@@ -2,6 +2,7 @@
 
 use crate::answers;
 use tag::Block;
+use tag::refusals;
 use type2::Command;
 use type2::commands;
 ghost use mathlib.Core.Path.{_≡_};
@@ -78,7 +79,7 @@ pub extern "C" fn zan_type2_decode(
 {
     let decoded = commands::decode(bytes, blocks as usize);
     let refusal = decoded.refusal;
-    if refusal != 0 {
+    if refusal != refusals::NONE {
         return answers::refusal(refusal);
     }
     let number = decoded.command.block.0;

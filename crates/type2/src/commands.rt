@@ -4,6 +4,7 @@ use crate::Command;
 use tag::Address;
 use tag::Block;
 use tag::CountAnswer;
+use tag::refusals;
 use tag::slices;
 ghost use mathlib.Core.Path.{_≡_};
 ghost use Prim.Native.Nat.{_/_};
@@ -48,10 +49,10 @@ pub fn encode(command: Command, blocks: usize, bytes: &mut [u8]) -> CountAnswer
     let block = command.block.0;
     let four = command.bytes;
     if !nameable(block, blocks) {
-        return CountAnswer::Refused(20);
+        return CountAnswer::Refused(refusals::MALFORMED_COMMAND);
     }
     if bytes.len() < 6 {
-        return CountAnswer::Refused(12);
+        return CountAnswer::Refused(refusals::SHORT_BUFFER);
     }
     let whole = command_bytes(block as u8, four);
     slices::store(&whole, 0, bytes);
@@ -96,7 +97,7 @@ pub fn decode(bytes: &[u8], blocks: usize) -> Decoded
     if is_command(bytes, blocks) {
         let command = carried(bytes);
         return Decoded {
-            refusal: 0,
+            refusal: refusals::NONE,
             command,
         };
     }
@@ -105,7 +106,7 @@ pub fn decode(bytes: &[u8], blocks: usize) -> Decoded
         bytes: [0u8; 4],
     };
     Decoded {
-        refusal: 20,
+        refusal: refusals::MALFORMED_COMMAND,
         command,
     }
 }

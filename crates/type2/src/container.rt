@@ -1,6 +1,7 @@
 // The capability container: refusals 1 to 5, and the data area.
 
 use tag::Address;
+use tag::refusals;
 use tag::version;
 ghost use mathlib.Core.Path.{_≡_};
 ghost use lib.ListN.{length, drop};
@@ -27,7 +28,7 @@ fn area(image: &[u8], writable: bool) -> DataArea
     let size = image[14] as usize;
     let end = FIRST + 8 * size;
     if image.len() < end {
-        return DataArea::Refused(5);
+        return DataArea::Refused(refusals::BAD_DATA_AREA);
     }
     DataArea::Inside(Address(end), writable)
 }
@@ -39,19 +40,19 @@ pub fn data_area(image: &[u8]) -> DataArea
 {
     let n = image.len();
     if n % 4 != 0 {
-        return DataArea::Refused(1);
+        return DataArea::Refused(refusals::IMAGE_SIZE);
     }
     if n < 64 {
-        return DataArea::Refused(1);
+        return DataArea::Refused(refusals::IMAGE_SIZE);
     }
     if 1024 < n {
-        return DataArea::Refused(1);
+        return DataArea::Refused(refusals::IMAGE_SIZE);
     }
     if image[12] != 0xE1 {
-        return DataArea::Refused(2);
+        return DataArea::Refused(refusals::NOT_NDEF);
     }
     if !version::is_known(image[13]) {
-        return DataArea::Refused(3);
+        return DataArea::Refused(refusals::UNKNOWN_VERSION);
     }
     if image[15] == 0x00 {
         return area(image, true);
@@ -59,5 +60,5 @@ pub fn data_area(image: &[u8]) -> DataArea
     if image[15] == 0x0F {
         return area(image, false);
     }
-    DataArea::Refused(4)
+    DataArea::Refused(refusals::BAD_ACCESS)
 }

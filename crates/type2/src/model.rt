@@ -4,6 +4,7 @@ use crate::commands;
 use crate::read;
 use tag::Block;
 use tag::ModelAnswer;
+use tag::refusals;
 use tag::slices;
 ghost use mathlib.Core.Path.{_≡_};
 ghost use mathlib.Core.Bool.{true};
@@ -44,11 +45,11 @@ pub fn model(image: &mut [u8], command: &[u8]) -> ModelAnswer
     ensures { λ r. ⌜ Took type2 (now (image .entry)) (now (command .entry)) r (now (image .exit)) ⌝ }
 {
     let refusal = read::refusal(image);
-    if refusal != 0 {
+    if refusal != refusals::NONE {
         return ModelAnswer::Refused(refusal);
     }
     if take_command(image, command) {
         return ModelAnswer::Stored;
     }
-    ModelAnswer::Refused(20)
+    ModelAnswer::Refused(refusals::MALFORMED_COMMAND)
 }

@@ -4,6 +4,7 @@
 use tag::Address;
 use tag::Block;
 use tag::CountAnswer;
+use tag::refusals;
 use type2::commands;
 ghost use mathlib.Core.Path.{_≡_};
 ghost use mathlib.Core.Bool.{cond};
@@ -99,7 +100,7 @@ pub(crate) fn put_list(
     let between = count_marked(marks, blocks);
     let count = between + 2;
     if list.len() < 6 * count {
-        return CountAnswer::Refused(12);
+        return CountAnswer::Refused(refusals::SHORT_BUFFER);
     }
     put_shut(image, first, list);
     put_marked(new, marks, blocks, &mut list[6..]);

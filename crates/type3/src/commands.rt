@@ -6,6 +6,7 @@ use crate::names;
 use tag::Block;
 use tag::CountAnswer;
 use tag::numbers;
+use tag::refusals;
 use tag::slices;
 ghost use mathlib.Core.Path.{_≡_};
 ghost use mathlib.Core.Bool.{_&&_};
@@ -100,11 +101,11 @@ fn encode_parts(
     ensures { λ r. ⌜ PutOut (encode number nbw nmaxb count (now (blocks .entry)) (now (sixteens .entry))) (now (bytes .entry)) r (now (bytes .exit)) ⌝ }
 {
     if !well_named(count, blocks, nbw, nmaxb) {
-        return CountAnswer::Refused(20);
+        return CountAnswer::Refused(refusals::MALFORMED_COMMAND);
     }
     let size = 13 + 18 * count;
     if bytes.len() < size {
-        return CountAnswer::Refused(12);
+        return CountAnswer::Refused(refusals::SHORT_BUFFER);
     }
     let filled = 16 * count;
     put(number, &blocks[..count], &sixteens[..filled], bytes);
@@ -227,7 +228,7 @@ pub fn decode(bytes: &[u8], number: &[u8; 8], nbw: usize, nmaxb: usize) -> Decod
     if is_command(bytes, number, nbw, nmaxb) {
         let command = carried(bytes);
         return Decoded {
-            refusal: 0,
+            refusal: refusals::NONE,
             command,
         };
     }
@@ -237,7 +238,7 @@ pub fn decode(bytes: &[u8], number: &[u8; 8], nbw: usize, nmaxb: usize) -> Decod
         bytes: [0u8; 128],
     };
     Decoded {
-        refusal: 20,
+        refusal: refusals::MALFORMED_COMMAND,
         command,
     }
 }

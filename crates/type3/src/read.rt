@@ -6,6 +6,7 @@ use tag::ReadAnswer;
 use tag::Report;
 use tag::What;
 use tag::numbers;
+use tag::refusals;
 use tag::slices;
 use tag::version;
 ghost use mathlib.Core.Path.{_≡_};
@@ -35,7 +36,7 @@ pub struct Attributes {
 
 // The answer of the tests: the first that fails gives its refusal.
 pub enum Checked {
-    Fault(u8),
+    Refused(u8),
     Fine(Attributes),
 }
 
@@ -90,12 +91,12 @@ fn size_fault(image: &[u8]) -> u8
     let nmaxb = numbers::word(image, 3);
     let end = Block(1 + nmaxb).address(16);
     if image.len() < end.0 {
-        return 5;
+        return refusals::BAD_DATA_AREA;
     }
     if 16 * nmaxb < ln_of(image) {
-        return 7;
+        return refusals::BAD_LENGTH;
     }
-    0
+    refusals::NONE
 }
 
 // Refusals 2 to 4, and then those of `size_fault`.
@@ -104,13 +105,13 @@ fn block_fault(image: &[u8]) -> u8
     ensures { λ r. ⌜ faultAs r ≡ firstOf (drop 1 (attributeChecks (length (now (image .entry))) (attributes (now (image .entry))))) ⌝ }
 {
     if numbers::sum(image, 14) != numbers::word(image, 14) as u16 {
-        return 2;
+        return refusals::NOT_NDEF;
     }
     if !version::is_known(image[0]) {
-        return 3;
+        return refusals::UNKNOWN_VERSION;
     }
     if !flags_defined(image) {
-        return 4;
+        return refusals::BAD_ACCESS;
     }
     size_fault(image)
 }
@@ -136,7 +137,7 @@ pub(crate) fn fault(image: &[u8]) -> u8
     if is_whole(image.len()) {
         return block_fault(image);
     }
-    1
+    refusals::IMAGE_SIZE
 }
 
 // What block 0 says.
@@ -165,11 +166,11 @@ pub fn attributes_of(image: &[u8]) -> Checked
     ensures known { λ r. ⌜ Known (now (image .entry)) r ⌝ }
 {
     if !is_whole(image.len()) {
-        return Checked::Fault(1);
+        return Checked::Refused(refusals::IMAGE_SIZE);
     }
     let refusal = block_fault(image);
-    if refusal != 0 {
-        return Checked::Fault(refusal);
+    if refusal != refusals::NONE {
+        return Checked::Refused(refusal);
     }
     let attributes = said(image);
     Checked::Fine(attributes)
@@ -215,7 +216,7 @@ pub fn read(image: &[u8]) -> ReadAnswer
     ensures { λ r. ⌜ Read reading (now (image .entry)) [] r [] ⌝ }
 {
     let refusal = fault(image);
-    if refusal != 0 {
+    if refusal != refusals::NONE {
         return ReadAnswer::Refused(refusal);
     }
     let attributes = said(image);

@@ -1,6 +1,7 @@
 // Where a message goes on a Type 3 tag: refusals 9 to 11, and how many blocks it takes.
 
 use crate::read::Attributes;
+use tag::refusals;
 ghost use mathlib.Core.Path.{_≡_};
 ghost use Rattle.type3.specs.Update.{blocksFor};
 ghost use Rattle.type3.specs.Space.{refusalFor};
@@ -20,13 +21,13 @@ pub fn refusal(a: Attributes, n: usize) -> u8
     ensures { λ r. ⌜ r ≡ refusalFor a n ⌝ }
 {
     if n == 0 {
-        return 9;
+        return refusals::EMPTY_MESSAGE;
     }
     if !a.writable {
-        return 10;
+        return refusals::NOT_WRITABLE;
     }
     if a.nmaxb < blocks_for(n) {
-        return 11;
+        return refusals::MESSAGE_TOO_LONG;
     }
-    0
+    refusals::NONE
 }

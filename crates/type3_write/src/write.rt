@@ -3,6 +3,7 @@
 use tag::Block;
 use tag::CountAnswer;
 use tag::numbers;
+use tag::refusals;
 use tag::slices;
 use type3::commands;
 use type3::names;
@@ -238,14 +239,14 @@ fn write_to(
 {
     let n = message.len();
     let refusal = space::refusal(a, n);
-    if refusal != 0 {
+    if refusal != refusals::NONE {
         return CountAnswer::Refused(refusal);
     }
     let k = space::blocks_for(n);
     let w = numbers::smaller(a.nbw, 8);
     let turns = turns_for(k, w);
     if list.len() < 62 + 13 * turns + 18 * k {
-        return CountAnswer::Refused(12);
+        return CountAnswer::Refused(refusals::SHORT_BUFFER);
     }
     let ln = a.ln;
     put_list(image, message, number, ln, w, turns, list);
@@ -259,7 +260,7 @@ pub fn write(image: &[u8], message: &[u8], number: &[u8; 8], list: &mut [u8]) ->
 {
     let checked = read::attributes_of(image);
     match checked {
-        Checked::Fault(n) => CountAnswer::Refused(n),
+        Checked::Refused(n) => CountAnswer::Refused(n),
         Checked::Fine(a) => write_to(image, message, *number, a, list),
     }
 }
