@@ -132,9 +132,9 @@ pub(crate) fn judge_writable(
     requires { ⌜ Writable kind (now idm) (now image) (now message) (now table) ⌝ }
     ensures { λ r. ⌜ ListJudged (typeOf kind (now (idm .entry))) (now (image .entry)) (now (message .entry)) (now (list .entry)) r ⌝ }
 {
-    let mut work = [0u8; 4096];
-    let mut first = [0u8; 1024];
-    let mut gathered = [0u8; 1024];
+    let mut work = [0u8; kinds::LONGEST_IMAGE];
+    let mut first = [0u8; reading::GATHERED];
+    let mut gathered = [0u8; reading::GATHERED];
     judge_on(
         kind,
         idm,

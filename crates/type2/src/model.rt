@@ -1,6 +1,7 @@
 // A Type 2 tag as a model that takes one command a call.
 
 use crate::commands;
+use crate::container;
 use crate::read;
 use tag::Block;
 use tag::ModelAnswer;
@@ -23,9 +24,9 @@ fn store_block(image: &mut [u8], command: &[u8])
     ensures { λ _. ⌜ now (image .exit) ≡ sets (now (image .entry)) (4 * byte (now (command .entry)) 1) (drop 2 (now (command .entry))) ⌝ }
 {
     let block = Block(command[1] as usize);
-    let first = block.address(4);
+    let first = block.address(container::BLOCK_SIZE);
     let at = first.0;
-    slices::store(&command[2..], at, image);
+    slices::store(&command[commands::DATA..], at, image);
 }
 
 // Stores what the command says, and answers whether it is well formed; nothing is stored if it is not.

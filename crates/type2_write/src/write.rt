@@ -44,9 +44,9 @@ fn prepare(
 {
     copy_image(image, new);
     update::set_content(w, message, table, new);
-    update::mark_content(w, message.len(), 4, table, marks);
+    update::mark_content(w, message.len(), container::BLOCK_SIZE, table, marks);
     let first = table::next_usable(table, w.at, w.end);
-    let guard = first.block(4);
+    let guard = first.block(container::BLOCK_SIZE);
     let b = guard.0;
     marks[b] = 0;
     first
@@ -131,8 +131,8 @@ fn write_on(
 pub fn write(image: &[u8], message: &[u8], list: &mut [u8]) -> CountAnswer
     ensures { λ r. ⌜ Wrote type2 (now (image .entry)) (now (message .entry)) (now (list .entry)) r (now (list .exit)) ⌝ }
 {
-    let mut table = [0u16; 1024];
-    let mut new = [0u8; 1024];
-    let mut marks = [0u8; 256];
+    let mut table = [0u16; container::LONGEST_IMAGE];
+    let mut new = [0u8; container::LONGEST_IMAGE];
+    let mut marks = [0u8; container::MOST_BLOCKS];
     write_on(image, message, &mut table, &mut new, &mut marks, list)
 }

@@ -27,7 +27,7 @@ pub fn take_command(
     ensures is { λ r. ⌜ r ≡ isCommand (decodeFor (length (now (image .entry))) (now (number .entry)) nbw nmaxb (now (command .entry))) ⌝ }
     ensures stored { λ _. ⌜ now (image .exit) ≡ done (now (image .entry)) (commandOf (decodeFor (length (now (image .entry))) (now (number .entry)) nbw nmaxb (now (command .entry)))) ⌝ }
 {
-    let end = Address(image.len()).block(16);
+    let end = Address(image.len()).block(read::BLOCK_SIZE);
     if end.0 <= nmaxb {
         return false;
     }

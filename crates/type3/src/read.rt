@@ -23,6 +23,34 @@ ghost use Rattle.type3.specs.Attributes.{attributes, imageLength, flagsD
 ghost use Rattle.type3.specs.Message.{reading};
 ghost use Rattle.type3.specs.Views.{WholeBlocks, checkedAs, faultAs, Says, Known, reportAs, answerFor};
 
+// The bytes of a block.
+pub const BLOCK_SIZE: usize = 16;
+
+// An image is one block at least.
+const SHORTEST_IMAGE: usize = BLOCK_SIZE;
+
+// It has 256 blocks at most.
+pub const LONGEST_IMAGE: usize = 256 * BLOCK_SIZE;
+
+// The addresses of the attributes, from here to CHECKSUM. The version is at 0; Nmaxb and the checksum have two bytes, and Ln three.
+const NBR: usize = 1;
+
+const NBW: usize = 2;
+
+const NMAXB: usize = 3;
+
+pub const WRITE_FLAG: usize = 9;
+
+pub const RW_FLAG: usize = 10;
+
+const LN: usize = 11;
+
+// Ln's two lower bytes.
+const LN_LOW: usize = LN + 1;
+
+// The sum of all bytes before it.
+const CHECKSUM: usize = 14;
+
 // What block 0 says of a tag that passes the tests.
 pub struct Attributes {
     pub nbw: usize,
@@ -55,13 +83,13 @@ fn flags_defined(image: &[u8]) -> bool
     requires { ⌜ 16 ≤ length (now image) ⌝ }
     ensures { λ r. ⌜ r ≡ flagsDefined (attributes (now (image .entry))) ⌝ }
 {
-    if !is_either(image[9], 0x00, 0x0F) {
+    if !is_either(image[WRITE_FLAG], 0x00, 0x0F) {
         return false;
     }
-    if !is_either(image[10], 0x00, 0x01) {
+    if !is_either(image[RW_FLAG], 0x00, 0x01) {
         return false;
     }
-    image[1] != 0
+    image[NBR] != 0
 }
 
 // Is RWFlag 01h and Nbw at least 1?
@@ -69,10 +97,10 @@ fn may_write(image: &[u8]) -> bool
     requires { ⌜ 16 ≤ length (now image) ⌝ }
     ensures { λ r. ⌜ r ≡ mayWrite (now (image .entry)) ⌝ }
 {
-    if image[10] != 0x01 {
+    if image[RW_FLAG] != 0x01 {
         return false;
     }
-    1 <= image[2]
+    1 <= image[NBW]
 }
 
 // Ln, of three bytes.
@@ -80,7 +108,7 @@ fn ln_of(image: &[u8]) -> usize
     requires { ⌜ 16 ≤ length (now image) ⌝ }
     ensures { λ r. ⌜ r ≡ attributes (now (image .entry)) .ln ⌝ }
 {
-    65536 * numbers::wide(image[11]) + numbers::word(image, 12)
+    65536 * numbers::wide(image[LN]) + numbers::word(image, LN_LOW)
 }
 
 // Refusals 5 and 7; 0 for neither.
@@ -88,12 +116,12 @@ fn size_fault(image: &[u8]) -> u8
     requires { ⌜ WholeBlocks (now image) ⌝ }
     ensures { λ r. ⌜ faultAs r ≡ firstOf (drop 4 (attributeChecks (length (now (image .entry))) (attributes (now (image .entry))))) ⌝ }
 {
-    let nmaxb = numbers::word(image, 3);
-    let end = Block(1 + nmaxb).address(16);
+    let nmaxb = numbers::word(image, NMAXB);
+    let end = Block(1 + nmaxb).address(BLOCK_SIZE);
     if image.len() < end.0 {
         return refusals::BAD_DATA_AREA;
     }
-    if 16 * nmaxb < ln_of(image) {
+    if BLOCK_SIZE * nmaxb < ln_of(image) {
         return refusals::BAD_LENGTH;
     }
     refusals::NONE
@@ -104,7 +132,7 @@ fn block_fault(image: &[u8]) -> u8
     requires { ⌜ WholeBlocks (now image) ⌝ }
     ensures { λ r. ⌜ faultAs r ≡ firstOf (drop 1 (attributeChecks (length (now (image .entry))) (attributes (now (image .entry))))) ⌝ }
 {
-    if numbers::sum(image, 14) != numbers::word(image, 14) as u16 {
+    if numbers::sum(image, CHECKSUM) != numbers::word(image, CHECKSUM) as u16 {
         return refusals::NOT_NDEF;
     }
     if !version::is_known(image[0]) {
@@ -120,13 +148,13 @@ fn block_fault(image: &[u8]) -> u8
 fn is_whole(n: usize) -> bool
     ensures { λ r. ⌜ r ≡ imageLength n ⌝ }
 {
-    if n % 16 != 0 {
+    if n % BLOCK_SIZE != 0 {
         return false;
     }
-    if n < 16 {
+    if n < SHORTEST_IMAGE {
         return false;
     }
-    n <= 4096
+    n <= LONGEST_IMAGE
 }
 
 // The first of the refusals 1 to 5 and 7; 0 if the tag passes all tests. A number alone: the attributes beside it would be handed
@@ -145,10 +173,10 @@ pub(crate) fn said(image: &[u8]) -> Attributes
     requires { ⌜ 16 ≤ length (now image) ⌝ }
     ensures { λ r. ⌜ Says (now (image .entry)) r ⌝ }
 {
-    let nbw = numbers::wide(image[2]);
-    let nmaxb = numbers::word(image, 3);
+    let nbw = numbers::wide(image[NBW]);
+    let nmaxb = numbers::word(image, NMAXB);
     let ln = ln_of(image);
-    let busy = image[9] == 0x0F;
+    let busy = image[WRITE_FLAG] == 0x0F;
     let writable = may_write(image);
     Attributes {
         nbw,
@@ -188,7 +216,7 @@ fn report(a: Attributes) -> Report
     if length == 0 {
         return without(What::Empty, writable);
     }
-    let address = Block(1).address(16);
+    let address = Block(1).address(BLOCK_SIZE);
     Report {
         what: What::Message,
         address,

@@ -1,5 +1,6 @@
 // Where a message goes on a Type 3 tag: refusals 9 to 11, and how many blocks it takes.
 
+use crate::read;
 use crate::read::Attributes;
 use tag::refusals;
 ghost use mathlib.Core.Path.{_≡_};
@@ -10,10 +11,10 @@ ghost use Rattle.type3.specs.Space.{refusalFor};
 pub fn blocks_for(n: usize) -> usize
     ensures { λ r. ⌜ r ≡ blocksFor n ⌝ }
 {
-    if n % 16 == 0 {
-        return n / 16;
+    if n % read::BLOCK_SIZE == 0 {
+        return n / read::BLOCK_SIZE;
     }
-    n / 16 + 1
+    n / read::BLOCK_SIZE + 1
 }
 
 // Refusals 9, 10 and 11, in this order, for a message of `n` bytes; 0 where it fits, in blocks 1 and on.
