@@ -2,10 +2,12 @@
 
 use crate::answers;
 use tag::Block;
+use tag::refusals;
 use tag::slices;
 use type3::Command;
 use type3::commands;
 use type3::names;
+use type3::read;
 ghost use mathlib.Core.Path.{_≡_};
 ghost use Prim.Native.Nat.{_*_, _≤_};
 ghost use lib.ListN.{length, take};
@@ -70,8 +72,8 @@ pub extern "C" fn zan_type3_model(image: &mut [u8], number: &[u8; 8], command: &
 #[no_mangle]
 pub extern "C" fn zan_type3_encode(
     count: u64,
-    blocks: &[u64; 8],
-    sixteens: &[u8; 128],
+    blocks: &[u64; commands::MOST_BLOCKS],
+    sixteens: &[u8; commands::MOST_BYTES],
     number: &[u8; 8],
     nbw: u64,
     nmaxb: u64,
@@ -93,7 +95,7 @@ pub extern "C" fn zan_type3_encode(
 }
 
 // Eight blocks, by their numbers from C.
-fn blocks_from(numbers: &[u64]) -> [Block; 8]
+fn blocks_from(numbers: &[u64]) -> [Block; commands::MOST_BLOCKS]
     requires { ⌜ length (now numbers) ≡ 8 ⌝ }
     ensures { λ r. ⌜ r ≡ blocksOf (now (numbers .entry)) ⌝ }
 {
@@ -133,13 +135,18 @@ fn store_used(
     ensures { λ _. ⌜ now (blocks .exit) ≡ overwrite (take count (now (named .entry))) (now (blocks .entry)) ⌝ }
     ensures { λ _. ⌜ now (sixteens .exit) ≡ overwrite (take (16 * count) (now (carried .entry))) (now (sixteens .entry)) ⌝ }
 {
-    let used = 16 * count;
+    let used = read::BLOCK_SIZE * count;
     store(&named[..count], blocks);
     slices::store(&carried[..used], 0, sixteens);
 }
 
 // Delivers a command: how many blocks it has, their numbers and their bytes.
-fn deliver(command: Command, count: &mut u64, blocks: &mut [u64; 8], sixteens: &mut [u8; 128])
+fn deliver(
+    command: Command,
+    count: &mut u64,
+    blocks: &mut [u64; commands::MOST_BLOCKS],
+    sixteens: &mut [u8; commands::MOST_BYTES],
+)
     requires { ⌜ command .count ≤ 8 ⌝ }
     ensures { λ _. ⌜ now (count .exit) ≡ command .count ⌝ }
     ensures { λ _. ⌜ now (blocks .exit) ≡ overwrite (take (command .count) (blockNumbers (command .blocks))) (now (blocks .entry)) ⌝ }
@@ -160,8 +167,8 @@ pub extern "C" fn zan_type3_decode(
     nbw: u64,
     nmaxb: u64,
     count: &mut u64,
-    blocks: &mut [u64; 8],
-    sixteens: &mut [u8; 128],
+    blocks: &mut [u64; commands::MOST_BLOCKS],
+    sixteens: &mut [u8; commands::MOST_BYTES],
 ) -> u64
     ensures answer { λ r. ⌜ r ≡ packedDecoded3 (decode (now (number .entry)) nbw nmaxb (now (bytes .entry))) ⌝ }
     ensures many { λ _. ⌜ now (count .exit) ≡ countInto (now (count .entry)) (decode (now (number .entry)) nbw nmaxb (now (bytes .entry))) ⌝ }
@@ -170,7 +177,7 @@ pub extern "C" fn zan_type3_decode(
 {
     let decoded = commands::decode(bytes, number, nbw as usize, nmaxb as usize);
     let refusal = decoded.refusal;
-    if refusal != 0 {
+    if refusal != refusals::NONE {
         return answers::refusal(refusal);
     }
     let command = decoded.command;

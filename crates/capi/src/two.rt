@@ -2,8 +2,10 @@
 
 use crate::answers;
 use tag::Block;
+use tag::refusals;
 use type2::Command;
 use type2::commands;
+use type2::container;
 ghost use mathlib.Core.Path.{_≡_};
 ghost use lib.ListN.{length};
 ghost use Rattle.tag.specs.Reading.{answerOf, gatheredInto};
@@ -52,7 +54,12 @@ pub extern "C" fn zan_type2_model(image: &mut [u8], command: &[u8]) -> u64
 }
 
 #[no_mangle]
-pub extern "C" fn zan_type2_encode(block: u64, four: &[u8; 4], blocks: u64, bytes: &mut [u8]) -> u64
+pub extern "C" fn zan_type2_encode(
+    block: u64,
+    four: &[u8; container::BLOCK_SIZE],
+    blocks: u64,
+    bytes: &mut [u8],
+) -> u64
     ensures answer { λ r. ⌜ r ≡ packedCount (countOf (encode blocks block (now (four .entry)) (length (now (bytes .entry))))) ⌝ }
     ensures written { λ _. ⌜ now (bytes .exit) ≡ outputInto (now (bytes .entry)) (encode blocks block (now (four .entry)) (length (now (bytes .entry)))) ⌝ }
 {
@@ -70,7 +77,7 @@ pub extern "C" fn zan_type2_decode(
     bytes: &[u8],
     blocks: u64,
     block: &mut u64,
-    four: &mut [u8; 4],
+    four: &mut [u8; container::BLOCK_SIZE],
 ) -> u64
     ensures answer { λ r. ⌜ r ≡ packedDecoded2 (decode blocks (now (bytes .entry))) ⌝ }
     ensures number { λ _. ⌜ now (block .exit) ≡ blockInto (now (block .entry)) (decode blocks (now (bytes .entry))) ⌝ }
@@ -78,7 +85,7 @@ pub extern "C" fn zan_type2_decode(
 {
     let decoded = commands::decode(bytes, blocks as usize);
     let refusal = decoded.refusal;
-    if refusal != 0 {
+    if refusal != refusals::NONE {
         return answers::refusal(refusal);
     }
     let number = decoded.command.block.0;

@@ -17,7 +17,7 @@ use Rattle.tag.specs.declared.JudgeAnswer.the-variants as verdict
 use Rattle.tag.specs.declared.ModelAnswer as model-answer
 use Rattle.tag.specs.declared.ModelAnswer.the-variants as storing
 use Rattle.tag.specs.Bytes.{overwrite}
-use Rattle.tag.specs.Refusals.{Refusal, plain, positioned, refusalAt, not-well-formed, ends-otherwise}
+use Rattle.tag.specs.Refusals.{Refusal, plain, positioned, refusalAt, malformed-command, unfinished}
 use Rattle.tag.specs.Reading.{message, refusal, answer}
 use Rattle.tag.specs.TagType.{Output, withheld, output, outputInto}
 use Rattle.tag.specs.Judge.{accepted, refused}
@@ -48,9 +48,9 @@ number (positioned r p) = r
 
 number-of : (r : ℕ) → number (refusalAt r 0) ≡ r
 unfolding number
-number-of r = go (leb not-well-formed r && leb r ends-otherwise) refl
+number-of r = go (leb malformed-command r && leb r unfinished) refl
   where
-    go : (b : Bool) → leb not-well-formed r && leb r ends-otherwise ≡ b → number (refusalAt r 0) ≡ r
+    go : (b : Bool) → leb malformed-command r && leb r unfinished ≡ b → number (refusalAt r 0) ≡ r
     go true q = rw q
     go false q = rw q
 

@@ -15,7 +15,7 @@ use Rattle.tag.specs.declared.CountAnswer as count
 use Rattle.tag.specs.declared.CountAnswer.the-variants as counted
 use Rattle.tag.specs.declared.ModelAnswer as model-answer
 use Rattle.tag.specs.declared.ModelAnswer.the-variants as storing
-use Rattle.tag.specs.Refusals.{too-long, short-buffer, short-gathering}
+use Rattle.tag.specs.Refusals.{message-too-long, short-buffer, short-gathering-buffer}
 use Rattle.tag.specs.Reading.{What, message, empty, being-written, Report, Reading, unreadable, reads, answerOf, tooShort, refusal, answer, shown, broken, nothing, holds, heldOf}
 use Rattle.tag.specs.Plan.{Plan, list}
 use Rattle.tag.specs.TagType.{TagType, held, Writing, unwritten, written, writing, listBytes, writeBy, pieces}
@@ -38,19 +38,19 @@ module _ (T : TagType) where
   -- the answer for a tag that reads, by its gathering buffer
   reads-answer : (i gathering : List ℕ) (r : read.ReadAnswer) → readAs r ≡ answerOf (length gathering) ((T .reading) i) → (p : Report) → (T .reading) i ≡ reads p
       → (b : Bool) → tooShort (length gathering) p ≡ b
-      → readAs r ≡ elim b [ true ↦ refusal short-gathering | false ↦ answer (p .what) (p .address) (length (p .bytes)) (p .interrupted) (p .writable) ]
+      → readAs r ≡ elim b [ true ↦ refusal short-gathering-buffer | false ↦ answer (p .what) (p .address) (length (p .bytes)) (p .interrupted) (p .writable) ]
   reads-answer i gathering r a p q true t = a ∙ ap (answerOf (length gathering)) q ∙ rw t
   reads-answer i gathering r a p q false t = a ∙ ap (answerOf (length gathering)) q ∙ rw t
 
   -- 13 is answered just where the gathering buffer is too short
   pub short-answer : (i gathering gathered : List ℕ) (r : read.ReadAnswer) → Read (T .reading) i gathering r gathered
-      → (p : Report) → (T .reading) i ≡ reads p → (r ≡ reading.Refused short-gathering) ↔ (tooShort (length gathering) p ≡ true)
-  short-answer i gathering gathered r (a, b) p q = ((λ e. go e (tooShort (length gathering) p) refl), (λ t. unread-is r short-gathering (reads-answer i gathering r a p q true t)))
+      → (p : Report) → (T .reading) i ≡ reads p → (r ≡ reading.Refused short-gathering-buffer) ↔ (tooShort (length gathering) p ≡ true)
+  short-answer i gathering gathered r (a, b) p q = ((λ e. go e (tooShort (length gathering) p) refl), (λ t. unread-is r short-gathering-buffer (reads-answer i gathering r a p q true t)))
     where
-      go : r ≡ reading.Refused short-gathering → (x : Bool) → tooShort (length gathering) p ≡ x → tooShort (length gathering) p ≡ true
+      go : r ≡ reading.Refused short-gathering-buffer → (x : Bool) → tooShort (length gathering) p ≡ x → tooShort (length gathering) p ≡ true
       go e true t = t
       go e false t =
-          let z : refusal short-gathering ≡ answer (p .what) (p .address) (length (p .bytes)) (p .interrupted) (p .writable)
+          let z : refusal short-gathering-buffer ≡ answer (p .what) (p .address) (length (p .bytes)) (p .interrupted) (p .writable)
           = sym (ap readAs e) ∙ reads-answer i gathering r a p q false t in
           absurd (nope (cc))
 
@@ -64,28 +64,28 @@ module _ (T : TagType) where
 
   -- 11 is answered just where writing is refused with it
   pub too-long-answer : (i m buffer out : List ℕ) (r : count.CountAnswer) → Wrote T i m buffer r out
-      → (r ≡ counted.Refused too-long) ↔ (writing T i m ≡ unwritten too-long)
+      → (r ≡ counted.Refused message-too-long) ↔ (writing T i m ≡ unwritten message-too-long)
   too-long-answer i m buffer out r (a, b) = (
     (λ e. go e (writing T i m) refl),
-    (λ q. uncounted-is r too-long (a ∙ ap (λ w. countOf (writeBy T (length buffer) i w)) q)),
+    (λ q. uncounted-is r message-too-long (a ∙ ap (λ w. countOf (writeBy T (length buffer) i w)) q)),
   )
     where
-      go : r ≡ counted.Refused too-long → (w : Writing) → writing T i m ≡ w → writing T i m ≡ unwritten too-long
+      go : r ≡ counted.Refused message-too-long → (w : Writing) → writing T i m ≡ w → writing T i m ≡ unwritten message-too-long
       go e (unwritten f) q =
-          let z : refusesOne {A = ℕ} too-long ≡ refusesOne f = sym (ap countAs e) ∙ a ∙ ap (λ w. countOf (writeBy T (length buffer) i w)) q in
-          q ∙ ap unwritten (sym (same-refusal too-long f z))
+          let z : refusesOne {A = ℕ} message-too-long ≡ refusesOne f = sym (ap countAs e) ∙ a ∙ ap (λ w. countOf (writeBy T (length buffer) i w)) q in
+          q ∙ ap unwritten (sym (same-refusal message-too-long f z))
       go e (written p) q = absurd (by-room (leb (length (listBytes T p i)) (length buffer)) refl)
         where
-          z : refusesOne {A = ℕ} too-long ≡ countOf (writeBy T (length buffer) i (written p))
+          z : refusesOne {A = ℕ} message-too-long ≡ countOf (writeBy T (length buffer) i (written p))
           z = sym (ap countAs e) ∙ a ∙ ap (λ w. countOf (writeBy T (length buffer) i w)) q
 
           by-room : (x : Bool) → leb (length (listBytes T p i)) (length buffer) ≡ x → ⊥
-          by-room true t = let y : refusesOne {A = ℕ} too-long ≡ gives (length (list p i)) = rw t at z in nope (cc)
-          by-room false t = let y : refusesOne {A = ℕ} too-long ≡ refusesOne short-buffer = rw t at z in let u : too-long ≡ short-buffer = same-refusal too-long short-buffer y in nope (cc)
+          by-room true t = let y : refusesOne {A = ℕ} message-too-long ≡ gives (length (list p i)) = rw t at z in nope (cc)
+          by-room false t = let y : refusesOne {A = ℕ} message-too-long ≡ refusesOne short-buffer = rw t at z in let u : message-too-long ≡ short-buffer = same-refusal message-too-long short-buffer y in nope (cc)
 
 module _ (T : TagType) (L : Laws T) where
   pub tells : (m j gathering gathered part : List ℕ) (r : read.ReadAnswer) → Read (T .reading) j gathering r gathered → Showed j gathered r part
-      → (r ≡ reading.Refused short-gathering → ⊥) → held T j ≡ holds m → Tells m r part
+      → (r ≡ reading.Refused short-gathering-buffer → ⊥) → held T j ≡ holds m → Tells m r part
   tells m j gathering gathered part r (a, b) s n h = go ((T .reading) j) refl
     where
       go : (v : Reading) → (T .reading) j ≡ v → Tells m r part
@@ -98,7 +98,7 @@ module _ (T : TagType) (L : Laws T) where
           by-what message w = by-room (tooShort (length gathering) p) refl
             where
               by-room : (x : Bool) → tooShort (length gathering) p ≡ x → Tells m r part
-              by-room true t = absurd (n (unread-is r short-gathering (reads-answer T j gathering r a p q true t)))
+              by-room true t = absurd (n (unread-is r short-gathering-buffer (reads-answer T j gathering r a p q true t)))
               by-room false t =
                   let z : holds (p .bytes) ≡ holds m = rw w at (sym (ap heldOf q) ∙ h) in
                   let bytes : p .bytes ≡ m = cc in
@@ -135,7 +135,7 @@ module _ (T : TagType) (L : Laws T) where
       → (rs ≡ replicate n storing.Stored)
       × (
       (gathering gathered part : List ℕ) (r : read.ReadAnswer) → Read (T .reading) j gathering r gathered → Showed j gathered r part
-      → (r ≡ reading.Refused short-gathering → ⊥) → Tells m r part)
+      → (r ≡ reading.Refused short-gathering-buffer → ⊥) → Tells m r part)
   written-tells i m buffer out n wrote rs j run =
       let (stored, h) = taken i m buffer out n wrote rs j run in
       (stored, λ gathering gathered part r a s x. tells m j gathering gathered part r a s x h)

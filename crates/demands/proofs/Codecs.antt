@@ -9,7 +9,7 @@ use borrow.Author.Tests.{leb-true, le-leb}
 use lib.Dec.{leb}
 use lib.ListN.{length, take}
 use lib.Seq.{length-take-le, take-all}
-use Rattle.tag.specs.Refusals.{not-well-formed}
+use Rattle.tag.specs.Refusals.{malformed-command}
 use Rattle.tag.specs.TagType.{withheld, output, fitted}
 use Rattle.tag.proofs.Logic.{nope}
 use Rattle.type2.specs.Codec as codec2
@@ -27,7 +27,7 @@ codec-2 = record { decode-encode = there; encode-decode = back }
     there blocks b bytes room n all l e = go (codec2.nameable blocks b) refl
       where
         go : (t : Bool) → codec2.nameable blocks b ≡ t → (codec2.decode blocks all ≡ codec2.decoded b bytes) × (n ≡ length all)
-        go false q = let f : withheld not-well-formed ≡ output n all = rw q at e in absurd (nope (cc))
+        go false q = let f : withheld malformed-command ≡ output n all = rw q at e in absurd (nope (cc))
         go true q =
             let f : fitted room 6 (codec2.commandBytes b bytes) ≡ output n all = rw q at e in
             let (k, u) = fitted-is room 6 n (codec2.commandBytes b bytes) all f in
@@ -51,8 +51,8 @@ codec-3 number eight = record { decode-encode = there; encode-decode = back }
       where
         go : (s : Bool) → leb b (length bs) ≡ s → (t : Bool) → codec3.wellNamed nbw nmaxb (take b bs) ≡ t
             → (codec3.decode number nbw nmaxb all ≡ codec3.decoded (take b bs) (take (16 * b) bytes)) × (n ≡ length all)
-        go false p t q = let f : withheld not-well-formed ≡ output n all = rw p at e in absurd (nope (cc))
-        go true p false q = let f : withheld not-well-formed ≡ output n all = rw (p, q) at e in absurd (nope (cc))
+        go false p t q = let f : withheld malformed-command ≡ output n all = rw p at e in absurd (nope (cc))
+        go true p false q = let f : withheld malformed-command ≡ output n all = rw (p, q) at e in absurd (nope (cc))
         go true p true q =
             let count : length (take b bs) ≡ b = length-take-le b bs (leb-true b (length bs) p) in
             let whole : length (take (16 * b) bytes) ≡ 16 * length (take b bs) = length-take-le (16 * b) bytes l ∙ ap (λ k. 16 * k) (sym count) in

@@ -12,7 +12,7 @@ use lib.Seq.{take-all, length-take-le, take-append-seam}
 use Rattle.tag.specs.declared.CountAnswer as count
 use Rattle.tag.specs.declared.CountAnswer.the-variants as counted
 use Rattle.tag.specs.Bytes.{overwrite}
-use Rattle.tag.specs.Refusals.{refusalAt, not-well-formed}
+use Rattle.tag.specs.Refusals.{refusalAt, malformed-command}
 use Rattle.tag.specs.TagType.{withheld, output}
 use Rattle.tag.proofs.Logic.{nope}
 use Rattle.type2.specs.declared.Command as command2
@@ -113,7 +113,7 @@ module _ (number : List ℕ) (eight : length number ≡ 8) (nbw nmaxb : ℕ) whe
       go : (all : List ℕ) → three.encode number nbw nmaxb (c .count) (views3.blockNumbers (c .blocks)) (c .bytes) (length buffer) ≡ output n all → out ≡ overwrite all buffer
           → (x : Bool) → leb (c .count) (length (views3.blockNumbers (c .blocks))) ≡ x
           → (d .refusal ≡ 0) × (d .command ≡ (codec3 number nbw nmaxb .used) c)
-      go all o b false q = let z : withheld not-well-formed ≡ output n all = rw q at o in absurd (nope (cc))
+      go all o b false q = let z : withheld malformed-command ≡ output n all = rw q at o in absurd (nope (cc))
       go all o b true q =
           let numbers = views3.blockNumbers (c .blocks) in
           let used = take (c .count) numbers in

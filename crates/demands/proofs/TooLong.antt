@@ -10,7 +10,7 @@ use borrow.Author.Tests.{ne-eqb, eqb-true, leb-true, le-leb, eq-eqb}
 use lib.Dec.{leb, eqb}
 use lib.ListN.{length, replicate}
 use Rattle.tag.specs.Bytes.{byte, has, overlay, isSet}
-use Rattle.tag.specs.Refusals.{too-long}
+use Rattle.tag.specs.Refusals.{message-too-long}
 use Rattle.tag.specs.Reading.{holds}
 use Rattle.tag.specs.Plan.{newImage}
 use Rattle.tag.specs.TagType.{TagType, held, writing, unwritten, written, planned, checksOf}
@@ -43,24 +43,24 @@ module _ (T : TagType) (i m : List ℕ) (a : Asked T i m) where
   roomy : (T .fits) i (length m) ≡ true → Ready T i m
   roomy f = record { report = a .report; reads-as = a .reads-as; writable = a .writable; some-bytes = a .some-bytes; room = f }
 
-  cramped : (T .fits) i (length m) ≡ false → writing T i m ≡ unwritten too-long
+  cramped : (T .fits) i (length m) ≡ false → writing T i m ≡ unwritten message-too-long
   unfolding writing
   cramped f =
-      let e : firstOf (checksOf T i m (a .report)) ≡ fault too-long = rw (ne-eqb (length m) 0 (a .some-bytes)) (rw (a .writable) (rw f)) in
+      let e : firstOf (checksOf T i m (a .report)) ≡ fault message-too-long = rw (ne-eqb (length m) 0 (a .some-bytes)) (rw (a .writable) (rw f)) in
       rw (a .reads-as) (ap (planned ((T .plan) i m)) e)
 
   -- 11 is given exactly if nothing of a kind holds the message, if that is so without room and fails with it
-  exactly : (P : Type 0) → ((T .fits) i (length m) ≡ false → P) → ((T .fits) i (length m) ≡ true → P → ⊥) → (writing T i m ≡ unwritten too-long) ↔ P
+  exactly : (P : Type 0) → ((T .fits) i (length m) ≡ false → P) → ((T .fits) i (length m) ≡ true → P → ⊥) → (writing T i m ≡ unwritten message-too-long) ↔ P
   exactly P without with-room = (
     (λ e. go e ((T .fits) i (length m)) refl),
     (λ p. back p ((T .fits) i (length m)) refl),
   )
     where
-      go : writing T i m ≡ unwritten too-long → (b : Bool) → (T .fits) i (length m) ≡ b → P
+      go : writing T i m ≡ unwritten message-too-long → (b : Bool) → (T .fits) i (length m) ≡ b → P
       go e false q = without q
-      go e true q = let f : written ((T .plan) i m) ≡ unwritten too-long = sym (ready-written T i m (roomy q)) ∙ e in absurd (nope (cc))
+      go e true q = let f : written ((T .plan) i m) ≡ unwritten message-too-long = sym (ready-written T i m (roomy q)) ∙ e in absurd (nope (cc))
 
-      back : P → (b : Bool) → (T .fits) i (length m) ≡ b → writing T i m ≡ unwritten too-long
+      back : P → (b : Bool) → (T .fits) i (length m) ≡ b → writing T i m ≡ unwritten message-too-long
       back p false q = cramped q
       back p true q = absurd (with-room q p)
 
@@ -136,7 +136,7 @@ too-long-2 i m a t us e end =
     exactly type2 i m a ((j : List ℕ) → Octets j → Alike2 end t us i j → held type2 j ≡ holds m → ⊥) (no-room i m a t us e end) (with-room i m a t us e end)
 
 -- the image's own message TLV is the one that 11 goes by
-pub alike-2 : (i m : List ℕ) → Asked type2 i m → (end : ℕ) → (writing type2 i m ≡ unwritten too-long) ↔ ((j : List ℕ) → Octets j → alike2 end i j → held type2 j ≡ holds m → ⊥)
+pub alike-2 : (i m : List ℕ) → Asked type2 i m → (end : ℕ) → (writing type2 i m ≡ unwritten message-too-long) ↔ ((j : List ℕ) → Octets j → alike2 end i j → held type2 j ≡ holds m → ⊥)
 alike-2 i m a end =
     let p = placed memory i (a .report) (a .reads-as) .0 in
     let us = usable (viewed memory i) in

@@ -17,7 +17,7 @@ use Rattle.tag.specs.declared.CountAnswer.the-variants as counted
 use Rattle.tag.specs.declared.ModelAnswer as model-answer
 use Rattle.tag.specs.declared.ModelAnswer.the-variants as storing
 use Rattle.tag.specs.Bytes.{byte, overwrite}
-use Rattle.tag.specs.Refusals.{too-long, short-gathering}
+use Rattle.tag.specs.Refusals.{message-too-long, short-gathering-buffer}
 use Rattle.tag.specs.Reading.{Report, unreadable, reads, tooShort, holds}
 use Rattle.tag.specs.Plan.{touched}
 use Rattle.tag.specs.TagType.{TagType, held, pieces}
@@ -116,18 +116,18 @@ pub record Code2 (T : TagType) (C : CommandCodec) (Alike : List ℕ → List ℕ
       → (rs ≡ replicate n storing.Stored)
       × (
       (gathering gathered part : List ℕ) (r : read.ReadAnswer) → Read (T .reading) j gathering r gathered → Showed j gathered r part
-      → (r ≡ reading.Refused short-gathering → ⊥) → Tells m r part)
+      → (r ≡ reading.Refused short-gathering-buffer → ⊥) → Tells m r part)
   -- as many commands as the requirements count
   pub counts : (i m buffer out : List ℕ) (n : ℕ) → Wrote T i m buffer (counted.Count n) out → n ≡ commands i m
   -- 11 exactly if no image that is alike but for what writing may set reads as the message
   pub too-long-exactly : (i m : List ℕ) → Asked T i m → (buffer out : List ℕ) (r : count.CountAnswer) → Wrote T i m buffer r out
-      → (r ≡ counted.Refused too-long) ↔ ((j : List ℕ) → Octets j → Alike i j → held T j ≡ holds m → ⊥)
+      → (r ≡ counted.Refused message-too-long) ↔ ((j : List ℕ) → Octets j → Alike i j → held T j ≡ holds m → ⊥)
   -- a tag that does not read gets one of 1 to 8
   pub refuses : (i gathering gathered : List ℕ) (r : read.ReadAnswer) → Read (T .reading) i gathering r gathered
       → (n : ℕ) → (T .reading) i ≡ unreadable n → (r ≡ reading.Refused n) × (1 ≤ n) × (n ≤ 8)
   -- a tag that reads gets 13 exactly if its message is interrupted and longer than the gathering buffer
   pub gathers : (i gathering gathered : List ℕ) (r : read.ReadAnswer) → Read (T .reading) i gathering r gathered
-      → (p : Report) → (T .reading) i ≡ reads p → (r ≡ reading.Refused short-gathering) ↔ (tooShort (length gathering) p ≡ true)
+      → (p : Report) → (T .reading) i ≡ reads p → (r ≡ reading.Refused short-gathering-buffer) ↔ (tooShort (length gathering) p ≡ true)
   -- the command that was decoded encodes to the bytes that it was decoded from
   pub encode-decode : (all : List ℕ) (d : C .Decoded) → (C .DecodedTo) all d → (C .refusal) d ≡ 0
       → (buffer out : List ℕ) (r : count.CountAnswer) → length all ≤ length buffer → (C .EncodedTo) ((C .command) d) buffer r out

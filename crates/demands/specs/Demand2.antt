@@ -9,7 +9,7 @@ use mathlib.Core.List.{List, [], _∷_}
 use Prim.Native.Nat.{ℕ, _+_, _-_, _*_, _/_, _<_, _≤_}
 use lib.ListN.{length, take}
 use Rattle.tag.specs.Bytes.{byte, has}
-use Rattle.tag.specs.Refusals.{too-long}
+use Rattle.tag.specs.Refusals.{message-too-long}
 use Rattle.tag.specs.Reading.{Report, unreadable, reads, answerOf, tooShort, gatheredInto, shown, holds}
 use Rattle.tag.specs.Plan.{touched, list}
 use Rattle.tag.specs.TagType.{TagType, held, writing, unwritten, output, write, commands}
@@ -61,7 +61,7 @@ pub record Alike2 (end t : ℕ) (us i j : List ℕ) : Type 0 where
 -- for every end: whether an address past the data area counts as skipped changes nothing
 abbrev pub TooLong2 : Type 0
 TooLong2 = (i m : List ℕ) → Asked type2 i m → (t : ℕ) (us : List ℕ) → messageTlv layout i ≡ found t us → (end : ℕ)
-    → (writing type2 i m ≡ unwritten too-long) ↔ ((j : List ℕ) → Octets j → Alike2 end t us i j → held type2 j ≡ holds m → ⊥)
+    → (writing type2 i m ≡ unwritten message-too-long) ↔ ((j : List ℕ) → Octets j → Alike2 end t us i j → held type2 j ≡ holds m → ⊥)
 
 -- Type 3: images of equal length with the same bytes 0 to 8 and 10
 pub record Alike3 (i j : List ℕ) : Type 0 where
@@ -71,7 +71,7 @@ pub record Alike3 (i j : List ℕ) : Type 0 where
 
 abbrev pub TooLong3 : List ℕ → Type 0
 TooLong3 number = (i m : List ℕ) → Asked (type3 number) i m
-    → (writing (type3 number) i m ≡ unwritten too-long) ↔ ((j : List ℕ) → Octets j → Alike3 i j → held (type3 number) j ≡ holds m → ⊥)
+    → (writing (type3 number) i m ≡ unwritten message-too-long) ↔ ((j : List ℕ) → Octets j → Alike3 i j → held (type3 number) j ≡ holds m → ⊥)
 
 -- ---- the codec loses nothing
 

@@ -6,6 +6,7 @@ use kinds::kept;
 use kinds::reading;
 use tag::JudgeAnswer;
 use tag::holding;
+use tag::refusals;
 use tag::slices;
 ghost use mathlib.Core.Path.{_≡_};
 ghost use lib.ListN.{length};
@@ -30,15 +31,15 @@ fn step(
     ensures { λ r. ⌜ Tested (typeOf kind (now (idm .entry))) (now (image .entry)) (now (message .entry)) (now (work .entry)) (now (command .entry)) r (now (work .exit)) ⌝ }
 {
     if !commands::take_command(kind, idm, image, command, work) {
-        return 20;
+        return refusals::MALFORMED_COMMAND;
     }
     if !kept::is_kept(kind, idm, image, message, table, work) {
-        return 21;
+        return refusals::PROTECTED_BYTE;
     }
     if !reading::is_safe(kind, idm, work, message, old, had, gathered) {
-        return 22;
+        return refusals::MISREAD;
     }
-    0
+    refusals::NONE
 }
 
 // The list's commands in order; `work` starts as the tag handed in. A rest shorter than a command is the last one.
@@ -73,7 +74,7 @@ fn judge_list(
             work,
             gathered,
         );
-        if fault != 0 {
+        if fault != refusals::NONE {
             return JudgeAnswer::Refused(fault, count);
         }
         at = next;
@@ -82,7 +83,7 @@ fn judge_list(
     if reading::holds(kind, idm, work, message, gathered) {
         return JudgeAnswer::Accepted(count);
     }
-    JudgeAnswer::Refused(23, count)
+    JudgeAnswer::Refused(refusals::UNFINISHED, count)
 }
 
 // With lent arrays: `first` gathers the old message and keeps it, `gathered` serves each reading on the way.
@@ -131,9 +132,9 @@ pub(crate) fn judge_writable(
     requires { ⌜ Writable kind (now idm) (now image) (now message) (now table) ⌝ }
     ensures { λ r. ⌜ ListJudged (typeOf kind (now (idm .entry))) (now (image .entry)) (now (message .entry)) (now (list .entry)) r ⌝ }
 {
-    let mut work = [0u8; 4096];
-    let mut first = [0u8; 1024];
-    let mut gathered = [0u8; 1024];
+    let mut work = [0u8; kinds::LONGEST_IMAGE];
+    let mut first = [0u8; reading::GATHERED];
+    let mut gathered = [0u8; reading::GATHERED];
     judge_on(
         kind,
         idm,

@@ -71,6 +71,6 @@ fn judge_with(image: &[u8], message: &[u8], list: &[u8], table: &mut [u16]) -> J
 pub fn judge(image: &[u8], message: &[u8], list: &[u8]) -> JudgeAnswer
     ensures { λ r. ⌜ Judged type2 (now (image .entry)) (now (message .entry)) (now (list .entry)) r ⌝ }
 {
-    let mut table = [0u16; 1024];
+    let mut table = [0u16; container::LONGEST_IMAGE];
     judge_with(image, message, list, &mut table)
 }

@@ -3,6 +3,7 @@
 use crate::lists;
 use kinds::Kind;
 use tag::JudgeAnswer;
+use tag::refusals;
 use type3::read;
 use type3::read::Attributes;
 use type3::read::Checked;
@@ -23,7 +24,7 @@ fn judge_readable(
     ensures { λ r. ⌜ Judged (type3 (now (idm .entry))) (now (image .entry)) (now (message .entry)) (now (list .entry)) r ⌝ }
 {
     let refusal = space::refusal(a, message.len());
-    if refusal != 0 {
+    if refusal != refusals::NONE {
         return JudgeAnswer::Refused(refusal, 0);
     }
     let nbw = a.nbw;
@@ -39,7 +40,7 @@ pub fn judge(image: &[u8], message: &[u8], idm: &[u8; 8], list: &[u8]) -> JudgeA
 {
     let checked = read::attributes_of(image);
     match checked {
-        Checked::Fault(n) => JudgeAnswer::Refused(n, 0),
+        Checked::Refused(n) => JudgeAnswer::Refused(n, 0),
         Checked::Fine(a) => judge_readable(list, image, message, idm, a),
     }
 }

@@ -12,6 +12,9 @@ ghost use Rattle.tag.specs.Reading.{answerOf, gatheredInto};
 ghost use Rattle.tag.specs.TagType.{held};
 ghost use Rattle.kinds.specs.Types.{typeOf};
 
+// The gathering buffer's bytes: only Type 2 has interrupted messages, and none is longer than its image.
+pub const GATHERED: usize = type2::container::LONGEST_IMAGE;
+
 // What the tag reads as.
 pub fn read(kind: Kind, idm: &[u8; 8], image: &[u8], gathered: &mut [u8]) -> ReadAnswer
     ensures answer { λ r. ⌜ readAs r ≡ answerOf (length (now (gathered .entry))) ((typeOf kind (now (idm .entry)) .reading) (now (image .entry))) ⌝ }

@@ -3,6 +3,7 @@
 // contracts are what they are for.
 
 use tag::Block;
+use type3::commands;
 ghost use mathlib.Core.Path.{_≡_};
 ghost use lib.ListN.{length};
 ghost use Rattle.demands.specs.Demand2.{Octets};
@@ -36,6 +37,6 @@ pub fn whole_type3(command: type3::Command, number: &[u8; 8], nbw: usize, nmaxb:
     eight_blocks(blocks);
 }
 
-fn eight_blocks(blocks: [Block; 8])
+fn eight_blocks(blocks: [Block; commands::MOST_BLOCKS])
     ensures { λ _. ⌜ length blocks ≡ 8 ⌝ }
 {}

@@ -2,15 +2,16 @@
 
 use crate::print;
 use tag::slices;
+use type2::container;
 
 fn lay(front: &[u8], image: &mut [u8]) {
-    if image.len() < 12 {
+    if image.len() < container::MARK {
         return;
     }
-    if image.len() - 12 < front.len() {
+    if image.len() - container::MARK < front.len() {
         return;
     }
-    slices::store(front, 12, image);
+    slices::store(front, container::MARK, image);
 }
 
 fn read_on(image: &[u8], gathered: &mut [u8]) {

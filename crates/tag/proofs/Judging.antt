@@ -5,20 +5,20 @@ use mathlib.Core.Path.{_≡_, refl}
 use mathlib.Core.Bool.{true, false}
 use mathlib.Core.List.{List, [], _∷_}
 use Prim.Native.Nat.{ℕ, zero, suc}
-use Rattle.tag.specs.Refusals.{not-well-formed, changes-protected, misreads, ends-otherwise}
+use Rattle.tag.specs.Refusals.{malformed-command, protected-byte, misread, unfinished}
 use Rattle.tag.specs.Stores.{Store, Command, ill, stores, puts, done}
 use Rattle.tag.specs.Judge.{accepted, refused, Task, holdsAs, isSafe, keeps, fault, judge}
 
 module _ (t : Task) where
-  pub fault-ill : (j : List ℕ) → fault t j ill ≡ not-well-formed
+  pub fault-ill : (j : List ℕ) → fault t j ill ≡ malformed-command
   unfolding fault
   fault-ill j = refl
 
-  pub fault-change : (j : List ℕ) (ss : List Store) → keeps t (puts j ss) ≡ false → fault t j (stores ss) ≡ changes-protected
+  pub fault-change : (j : List ℕ) (ss : List Store) → keeps t (puts j ss) ≡ false → fault t j (stores ss) ≡ protected-byte
   unfolding fault
   fault-change j ss k = rw (k, fault)
 
-  pub fault-misread : (j : List ℕ) (ss : List Store) → keeps t (puts j ss) ≡ true → isSafe t ((t .held) (puts j ss)) ≡ false → fault t j (stores ss) ≡ misreads
+  pub fault-misread : (j : List ℕ) (ss : List Store) → keeps t (puts j ss) ≡ true → isSafe t ((t .held) (puts j ss)) ≡ false → fault t j (stores ss) ≡ misread
   unfolding fault
   fault-misread j ss k r = rw (k, r, fault)
 
@@ -42,6 +42,6 @@ module _ (t : Task) where
   unfolding judge
   judge-good n j e = rw (e, judge)
 
-  pub judge-bad : (n : ℕ) (j : List ℕ) → holdsAs ((t .held) j) (t .wanted) ≡ false → judge t n j [] ≡ refused ends-otherwise n
+  pub judge-bad : (n : ℕ) (j : List ℕ) → holdsAs ((t .held) j) (t .wanted) ≡ false → judge t n j [] ≡ refused unfinished n
   unfolding judge
   judge-bad n j e = rw (e, judge)

@@ -9,7 +9,7 @@ use native.Mathlib.Numerals.{add-one}
 use native.Mathlib.Omega.{arith}
 use borrow.Author.Tests.{not-true, not-false}
 use lib.ListN.{length, take, drop, length-drop, drop-of-length-le}
-use Rattle.tag.specs.Refusals.{ends-otherwise}
+use Rattle.tag.specs.Refusals.{unfinished}
 use Rattle.tag.specs.Stores.{Store, Command, ill, stores, formed, puts, done}
 use Rattle.tag.specs.TagType.{TagType, held, cutUp}
 use Rattle.tag.specs.Judge.{accepted, refused, Task, holdsAs, readsAs, keeps, fault, judge, task}
@@ -81,7 +81,7 @@ module _ (T : TagType) (i list : List ℕ) where
     pub turn-good : holdsAs (held T j) m ≡ true → judge (task T i m) n j (from at) ≡ accepted n
     turn-good e = ap (judge (task T i m) n j) (from-end at h) ∙ judge-good (task T i m) n j e
 
-    pub turn-bad : holdsAs (held T j) m ≡ false → judge (task T i m) n j (from at) ≡ refused ends-otherwise n
+    pub turn-bad : holdsAs (held T j) m ≡ false → judge (task T i m) n j (from at) ≡ refused unfinished n
     turn-bad e = ap (judge (task T i m) n j) (from-end at h) ∙ judge-bad (task T i m) n j e
 
   -- the command there, by its bytes

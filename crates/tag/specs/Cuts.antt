@@ -7,7 +7,7 @@ use mathlib.Core.List.{List}
 use Prim.Native.Nat.{ℕ, _<_, _≤_}
 use lib.ListN.{length, getD}
 use Rattle.tag.specs.Bytes.{byte}
-use Rattle.tag.specs.Refusals.{not-well-formed, changes-protected, misreads, ends-otherwise}
+use Rattle.tag.specs.Refusals.{malformed-command, protected-byte, misread, unfinished}
 use Rattle.tag.specs.Reading.{Report, reads, nothing, holds}
 use Rattle.tag.specs.Stores.{Command, ill, done, cut}
 use Rattle.tag.specs.TagType.{TagType}
@@ -52,9 +52,9 @@ SafeBy t j c = (x : List ℕ) → Left j c x → Safe t x
 -- what is wrong with a command that is given to the tag j, tested in this order; 0 where nothing is
 pub data Fault (t : Task) (j : List ℕ) (c : Command) : ℕ → Type 0 where
   none : (c ≡ ill → ⊥) → KeptBy t j c → SafeBy t j c → Fault t j c 0
-  form : c ≡ ill → Fault t j c not-well-formed
-  change : (c ≡ ill → ⊥) → (KeptBy t j c → ⊥) → Fault t j c changes-protected
-  reading : (c ≡ ill → ⊥) → KeptBy t j c → (SafeBy t j c → ⊥) → Fault t j c misreads
+  form : c ≡ ill → Fault t j c malformed-command
+  change : (c ≡ ill → ⊥) → (KeptBy t j c → ⊥) → Fault t j c protected-byte
+  reading : (c ≡ ill → ⊥) → KeptBy t j c → (SafeBy t j c → ⊥) → Fault t j c misread
 
 -- no command before place k is at fault
 abbrev pub Faultless : Task → List Command → ℕ → Type 0
@@ -63,4 +63,4 @@ Faultless t cs k = (l : ℕ) → l < k → Fault t (cut l (t .start) cs) (getD c
 -- the first fault of a list: a command's, at its position, or 23 with the number of commands
 pub data First (t : Task) (cs : List Command) (r p : ℕ) : Type 0 where
   of-command : p < length cs → Faultless t cs p → Fault t (cut p (t .start) cs) (getD cs p ill) r → (r ≡ 0 → ⊥) → First t cs r p
-  of-list : p ≡ length cs → r ≡ ends-otherwise → Faultless t cs p → ((t .held) (cut p (t .start) cs) ≡ holds (t .wanted) → ⊥) → First t cs r p
+  of-list : p ≡ length cs → r ≡ unfinished → Faultless t cs p → ((t .held) (cut p (t .start) cs) ≡ holds (t .wanted) → ⊥) → First t cs r p

@@ -7,7 +7,7 @@ use Prim.Native.Nat.{ℕ, zero, suc}
 use lib.Dec.{eqb}
 use lib.ListN.{length}
 use Rattle.tag.specs.Bytes.{byte, run, same}
-use Rattle.tag.specs.Refusals.{not-well-formed, changes-protected, misreads, ends-otherwise}
+use Rattle.tag.specs.Refusals.{malformed-command, protected-byte, misread, unfinished}
 use Rattle.tag.specs.Reading.{Held, broken, nothing, holds}
 use Rattle.tag.specs.Stores.{Command, ill, stores, done, states}
 use Rattle.tag.specs.Plan.{Plan, protected}
@@ -55,16 +55,16 @@ every test (x ∷ xs) = test x && every test xs
 
 -- the refusal of a command that is given to the tag j, or 0
 unfoldable pub fault : Task → List ℕ → Command → ℕ
-fault t j ill = not-well-formed
+fault t j ill = malformed-command
 fault t j (stores ss) =
     elim (every (keeps t) (states j ss)) [
-      | false ↦ changes-protected
-      | true ↦ elim (every (λ x. isSafe t ((t .held) x)) (states j ss)) [ false ↦ misreads | true ↦ 0 ]
+      | false ↦ protected-byte
+      | true ↦ elim (every (λ x. isSafe t ((t .held) x)) (states j ss)) [ false ↦ misread | true ↦ 0 ]
     ]
 
 -- the commands from place n on, with the tag j that those before have left
 unfoldable pub judge : Task → ℕ → List ℕ → List Command → Verdict
-judge t n j [] = elim (holdsAs ((t .held) j) (t .wanted)) [ true ↦ accepted n | false ↦ refused ends-otherwise n ]
+judge t n j [] = elim (holdsAs ((t .held) j) (t .wanted)) [ true ↦ accepted n | false ↦ refused unfinished n ]
 judge t n j (c ∷ cs) = elim (fault t j c) [ zero ↦ judge t (suc n) (done j c) cs | suc r ↦ refused (suc r) n ]
 
 abbrev pub taskOf : TagType → List ℕ → List ℕ → Plan → Task

@@ -3,7 +3,7 @@
 -- Assumes nothing.
 use mathlib.Core.List.{List}
 use Prim.Native.Nat.{ℕ}
-use Rattle.tag.specs.Refusals.{not-well-formed}
+use Rattle.tag.specs.Refusals.{malformed-command}
 use Rattle.tag.specs.Reading.{Reading, unreadable, reads}
 use Rattle.tag.specs.Stores.{Command, ill, stores, puts}
 use Rattle.tag.specs.TagType.{TagType}
@@ -14,7 +14,7 @@ pub data Modelled : Type 0 where
 
 -- a command given to a tag that reads
 abbrev pub given : List ℕ → Command → Modelled
-given i ill = unstored not-well-formed
+given i ill = unstored malformed-command
 given i (stores ss) = stored (puts i ss)
 
 abbrev pub modelBy : List ℕ → Reading → Command → Modelled

@@ -7,7 +7,7 @@ use Prim.Native.Nat.{ℕ, _+_}
 use lib.Dec.{leb, ltb}
 use lib.ListN.{length, take, drop}
 use Rattle.tag.specs.Bytes.{overwrite}
-use Rattle.tag.specs.Refusals.{short-gathering}
+use Rattle.tag.specs.Refusals.{short-gathering-buffer}
 
 -- which it is
 pub data What : Type 0 where
@@ -45,7 +45,7 @@ tooShort room p = p .interrupted && ltb room (length (p .bytes))
 abbrev pub answerOf : ℕ → Reading → Answer
 answerOf room (unreadable r) = refusal r
 answerOf room (reads p) =
-    cond (tooShort room p) (refusal short-gathering)
+    cond (tooShort room p) (refusal short-gathering-buffer)
     (answer (p .what) (p .address) (length (p .bytes)) (p .interrupted) (p .writable))
 
 -- the gathering buffer afterwards: gathering changes only its front, and only if the message is interrupted and fits

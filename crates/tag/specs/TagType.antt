@@ -7,7 +7,7 @@ use Prim.Native.Nat.{ℕ, zero, suc}
 use lib.Dec.{leb, eqb}
 use lib.ListN.{length, take, drop}
 use Rattle.tag.specs.Bytes.{overwrite}
-use Rattle.tag.specs.Refusals.{nothing-to-write, not-writable, too-long, short-buffer}
+use Rattle.tag.specs.Refusals.{empty-message, not-writable, message-too-long, short-buffer}
 use Rattle.tag.specs.Checks.{Check, check, Checked, fine, fault, firstOf}
 use Rattle.tag.specs.Reading.{Report, Reading, unreadable, reads, Held, heldOf}
 use Rattle.tag.specs.Stores.{Store, Command}
@@ -39,9 +39,9 @@ pub data Writing : Type 0 where
 -- 9, 10, 11, in this order
 abbrev pub checksOf : TagType → List ℕ → List ℕ → Report → List Check
 checksOf T i m p =
-    check (not (eqb (length m) 0)) nothing-to-write
+    check (not (eqb (length m) 0)) empty-message
     ∷ check (p .writable) not-writable
-    ∷ check ((T .fits) i (length m)) too-long
+    ∷ check ((T .fits) i (length m)) message-too-long
     ∷ []
 
 abbrev pub planned : Plan → Checked → Writing

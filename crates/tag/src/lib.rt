@@ -3,6 +3,7 @@
 pub mod holding;
 pub mod kept;
 pub mod numbers;
+pub mod refusals;
 pub mod slices;
 pub mod version;
 

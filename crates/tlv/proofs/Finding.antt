@@ -25,14 +25,14 @@ use Rattle.tlv.proofs.Steps.{onward}
 -- ---- a TLV passed, as a step
 
 step-of-as : (t : List ℕ) (p : code-passed.Passed) → steppedAs t (stepOf p) ≡ on (passedAs t p)
-step-of-as t (passed.Stop n) = refl
+step-of-as t (passed.Refused n) = refl
 step-of-as t (passed.More w) = refl
 
 pub step-passed : (t : List ℕ) (p : code-passed.Passed) (r : code-stepped.Stepped) {x : Passed} → r ≡ stepOf p → passedAs t p ≡ x → steppedAs t r ≡ on x
 step-passed t p r e q = ap (steppedAs t) e ∙ step-of-as t p ∙ ap on q
 
 step-of-placed : (i t u : List ℕ) (n : ℕ) (v : Walk) (a : ℕ) (p : code-passed.Passed) → PassedPlaced i t u n v p → TypePlaced i t u v a (stepOf p)
-step-of-placed i t u n v a (passed.Stop k) q = q
+step-of-placed i t u n v a (passed.Refused k) q = q
 step-of-placed i t u n v a (passed.More w) q = (n, q)
 
 pub step-placed : (i t u : List ℕ) (n : ℕ) (v : Walk) (a : ℕ) (p : code-passed.Passed) (r : code-stepped.Stepped) → r ≡ stepOf p
@@ -46,7 +46,7 @@ by-kind k b i a us e q = e ∙ ap (λ j. stepAt anyArea j i a us) q
 
 pub typed-placed : {i s : List ℕ} {v w : Walk} (t : List ℕ) (a : ℕ) (r : code-stepped.Stepped) → Along i s v w → v .at .0 ≤ a → a < w .at .0
     → TypePlaced i s t w a r → SteppedPlaced i s t v r
-typed-placed t a (stepped.Stop n) p l h q = q
+typed-placed t a (stepped.Refused n) p l h q = q
 typed-placed t a (stepped.On u) p l h q = ((_, onward p (q .1)), omega (arith, q .1 .farther))
 typed-placed t a (stepped.Message b u) p l h q = ((_, onward p (q .0 .1)), omega (arith, q .1), omega (arith, q .0 .1 .farther, q .1))
 
@@ -60,7 +60,7 @@ pub declared-until : {i s t u : List ℕ} {v w : Walk} → Walked i s t v w → 
 declared-until p e = (p .0, rw e (p .1 .added))
 
 pub found-declared : (i s t : List ℕ) (v : Walk) (r : code-found.Found) → FoundPlaced i s t v r → Declared (v .at .0) (v .end .0) s t
-found-declared i s t v (code-at.Lost n) p = p
+found-declared i s t v (code-at.Refused n) p = p
 found-declared i s t v (code-at.At a w) p = (p .0 .0, p .0 .1 .added)
 
 -- ---- fuel

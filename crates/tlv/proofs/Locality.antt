@@ -11,7 +11,7 @@ use borrow.Author.Tests.{eqb-true, leb-true}
 use lib.Dec.{leb, eqb}
 use lib.ListN.{length, drop}
 use Rattle.tag.specs.Bytes.{byte}
-use Rattle.tag.specs.Refusals.{bad-control, bad-length}
+use Rattle.tag.specs.Refusals.{bad-control-tlv, bad-length}
 use Rattle.tag.proofs.Logic.{nope}
 use Rattle.tag.proofs.Addresses.{Above, Rising, above-less, above-rising, above-drop}
 use Rattle.tlv.specs.Areas.{Control, Area, covers, without, reserved, areaOf}
@@ -44,8 +44,8 @@ module _ (allowed : Area → Bool) where
   areaBy-is c b0 b1 b2 us ws e = go (reserved c b2) refl (allowed (areaOf c b0 b1 b2)) refl
     where
       go : (r : Bool) → reserved c b2 ≡ r → (s : Bool) → allowed (areaOf c b0 b1 b2) ≡ s → without (areaOf c b0 b1 b2) us ≡ ws
-      go true p s q = let e′ : stop bad-control ≡ more ws = rw (p, areaBy) at e in absurd (nope (cc))
-      go false p false q = let e′ : stop bad-control ≡ more ws = rw (p, q, areaBy) at e in absurd (nope (cc))
+      go true p s q = let e′ : stop bad-control-tlv ≡ more ws = rw (p, areaBy) at e in absurd (nope (cc))
+      go false p false q = let e′ : stop bad-control-tlv ≡ more ws = rw (p, q, areaBy) at e in absurd (nope (cc))
       go false p true q = let e′ : more (without (areaOf c b0 b1 b2) us) ≡ more ws = rw (p, q, areaBy) at e in cc
 
   pub controlBy-is : (n : ℕ) (c : Control) (i us ws : List ℕ) → controlBy allowed n c i us ≡ more ws
@@ -54,7 +54,7 @@ module _ (allowed : Area → Bool) where
   controlBy-is n c i us ws e = go (eqb n 3) refl
     where
       go : (b : Bool) → eqb n 3 ≡ b → (n ≡ 3) × (controlValue allowed c i us ≡ more ws)
-      go false q = let e′ : stop bad-control ≡ more ws = rw (q, controlBy) at e in absurd (nope (cc))
+      go false q = let e′ : stop bad-control-tlv ≡ more ws = rw (q, controlBy) at e in absurd (nope (cc))
       go true q = (eqb-true n 3 q, rw (q, controlBy) at e)
 
   -- a hit is the TLV's own type byte, and which TLV it is depends on no other byte

@@ -84,13 +84,13 @@ moved p q = record {
 }
 
 pub passed-moved : {i tb : List ℕ} {u v : Walk} (r : code-passed.Passed) → Along i tb u v → PassedWithin v r → PassedPlaced i tb tb 0 u r
-passed-moved (passed.Stop n) p q = refl
+passed-moved (passed.Refused n) p q = refl
 passed-moved (passed.More w) p q = moved p q
 
 -- ---- a control TLV
 
 pub passed-onward : {i s : List ℕ} {u v : Walk} (t : List ℕ) (r : code-passed.Passed) → Along i s u v → PassedPlaced i s t 1 v r → PassedPlaced i s t 1 u r
-passed-onward t (passed.Stop n) p q = q
+passed-onward t (passed.Refused n) p q = q
 passed-onward t (passed.More w) p q = onward p q
 
 -- an area declared after a byte was taken

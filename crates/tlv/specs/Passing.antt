@@ -30,7 +30,7 @@ FieldPlaced image table v (field.Is n w) = Along image table v w × (n ≤ 65534
 -- ---- a TLV passed
 
 abbrev pub passedAs : List ℕ → code-passed.Passed → Passed
-passedAs table (passed.Stop r) = stop r
+passedAs table (passed.Refused r) = stop r
 passedAs table (passed.More w) = more (ahead table w)
 
 -- the walk has moved on from v
@@ -41,12 +41,12 @@ pub record Moved (v w : Walk) : Type 0 where
   pub same-areas : w .areas ≡ v .areas
 
 abbrev pub PassedWithin : Walk → code-passed.Passed → Type 0
-PassedWithin v (passed.Stop r) = Unit {0}
+PassedWithin v (passed.Refused r) = Unit {0}
 PassedWithin v (passed.More w) = Moved v w
 
 -- a TLV that declares n areas; one that is refused declares none
 abbrev pub PassedPlaced : List ℕ → List ℕ → List ℕ → ℕ → Walk → code-passed.Passed → Type 0
-PassedPlaced image t u n v (passed.Stop r) = u ≡ t
+PassedPlaced image t u n v (passed.Refused r) = u ≡ t
 PassedPlaced image t u n v (passed.More w) = Onward image t u n v w
 
 -- ---- control TLVs

@@ -8,7 +8,7 @@ use Prim.Native.Nat.{ℕ, zero, suc, _+_, _*_}
 use lib.Dec.{leb, eqb}
 use lib.ListN.{length, drop}
 use Rattle.tag.specs.Bytes.{byte, run}
-use Rattle.tag.specs.Refusals.{bad-control, bad-length, no-message-tlv}
+use Rattle.tag.specs.Refusals.{bad-control-tlv, bad-length, no-message-tlv}
 use Rattle.tlv.specs.Areas.{Control, lock, memory, Area, without, reserved, areaOf}
 
 -- a byte taken: its value, its address, and the usable addresses after it; or none is left
@@ -81,8 +81,8 @@ module _ (allowed : Area → Bool) where
   -- a control TLV's value, once its three bytes are taken
   unfoldable pub areaBy : Control → ℕ → ℕ → ℕ → List ℕ → Passed
   areaBy c b0 b1 b2 us =
-      cond (reserved c b2) (stop bad-control)
-      (cond (allowed (areaOf c b0 b1 b2)) (more (without (areaOf c b0 b1 b2) us)) (stop bad-control))
+      cond (reserved c b2) (stop bad-control-tlv)
+      (cond (allowed (areaOf c b0 b1 b2)) (more (without (areaOf c b0 b1 b2) us)) (stop bad-control-tlv))
 
   abbrev pub controlValue : Control → List ℕ → List ℕ → Passed
   controlValue c i us =
@@ -92,7 +92,7 @@ module _ (allowed : Area → Bool) where
 
   -- its length byte: 3 and nothing else
   unfoldable pub controlBy : ℕ → Control → List ℕ → List ℕ → Passed
-  controlBy n c i us = cond (eqb n 3) (controlValue c i us) (stop bad-control)
+  controlBy n c i us = cond (eqb n 3) (controlValue c i us) (stop bad-control-tlv)
 
   abbrev pub passControl : Control → List ℕ → List ℕ → Passed
   passControl c i us = onByte (takeByte i us) (stop bad-length) (λ n _ vs. controlBy n c i vs)

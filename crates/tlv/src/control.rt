@@ -8,6 +8,7 @@ use crate::table;
 use crate::walk::Taken;
 use crate::walk::Walk;
 use tag::Address;
+use tag::refusals;
 ghost use mathlib.Core.Path.{_≡_};
 ghost use Prim.Native.Nat.{min, max};
 ghost use Rattle.tlv.specs.Areas.{without, anyArea};
@@ -63,10 +64,10 @@ impl Walk {
         ensures placed { λ r. ⌜ PassedPlaced (now (image .entry)) (now (table .entry)) (now (table .exit)) 1 self r ⌝ }
     {
         match self.take_byte(image, table) {
-            Taken::Nothing => Passed::Stop(7),
+            Taken::Nothing => Passed::Refused(refusals::BAD_LENGTH),
             Taken::Byte(last, _, w) => {
                 if area::is_reserved(kind, last) {
-                    return Passed::Stop(6);
+                    return Passed::Refused(refusals::BAD_CONTROL_TLV);
                 }
                 let declared = area::area_of(kind, place, size, last);
                 Passed::More(w.skip_area(declared, table))
@@ -81,9 +82,9 @@ impl Walk {
         ensures placed { λ r. ⌜ PassedPlaced (now (image .entry)) (now (table .entry)) (now (table .exit)) 1 self r ⌝ }
     {
         match self.take_byte(image, table) {
-            Taken::Nothing => Passed::Stop(7),
+            Taken::Nothing => Passed::Refused(refusals::BAD_LENGTH),
             Taken::Byte(place, _, v) => match v.take_byte(image, table) {
-                Taken::Nothing => Passed::Stop(7),
+                Taken::Nothing => Passed::Refused(refusals::BAD_LENGTH),
                 Taken::Byte(size, _, w) => w.pass_last(kind, place, size, image, table),
             },
         }
@@ -96,12 +97,12 @@ impl Walk {
         ensures placed { λ r. ⌜ PassedPlaced (now (image .entry)) (now (table .entry)) (now (table .exit)) 1 self r ⌝ }
     {
         match self.take_byte(image, table) {
-            Taken::Nothing => Passed::Stop(7),
+            Taken::Nothing => Passed::Refused(refusals::BAD_LENGTH),
             Taken::Byte(length, _, w) => {
                 if length == 3 {
                     return w.pass_control_value(kind, image, table);
                 }
-                Passed::Stop(6)
+                Passed::Refused(refusals::BAD_CONTROL_TLV)
             }
         }
     }

@@ -5,6 +5,7 @@ use crate::length::Passed;
 use crate::walk::Taken;
 use crate::walk::Walk;
 use tag::Address;
+use tag::refusals;
 ghost use mathlib.Core.Path.{_≡_};
 ghost use Prim.Native.Nat.{_-_};
 ghost use Rattle.tlv.specs.Areas.{anyArea};
@@ -14,14 +15,14 @@ ghost use Rattle.tlv.specs.Finding.{stepOf, steppedAs, TypePlaced, Stepp
 
 // A step of the walk: a refusal, a TLV passed, or the message TLV, by its type byte's address and the walk past that byte.
 pub enum Stepped {
-    Stop(u8),
+    Refused(u8),
     On(Walk),
     Message(Address, Walk),
 }
 
 // The message TLV, by its type byte's address and the walk past that byte; or a refusal.
 pub enum Found {
-    Lost(u8),
+    Refused(u8),
     At(Address, Walk),
 }
 
@@ -30,7 +31,7 @@ fn step_of(passed: Passed) -> Stepped
     ensures { λ r. ⌜ r ≡ stepOf passed ⌝ }
 {
     match passed {
-        Passed::Stop(r) => Stepped::Stop(r),
+        Passed::Refused(r) => Stepped::Refused(r),
         Passed::More(w) => Stepped::On(w),
     }
 }
@@ -55,7 +56,7 @@ impl Walk {
             return Stepped::Message(place, self);
         }
         if byte == 0xFE {
-            return Stepped::Stop(8);
+            return Stepped::Refused(refusals::NO_MESSAGE_TLV);
         }
         step_of(self.pass_other(image, table))
     }
@@ -67,7 +68,7 @@ impl Walk {
         ensures placed { λ r. ⌜ SteppedPlaced (now (image .entry)) (now (table .entry)) (now (table .exit)) self r ⌝ }
     {
         match self.take_byte(image, table) {
-            Taken::Nothing => Stepped::Stop(8),
+            Taken::Nothing => Stepped::Refused(refusals::NO_MESSAGE_TLV),
             Taken::Byte(byte, place, w) => w.pass_by_type(byte, place, image, table),
         }
     }
@@ -81,7 +82,7 @@ impl Walk {
         let mut w = self;
         loop {
             match w.pass_tlv(image, table) {
-                Stepped::Stop(r) => return Found::Lost(r),
+                Stepped::Refused(r) => return Found::Refused(r),
                 Stepped::On(v) => w = v,
                 Stepped::Message(a, v) => return Found::At(a, v),
             }

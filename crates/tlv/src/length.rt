@@ -4,6 +4,7 @@ use crate::value;
 use crate::walk::Taken;
 use crate::walk::Walk;
 use tag::Address;
+use tag::refusals;
 ghost use mathlib.Core.Path.{_≡_};
 ghost use Rattle.tlv.specs.Walk.{len, longOf, lengthOf, passValue};
 ghost use Rattle.tlv.specs.Views.{ahead, Placed, Within};
@@ -17,7 +18,7 @@ pub enum Field {
 
 // A TLV passed: the walk past it, or a refusal.
 pub enum Passed {
-    Stop(u8),
+    Refused(u8),
     More(Walk),
 }
 
@@ -78,7 +79,7 @@ impl Walk {
         let last = value::nth(self, n - 1, table);
         let z = last.0;
         if z == end.0 {
-            return Passed::Stop(7);
+            return Passed::Refused(refusals::BAD_LENGTH);
         }
         let at = Address(z + 1);
         Passed::More(Walk { at, end, areas })
@@ -91,7 +92,7 @@ impl Walk {
         ensures placed { λ r. ⌜ PassedPlaced (now (image .entry)) (now (table .entry)) (now (table .entry)) 0 self r ⌝ }
     {
         match self.take_length(image, table) {
-            Field::Bad => Passed::Stop(7),
+            Field::Bad => Passed::Refused(refusals::BAD_LENGTH),
             Field::Is(n, w) => w.pass_value(n, table),
         }
     }

@@ -8,7 +8,7 @@ use lib.Dec.{eqb}
 use lib.ListN.{length}
 use Rattle.tag.specs.Stores.{Store, Command}
 use Rattle.tag.specs.TagType.{Writing, unwritten, written, writing, planned}
-use Rattle.tag.specs.Refusals.{nothing-to-write, not-writable, too-long}
+use Rattle.tag.specs.Refusals.{empty-message, not-writable, message-too-long}
 use Rattle.tag.specs.Checks.{check, Checked, firstOf}
 use Rattle.tlv_tag.specs.Message.{TlvTag, View, refuse, view, viewed, reading}
 use Rattle.tlv_tag.specs.Update.{usable, fitsIn, planBy}
@@ -23,8 +23,8 @@ writingIn z i m (space us) = written (planBy z us i m)
 
 -- the three tests in order, as a list and as a choice
 in-order : (z : ℕ) (us i m : List ℕ) (e w f : Bool)
-    → planned (planBy z us i m) (firstOf (check (not e) nothing-to-write ∷ check w not-writable ∷ check f too-long ∷ []))
-    ≡ writingIn z i m (cond e (no-space nothing-to-write) (cond w (cond f (space us) (no-space too-long)) (no-space not-writable)))
+    → planned (planBy z us i m) (firstOf (check (not e) empty-message ∷ check w not-writable ∷ check f message-too-long ∷ []))
+    ≡ writingIn z i m (cond e (no-space empty-message) (cond w (cond f (space us) (no-space message-too-long)) (no-space not-writable)))
 in-order z us i m true w f = refl
 in-order z us i m false false f = refl
 in-order z us i m false true false = refl
@@ -39,7 +39,7 @@ module _ (K : TlvTag) (command : List ℕ → List ℕ → Command) (span : List
       go (refuse r) q = rw q
       go (view us ms) q =
           let tests : List ℕ → Checked
-          = λ vs. firstOf (check (not (eqb (length m) 0)) nothing-to-write ∷ check ((K .writable) i) not-writable ∷ check (fitsIn (length m) (length vs)) too-long ∷ []) in
+          = λ vs. firstOf (check (not (eqb (length m) 0)) empty-message ∷ check ((K .writable) i) not-writable ∷ check (fitsIn (length m) (length vs)) message-too-long ∷ []) in
           rw q (rw (report-writable ((K .writable) i) i ms)
           (ap (λ vs. planned (planBy (K .block) vs i m) (tests vs)) (ap usable q)
           ∙ in-order (K .block) us i m (eqb (length m) 0) ((K .writable) i) (fitsIn (length m) (length us))))

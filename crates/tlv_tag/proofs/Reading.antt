@@ -130,7 +130,7 @@ module _ (i t u : List ℕ) (first end : ℕ) (w : Walk) (f : code-found.Found) 
       ap (viewOf i)
       (sym (walked ∙ found-all i t w first end blank (start .0) (start .1)))
 
-  pub area-lost : (r : ℕ) → f ≡ code-at.Lost r → areaView i first end ≡ refuse r
+  pub area-lost : (r : ℕ) → f ≡ code-at.Refused r → areaView i first end ≡ refuse r
   area-lost r e = area-is ∙ ap (λ g. viewOf i (foundAs u g)) e
 
   pub area-at : (a : Address) (v : Walk) → f ≡ code-at.At a v → areaView i first end ≡ tlvView i (ahead u v)

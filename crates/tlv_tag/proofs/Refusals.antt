@@ -7,7 +7,7 @@ use Prim.Native.Nat.{ℕ, zero, suc}
 use native.Mathlib.Omega.{arith}
 use lib.Dec.{leb, eqb}
 use lib.ListN.{length}
-use Rattle.tag.specs.Refusals.{bad-control, bad-length, no-message-tlv}
+use Rattle.tag.specs.Refusals.{bad-control-tlv, bad-length, no-message-tlv}
 use Rattle.tag.specs.Checks.{Checked, fine, fault, firstOf}
 use Rattle.tag.specs.Reading.{unreadable}
 use Rattle.tag.proofs.Logic.{nope}
@@ -34,7 +34,7 @@ ViewNumbered (refuse r) = OfReading r
 ViewNumbered (view us ms) = Unit {0}
 
 -- the refusals of the walk
-control-number : OfReading bad-control
+control-number : OfReading bad-control-tlv
 control-number = (omega arith, omega arith)
 
 length-number : OfReading bad-length
@@ -60,13 +60,13 @@ module _ (allowed : Area → Bool) where
   area-passing : (c : Control) (b0 b1 b2 : ℕ) (us : List ℕ) → PassNumbered (areaBy allowed c b0 b1 b2 us)
   unfolding areaBy
   area-passing c b0 b1 b2 us =
-      by-test PassNumbered (reserved c b2) (stop bad-control) _ control-number
-      (by-test PassNumbered (allowed (areaOf c b0 b1 b2)) _ (stop bad-control) tt control-number)
+      by-test PassNumbered (reserved c b2) (stop bad-control-tlv) _ control-number
+      (by-test PassNumbered (allowed (areaOf c b0 b1 b2)) _ (stop bad-control-tlv) tt control-number)
 
   control-passing : (n : ℕ) (c : Control) (i us : List ℕ) → PassNumbered (controlBy allowed n c i us)
   unfolding controlBy
   control-passing n c i us =
-      by-test PassNumbered (eqb n 3) (controlValue allowed c i us) (stop bad-control)
+      by-test PassNumbered (eqb n 3) (controlValue allowed c i us) (stop bad-control-tlv)
       (by-byte PassNumbered (takeByte i us) (stop bad-length) _ length-number (λ b0 a0 vs.
       by-byte PassNumbered (takeByte i vs) (stop bad-length) _ length-number (λ b1 a1 ws.
       by-byte PassNumbered (takeByte i ws) (stop bad-length) _ length-number (λ b2 a2 xs. area-passing c b0 b1 b2 xs))))

@@ -5,7 +5,7 @@ use mathlib.Core.List.{List}
 use Prim.Native.Nat.{ℕ}
 use lib.Dec.{eqb}
 use lib.ListN.{length}
-use Rattle.tag.specs.Refusals.{nothing-to-write, not-writable, too-long}
+use Rattle.tag.specs.Refusals.{empty-message, not-writable, message-too-long}
 use Rattle.tlv_tag.specs.Message.{View, refuse, view}
 use Rattle.tlv_tag.specs.Update.{fitsIn}
 
@@ -18,6 +18,6 @@ pub data Space : Type 0 where
 abbrev pub spaceOf : Bool → ℕ → View → Space
 spaceOf w n (refuse r) = no-space r
 spaceOf w n (view us ms) =
-    cond (eqb n 0) (no-space nothing-to-write)
-    (cond w (cond (fitsIn n (length us)) (space us) (no-space too-long))
+    cond (eqb n 0) (no-space empty-message)
+    (cond w (cond (fitsIn n (length us)) (space us) (no-space message-too-long))
     (no-space not-writable))

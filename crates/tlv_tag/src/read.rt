@@ -4,6 +4,7 @@ use tag::Address;
 use tag::ReadAnswer;
 use tag::Report;
 use tag::What;
+use tag::refusals;
 use tlv::find::Found;
 use tlv::length::Field;
 use tlv::length::Passed;
@@ -34,7 +35,7 @@ fn deliver(image: &[u8], gathered: &mut [u8], table: &[u16], w: Walk, report: Re
     }
     let n = report.length;
     if gathered.len() < n {
-        return ReadAnswer::Refused(13);
+        return ReadAnswer::Refused(refusals::SHORT_GATHERING_BUFFER);
     }
     value::gather(w, n, image, table, gathered);
     ReadAnswer::Reads(report)
@@ -63,7 +64,7 @@ fn read_value(
         });
     }
     match value::measure(w, n, table) {
-        Value::Short => ReadAnswer::Refused(7),
+        Value::Short => ReadAnswer::Refused(refusals::BAD_LENGTH),
         Value::At(address, interrupted) => {
             let report = Report {
                 what: What::Message,
@@ -90,7 +91,7 @@ fn read_message(
     ensures buffer { λ _. ⌜ now (gathered .exit) ≡ gatheredInto (now (gathered .entry)) (readingOf writable (now (image .entry)) (tlvView (now (image .entry)) (ahead (now (table .entry)) w))) ⌝ }
 {
     match w.take_length(image, table) {
-        Field::Bad => ReadAnswer::Refused(7),
+        Field::Bad => ReadAnswer::Refused(refusals::BAD_LENGTH),
         Field::Is(n, v) => read_value(image, gathered, table, v, n, writable),
     }
 }
@@ -111,7 +112,7 @@ pub fn read_area(
 {
     let w = Walk::new(first, end);
     match w.find_message(image, table) {
-        Found::Lost(r) => ReadAnswer::Refused(r),
+        Found::Refused(r) => ReadAnswer::Refused(r),
         Found::At(_, v) => read_message(image, gathered, table, v, writable),
     }
 }
@@ -122,8 +123,8 @@ pub(crate) fn message_refusal(image: &[u8], table: &[u16], w: Walk) -> u8
     ensures { λ r. ⌜ r ≡ refusalOf (tlvView (now (image .entry)) (ahead (now (table .entry)) w)) ⌝ }
 {
     match w.pass_other(image, table) {
-        Passed::Stop(r) => r,
-        Passed::More(_) => 0,
+        Passed::Refused(r) => r,
+        Passed::More(_) => refusals::NONE,
     }
 }
 
@@ -135,7 +136,7 @@ pub fn area_refusal(image: &[u8], table: &mut [u16], first: Address, end: Addres
 {
     let w = Walk::new(first, end);
     match w.find_message(image, table) {
-        Found::Lost(r) => r,
+        Found::Refused(r) => r,
         Found::At(_, v) => message_refusal(image, table, v),
     }
 }

@@ -2,6 +2,7 @@
 
 use crate::read;
 use tag::Address;
+use tag::refusals;
 use tlv::find::Found;
 use tlv::value;
 use tlv::walk::Walk;
@@ -43,14 +44,14 @@ fn space_at(w: Walk, n: usize, image: &[u8], table: &[u16], writable: bool) -> S
     ensures here { λ r. ⌜ SpaceHere (now (image .entry)) (now (table .entry)) n w r ⌝ }
 {
     if n == 0 {
-        return Space::Refused(9);
+        return Space::Refused(refusals::EMPTY_MESSAGE);
     }
     if !writable {
-        return Space::Refused(10);
+        return Space::Refused(refusals::NOT_WRITABLE);
     }
     let room = value::count(w, table);
     if !fits(n, room) {
-        return Space::Refused(11);
+        return Space::Refused(refusals::MESSAGE_TOO_LONG);
     }
     Space::At(w)
 }
@@ -62,7 +63,7 @@ fn space_after(w: Walk, n: usize, image: &[u8], table: &[u16], writable: bool) -
     ensures here { λ r. ⌜ SpaceHere (now (image .entry)) (now (table .entry)) n w r ⌝ }
 {
     let refusal = read::message_refusal(image, table, w);
-    if refusal != 0 {
+    if refusal != refusals::NONE {
         return Space::Refused(refusal);
     }
     space_at(w, n, image, table, writable)
@@ -83,7 +84,7 @@ pub fn find_space(
     ensures table { λ _. ⌜ Declared (first .0) (end .0) (now (table .entry)) (now (table .exit)) ⌝ }
 {
     match Walk::new(first, end).find_message(image, table) {
-        Found::Lost(r) => Space::Refused(r),
+        Found::Refused(r) => Space::Refused(r),
         Found::At(_, w) => space_after(w, n, image, table, writable),
     }
 }

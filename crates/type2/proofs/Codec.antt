@@ -9,7 +9,7 @@ use native.Mathlib.Omega.{arith}
 use borrow.Author.Tests.{eqb-true, eq-eqb}
 use lib.Dec.{eqb}
 use lib.ListN.{length}
-use Rattle.tag.specs.Refusals.{positioned, not-well-formed}
+use Rattle.tag.specs.Refusals.{positioned, malformed-command}
 use Rattle.tag.specs.Stores.{Store, stores}
 use Rattle.tag.proofs.Logic.{and-three, nope}
 use Rattle.tag.proofs.Sending.{Named}
@@ -31,7 +31,7 @@ encode-decode blocks (t ∷ c ∷ r) b bytes e = go (wellFormed blocks (t ∷ c 
   where
     go : (w : Bool) → wellFormed blocks (t ∷ c ∷ r) ≡ w
         → (nameable blocks b ≡ true) × (length bytes ≡ 4) × (t ∷ c ∷ r ≡ commandBytes b bytes)
-    go false q = let z : undecoded (positioned not-well-formed 0) ≡ decoded b bytes = rw q at e in absurd (nope (cc))
+    go false q = let z : undecoded (positioned malformed-command 0) ≡ decoded b bytes = rw q at e in absurd (nope (cc))
     go true q =
         let z : decoded c r ≡ decoded b bytes = rw q at e in
         let same-block : c ≡ b = cc in

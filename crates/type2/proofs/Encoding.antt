@@ -10,7 +10,7 @@ use lib.Dec.{leb, ltb, eqb}
 use lib.ListN.{length, drop, length-drop}
 use lib.Seq.{getD-drop}
 use Rattle.tag.specs.Bytes.{byte}
-use Rattle.tag.specs.Refusals.{positioned, not-well-formed, short-buffer}
+use Rattle.tag.specs.Refusals.{positioned, malformed-command, short-buffer}
 use Rattle.tag.specs.TagType.{withheld, output}
 use Rattle.tag.proofs.Logic.{and-three}
 use Rattle.type2.specs.Codec.{nameable, commandBytes, encode, wellFormed, undecoded, decoded, decode}
@@ -61,7 +61,7 @@ carried bs h =
 -- ---- the three answers of encoding
 
 pub encode-unnamed : (blocks b : ℕ) (bytes : List ℕ) (room : ℕ) → nameable blocks b ≡ false
-    → encode blocks b bytes room ≡ withheld not-well-formed
+    → encode blocks b bytes room ≡ withheld malformed-command
 encode-unnamed blocks b bytes room n = rw n
 
 pub encode-short : (blocks b : ℕ) (bytes : List ℕ) (room : ℕ) → nameable blocks b ≡ true → length bytes ≡ 4 → room < 6
@@ -78,6 +78,6 @@ pub decode-formed : (blocks : ℕ) (bs : List ℕ) → wellFormed blocks bs ≡ 
 unfolding decode
 decode-formed blocks bs h = rw h
 
-pub decode-ill : (blocks : ℕ) (bs : List ℕ) → wellFormed blocks bs ≡ false → decode blocks bs ≡ undecoded (positioned not-well-formed 0)
+pub decode-ill : (blocks : ℕ) (bs : List ℕ) → wellFormed blocks bs ≡ false → decode blocks bs ≡ undecoded (positioned malformed-command 0)
 unfolding decode
 decode-ill blocks bs h = rw h

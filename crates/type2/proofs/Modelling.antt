@@ -8,7 +8,7 @@ use native.Mathlib.Omega.{arith}
 use lib.ListN.{length, drop}
 use lib.Seq.{sets}
 use Rattle.tag.specs.Bytes.{byte}
-use Rattle.tag.specs.Refusals.{not-well-formed}
+use Rattle.tag.specs.Refusals.{malformed-command}
 use Rattle.tag.specs.Reading.{Reading, unreadable, reads, refusalNumber}
 use Rattle.tag.specs.Stores.{ill, stores, formed, done}
 use Rattle.tag.specs.Judging.{Applied}
@@ -58,7 +58,7 @@ module _ (i bs : List ℕ) where
       go (unreadable r) e q = absurd (omega (arith, numbered memory memory-laws i r e .0))
       go (reads p) e q = refl
 
-  pub model-ill : refusalNumber ((type2 .reading) i) ≡ 0 → wellFormed (length i / 4) bs ≡ false → model type2 i bs ≡ unstored not-well-formed
+  pub model-ill : refusalNumber ((type2 .reading) i) ≡ 0 → wellFormed (length i / 4) bs ≡ false → model type2 i bs ≡ unstored malformed-command
   model-ill n e = model-given n ∙ ap (given i) (command-ill i bs e)
 
   pub model-stored : refusalNumber ((type2 .reading) i) ≡ 0 → wellFormed (length i / 4) bs ≡ true

@@ -6,7 +6,7 @@ use Prim.Native.Nat.{ℕ, _*_, _/_}
 use lib.Dec.{leb, ltb, eqb}
 use lib.ListN.{length, drop}
 use Rattle.tag.specs.Bytes.{byte}
-use Rattle.tag.specs.Refusals.{Refusal, positioned, not-well-formed}
+use Rattle.tag.specs.Refusals.{Refusal, positioned, malformed-command}
 use Rattle.tag.specs.Stores.{Store, Command, ill, stores}
 use Rattle.tag.specs.TagType.{Output, withheld, fitted}
 
@@ -19,7 +19,7 @@ commandBytes b bytes = 0xA2 ∷ b ∷ bytes
 
 -- the command written to a buffer with this much room: 20, then 12, else the number of bytes
 abbrev pub encode : ℕ → ℕ → List ℕ → ℕ → Output
-encode blocks b bytes room = cond (nameable blocks b) (fitted room 6 (commandBytes b bytes)) (withheld not-well-formed)
+encode blocks b bytes room = cond (nameable blocks b) (fitted room 6 (commandBytes b bytes)) (withheld malformed-command)
 
 -- a command read: the block and its bytes, or a refusal
 pub data Decoded : Type 0 where
@@ -32,7 +32,7 @@ wellFormed blocks bs = eqb (length bs) 6 && eqb (byte bs 0) 0xA2 && nameable blo
 
 -- one command a call: 20 at position 0
 unfoldable pub decode : ℕ → List ℕ → Decoded
-decode blocks bs = cond (wellFormed blocks bs) (decoded (byte bs 1) (drop 2 bs)) (undecoded (positioned not-well-formed 0))
+decode blocks bs = cond (wellFormed blocks bs) (decoded (byte bs 1) (drop 2 bs)) (undecoded (positioned malformed-command 0))
 
 -- what a command stores: one block
 abbrev pub commandOf : Decoded → Command

@@ -7,7 +7,7 @@ use Prim.Native.Nat.{ℕ, _+_, _*_, _%_}
 use lib.Dec.{leb, eqb}
 use lib.ListN.{length}
 use Rattle.tag.specs.Bytes.{byte}
-use Rattle.tag.specs.Refusals.{image-length, mark-or-checksum, unknown-version, access-or-flags, past-image}
+use Rattle.tag.specs.Refusals.{image-size, not-ndef, unknown-version, bad-access, bad-data-area}
 use Rattle.tag.specs.Checks.{Check, check}
 use Rattle.tag.specs.Version.{knownVersion}
 use Rattle.tlv.specs.Areas.{anyArea}
@@ -21,11 +21,11 @@ imageLength n = eqb (n % 4) 0 && leb 64 n && leb n 1024
 -- refusals 1 to 5, by the image's length and the bytes of the capability container
 abbrev pub containerChecks : ℕ → ℕ → ℕ → ℕ → ℕ → List Check
 containerChecks n mark version size access =
-    check (imageLength n) image-length
-    ∷ check (eqb mark 0xE1) mark-or-checksum
+    check (imageLength n) image-size
+    ∷ check (eqb mark 0xE1) not-ndef
     ∷ check (knownVersion version) unknown-version
-    ∷ check (eqb access 0x00 || eqb access 0x0F) access-or-flags
-    ∷ check (leb (16 + 8 * size) n) past-image
+    ∷ check (eqb access 0x00 || eqb access 0x0F) bad-access
+    ∷ check (leb (16 + 8 * size) n) bad-data-area
     ∷ []
 
 -- an area may lie outside the image

@@ -1,9 +1,11 @@
 // The codec of Type 2's write command: A2h, the block number, four bytes. It is told how many blocks the tag has.
 
 use crate::Command;
+use crate::container;
 use tag::Address;
 use tag::Block;
 use tag::CountAnswer;
+use tag::refusals;
 use tag::slices;
 ghost use mathlib.Core.Path.{_≡_};
 ghost use Prim.Native.Nat.{_/_};
@@ -12,8 +14,14 @@ ghost use Rattle.tag.specs.Bytes.{byte};
 ghost use Rattle.type2.specs.Codec.{nameable, commandBytes, wellFormed, decoded};
 ghost use Rattle.type2.specs.CodecViews.{commandAs, EncodedTo, DecodedTo};
 
+// Where a command has its four bytes.
+pub const DATA: usize = 2;
+
 // The bytes of a command.
-pub const LENGTH: usize = 6;
+pub const LENGTH: usize = DATA + container::BLOCK_SIZE;
+
+// The first block that a command may name: the data area begins there.
+const FIRST_BLOCK: usize = container::FIRST / container::BLOCK_SIZE;
 
 // The answer of `decode`: a refusal with a command of zeros, or 0 and the command.
 pub struct Decoded {
@@ -25,7 +33,7 @@ pub struct Decoded {
 fn nameable(block: usize, blocks: usize) -> bool
     ensures { λ r. ⌜ r ≡ nameable blocks block ⌝ }
 {
-    if block < 4 {
+    if block < FIRST_BLOCK {
         return false;
     }
     if blocks <= block {
@@ -35,7 +43,7 @@ fn nameable(block: usize, blocks: usize) -> bool
 }
 
 // The six bytes of a command, whether or not its block may be named.
-pub fn command_bytes(block: u8, four: [u8; 4]) -> [u8; 6]
+pub fn command_bytes(block: u8, four: [u8; container::BLOCK_SIZE]) -> [u8; LENGTH]
     ensures { λ r. ⌜ r ≡ commandBytes block four ⌝ }
 {
     [0xA2, block, four[0], four[1], four[2], four[3]]
@@ -48,21 +56,21 @@ pub fn encode(command: Command, blocks: usize, bytes: &mut [u8]) -> CountAnswer
     let block = command.block.0;
     let four = command.bytes;
     if !nameable(block, blocks) {
-        return CountAnswer::Refused(20);
+        return CountAnswer::Refused(refusals::MALFORMED_COMMAND);
     }
-    if bytes.len() < 6 {
-        return CountAnswer::Refused(12);
+    if bytes.len() < LENGTH {
+        return CountAnswer::Refused(refusals::SHORT_BUFFER);
     }
     let whole = command_bytes(block as u8, four);
     slices::store(&whole, 0, bytes);
-    CountAnswer::Count(6)
+    CountAnswer::Count(LENGTH)
 }
 
 // Whether the bytes are a well-formed command.
 pub(crate) fn is_command(bytes: &[u8], blocks: usize) -> bool
     ensures { λ r. ⌜ r ≡ wellFormed blocks (now (bytes .entry)) ⌝ }
 {
-    if bytes.len() != 6 {
+    if bytes.len() != LENGTH {
         return false;
     }
     if bytes[0] != 0xA2 {
@@ -75,7 +83,7 @@ pub(crate) fn is_command(bytes: &[u8], blocks: usize) -> bool
 pub(crate) fn is_command_for(bytes: &[u8], image: &[u8]) -> bool
     ensures { λ r. ⌜ r ≡ wellFormed (length (now (image .entry)) / 4) (now (bytes .entry)) ⌝ }
 {
-    let end = Address(image.len()).block(4);
+    let end = Address(image.len()).block(container::BLOCK_SIZE);
     is_command(bytes, end.0)
 }
 
@@ -96,16 +104,16 @@ pub fn decode(bytes: &[u8], blocks: usize) -> Decoded
     if is_command(bytes, blocks) {
         let command = carried(bytes);
         return Decoded {
-            refusal: 0,
+            refusal: refusals::NONE,
             command,
         };
     }
     let command = Command {
         block: Block(0),
-        bytes: [0u8; 4],
+        bytes: [0u8; container::BLOCK_SIZE],
     };
     Decoded {
-        refusal: 20,
+        refusal: refusals::MALFORMED_COMMAND,
         command,
     }
 }

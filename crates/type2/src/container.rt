@@ -1,6 +1,7 @@
 // The capability container: refusals 1 to 5, and the data area.
 
 use tag::Address;
+use tag::refusals;
 use tag::version;
 ghost use mathlib.Core.Path.{_≡_};
 ghost use lib.ListN.{length, drop};
@@ -8,6 +9,27 @@ ghost use Prim.Native.Nat.{_≤_};
 ghost use Rattle.tag.specs.Checks.{firstOf};
 ghost use Rattle.type2.specs.Memory.{memory};
 ghost use Rattle.type2.specs.Views.{checkedAs, Known};
+
+// The bytes of a block.
+pub const BLOCK_SIZE: usize = 4;
+
+// An image has so many bytes at least.
+pub const SHORTEST_IMAGE: usize = 64;
+
+// And so many at most.
+pub const LONGEST_IMAGE: usize = 1024;
+
+// The blocks of the longest image.
+pub const MOST_BLOCKS: usize = LONGEST_IMAGE / BLOCK_SIZE;
+
+// The addresses of the container's four bytes, from here to ACCESS.
+pub const MARK: usize = 12;
+
+const VERSION: usize = 13;
+
+const SIZE: usize = 14;
+
+const ACCESS: usize = 15;
 
 // The data area's first address.
 pub const FIRST: usize = 16;
@@ -24,10 +46,10 @@ fn area(image: &[u8], writable: bool) -> DataArea
     ensures is { λ r. ⌜ checkedAs r ≡ firstOf (drop 4 ((memory .checks) (now (image .entry)))) ⌝ }
     ensures known { λ r. ⌜ Known (now (image .entry)) writable r ⌝ }
 {
-    let size = image[14] as usize;
+    let size = image[SIZE] as usize;
     let end = FIRST + 8 * size;
     if image.len() < end {
-        return DataArea::Refused(5);
+        return DataArea::Refused(refusals::BAD_DATA_AREA);
     }
     DataArea::Inside(Address(end), writable)
 }
@@ -38,26 +60,26 @@ pub fn data_area(image: &[u8]) -> DataArea
     ensures known { λ r. ⌜ Known (now (image .entry)) ((memory .writable) (now (image .entry))) r ⌝ }
 {
     let n = image.len();
-    if n % 4 != 0 {
-        return DataArea::Refused(1);
+    if n % BLOCK_SIZE != 0 {
+        return DataArea::Refused(refusals::IMAGE_SIZE);
     }
-    if n < 64 {
-        return DataArea::Refused(1);
+    if n < SHORTEST_IMAGE {
+        return DataArea::Refused(refusals::IMAGE_SIZE);
     }
-    if 1024 < n {
-        return DataArea::Refused(1);
+    if LONGEST_IMAGE < n {
+        return DataArea::Refused(refusals::IMAGE_SIZE);
     }
-    if image[12] != 0xE1 {
-        return DataArea::Refused(2);
+    if image[MARK] != 0xE1 {
+        return DataArea::Refused(refusals::NOT_NDEF);
     }
-    if !version::is_known(image[13]) {
-        return DataArea::Refused(3);
+    if !version::is_known(image[VERSION]) {
+        return DataArea::Refused(refusals::UNKNOWN_VERSION);
     }
-    if image[15] == 0x00 {
+    if image[ACCESS] == 0x00 {
         return area(image, true);
     }
-    if image[15] == 0x0F {
+    if image[ACCESS] == 0x0F {
         return area(image, false);
     }
-    DataArea::Refused(4)
+    DataArea::Refused(refusals::BAD_ACCESS)
 }

@@ -10,5 +10,5 @@ use tag::Block;
 // A write command: the block and its four bytes.
 pub struct Command {
     pub block: Block,
-    pub bytes: [u8; 4],
+    pub bytes: [u8; container::BLOCK_SIZE],
 }

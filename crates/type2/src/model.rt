@@ -1,9 +1,11 @@
 // A Type 2 tag as a model that takes one command a call.
 
 use crate::commands;
+use crate::container;
 use crate::read;
 use tag::Block;
 use tag::ModelAnswer;
+use tag::refusals;
 use tag::slices;
 ghost use mathlib.Core.Path.{_≡_};
 ghost use mathlib.Core.Bool.{true};
@@ -22,9 +24,9 @@ fn store_block(image: &mut [u8], command: &[u8])
     ensures { λ _. ⌜ now (image .exit) ≡ sets (now (image .entry)) (4 * byte (now (command .entry)) 1) (drop 2 (now (command .entry))) ⌝ }
 {
     let block = Block(command[1] as usize);
-    let first = block.address(4);
+    let first = block.address(container::BLOCK_SIZE);
     let at = first.0;
-    slices::store(&command[2..], at, image);
+    slices::store(&command[commands::DATA..], at, image);
 }
 
 // Stores what the command says, and answers whether it is well formed; nothing is stored if it is not.
@@ -44,11 +46,11 @@ pub fn model(image: &mut [u8], command: &[u8]) -> ModelAnswer
     ensures { λ r. ⌜ Took type2 (now (image .entry)) (now (command .entry)) r (now (image .exit)) ⌝ }
 {
     let refusal = read::refusal(image);
-    if refusal != 0 {
+    if refusal != refusals::NONE {
         return ModelAnswer::Refused(refusal);
     }
     if take_command(image, command) {
         return ModelAnswer::Stored;
     }
-    ModelAnswer::Refused(20)
+    ModelAnswer::Refused(refusals::MALFORMED_COMMAND)
 }

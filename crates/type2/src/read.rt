@@ -37,7 +37,7 @@ fn read_with(image: &[u8], gathered: &mut [u8], table: &mut [u16]) -> ReadAnswer
 pub fn read(image: &[u8], gathered: &mut [u8]) -> ReadAnswer
     ensures { λ r. ⌜ Read (type2 .reading) (now (image .entry)) (now (gathered .entry)) r (now (gathered .exit)) ⌝ }
 {
-    let mut table = [0u16; 1024];
+    let mut table = [0u16; container::LONGEST_IMAGE];
     read_with(image, gathered, &mut table)
 }
 
@@ -69,6 +69,6 @@ fn refusal_with(image: &[u8], table: &mut [u16]) -> u8
 pub(crate) fn refusal(image: &[u8]) -> u8
     ensures { λ r. ⌜ r ≡ refusalNumber ((type2 .reading) (now (image .entry))) ⌝ }
 {
-    let mut table = [0u16; 1024];
+    let mut table = [0u16; container::LONGEST_IMAGE];
     refusal_with(image, &mut table)
 }

@@ -4,7 +4,9 @@
 use tag::Address;
 use tag::Block;
 use tag::CountAnswer;
+use tag::refusals;
 use type2::commands;
+use type2::container;
 ghost use mathlib.Core.Path.{_≡_};
 ghost use mathlib.Core.Bool.{cond};
 ghost use mathlib.Core.List.{_++_};
@@ -20,7 +22,7 @@ fn put_block(image: &[u8], block: Block, out: &mut [u8])
     requires { ⌜ (4 * block .0 + 4 ≤ length (now image)) × (block .0 < 256) × (6 ≤ length (now out)) ⌝ }
     ensures { λ _. ⌜ now (out .exit) ≡ blockBytes (now (image .entry)) (block .0) ++ drop 6 (now (out .entry)) ⌝ }
 {
-    let first = block.address(4);
+    let first = block.address(container::BLOCK_SIZE);
     let at = first.0;
     let four = [image[at], image[at + 1], image[at + 2], image[at + 3]];
     let command = commands::command_bytes(block.0 as u8, four);
@@ -32,11 +34,11 @@ fn put_shut(image: &[u8], first: Address, out: &mut [u8])
     requires { ⌜ (4 * (first .0 / 4) + 4 ≤ length (now image)) × (first .0 < 1024) × (6 ≤ length (now out)) ⌝ }
     ensures { λ _. ⌜ now (out .exit) ≡ blockBytes (set (now (image .entry)) (first .0) 0) (first .0 / 4) ++ drop 6 (now (out .entry)) ⌝ }
 {
-    let guard = first.block(4);
+    let guard = first.block(container::BLOCK_SIZE);
     put_block(image, guard, out);
-    let start = guard.address(4);
+    let start = guard.address(container::BLOCK_SIZE);
     let offset = first.0 - start.0;
-    out[2 + offset] = 0x00;
+    out[commands::DATA + offset] = 0x00;
 }
 
 // How many of the first `blocks` blocks are marked.
@@ -66,7 +68,7 @@ fn put_if_marked(image: &[u8], marks: &[u8], block: Block, at: usize, out: &mut 
         return at;
     }
     put_block(image, block, &mut out[at..]);
-    at + 6
+    at + commands::LENGTH
 }
 
 // Writes the commands of the marked ones of the first `blocks` blocks, rising, to the front of `out`.
@@ -95,16 +97,20 @@ pub(crate) fn put_list(
     ensures answer { λ r. ⌜ countAs r ≡ countOf (guardedOutput (length (now (list .entry))) (now (image .entry)) (now (new .entry)) (now (marks .entry)) (first .0)) ⌝ }
     ensures buffer { λ _. ⌜ now (list .exit) ≡ outputInto (now (list .entry)) (guardedOutput (length (now (list .entry))) (now (image .entry)) (now (new .entry)) (now (marks .entry)) (first .0)) ⌝ }
 {
-    let end = Address(image.len()).block(4);
+    let end = Address(image.len()).block(container::BLOCK_SIZE);
     let blocks = end.0;
     let between = count_marked(marks, blocks);
     let count = between + 2;
-    if list.len() < 6 * count {
-        return CountAnswer::Refused(12);
+    if list.len() < commands::LENGTH * count {
+        return CountAnswer::Refused(refusals::SHORT_BUFFER);
     }
     put_shut(image, first, list);
-    put_marked(new, marks, blocks, &mut list[6..]);
-    let guard = first.block(4);
-    put_block(new, guard, &mut list[6 * between + 6..]);
+    put_marked(new, marks, blocks, &mut list[commands::LENGTH..]);
+    let guard = first.block(container::BLOCK_SIZE);
+    put_block(
+        new,
+        guard,
+        &mut list[commands::LENGTH * between + commands::LENGTH..],
+    );
     CountAnswer::Count(count)
 }

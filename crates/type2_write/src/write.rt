@@ -78,8 +78,8 @@ fn write_on(
 pub fn write(image: &[u8], message: &[u8], list: &mut [u8]) -> CountAnswer
     ensures { λ r. ⌜ Wrote type2 (now (image .entry)) (now (message .entry)) (now (list .entry)) r (now (list .exit)) ⌝ }
 {
-    let mut table = [0u16; 1024];
-    let mut new = [0u8; 1024];
-    let mut marks = [0u8; 256];
+    let mut table = [0u16; container::LONGEST_IMAGE];
+    let mut new = [0u8; container::LONGEST_IMAGE];
+    let mut marks = [0u8; container::MOST_BLOCKS];
     write_on(image, message, &mut table, &mut new, &mut marks, list)
 }

@@ -12,7 +12,7 @@ use lib.Dec.{leb, eqb}
 use lib.ListN.{length, take, drop, length-append, length-take, length-drop, length-map, take-append-drop}
 use lib.Seq.{take-at, drop-at, drop-drop, getD-at, split-at}
 use Rattle.tag.specs.Bytes.{byte, same, has}
-use Rattle.tag.specs.Refusals.{positioned, not-well-formed}
+use Rattle.tag.specs.Refusals.{positioned, malformed-command}
 use Rattle.tag.specs.Stores.{Store, stores}
 use Rattle.tag.proofs.Logic.{and-l, and-r, and-three, same-eq, same-refl, nope}
 use Rattle.tag.proofs.Addresses.{Above, Rising, above-rising}
@@ -83,7 +83,7 @@ past-count o c rest l = sym (drop-drop 1 12 (o ++ c ∷ rest)) ∙ ap (drop 1) (
 
 -- a command taken apart, whatever opens it
 opened : (o : List ℕ) (nbw nmaxb c : ℕ) (rest : List ℕ) → length o ≡ 12
-    → cond (same (take 12 (o ++ c ∷ rest)) o) (decodeBy nbw nmaxb (namesOf (byte (o ++ c ∷ rest) 12) (drop 13 (o ++ c ∷ rest)))) (undecoded (positioned not-well-formed 0))
+    → cond (same (take 12 (o ++ c ∷ rest)) o) (decodeBy nbw nmaxb (namesOf (byte (o ++ c ∷ rest) 12) (drop 13 (o ++ c ∷ rest)))) (undecoded (positioned malformed-command 0))
     ≡ decodeBy nbw nmaxb (namesOf c rest)
 opened o nbw nmaxb c rest l =
     rw (take-at o (c ∷ rest) 12 l, same-refl o, getD-at o c rest 0 12 l, past-count o c rest l)
@@ -109,7 +109,7 @@ decoded-names nbw nmaxb (names cs r) bs bytes e = go (wellNamed nbw nmaxb cs && 
   where
     go : (w : Bool) → wellNamed nbw nmaxb cs && eqb (length r) (16 * length cs) ≡ w
         → (names cs r ≡ names bs bytes) × (wellNamed nbw nmaxb bs ≡ true) × (length bytes ≡ 16 * length bs)
-    go false q = let z : undecoded (positioned not-well-formed 0) ≡ decoded bs bytes = rw q at e in absurd (nope (cc))
+    go false q = let z : undecoded (positioned malformed-command 0) ≡ decoded bs bytes = rw q at e in absurd (nope (cc))
     go true q =
         let z : decoded cs r ≡ decoded bs bytes = rw q at e in
         let same-names : cs ≡ bs = cc in
@@ -128,7 +128,7 @@ decoded-opening number nbw nmaxb all bs bytes e = go (same (take 12 all) (openin
   where
     go : (q : Bool) → same (take 12 all) (opening number) ≡ q
         → (take 12 all ≡ opening number) × (decodeBy nbw nmaxb (namesOf (byte all 12) (drop 13 all)) ≡ decoded bs bytes)
-    go false q = let z : undecoded (positioned not-well-formed 0) ≡ decoded bs bytes = rw q at e in absurd (nope (cc))
+    go false q = let z : undecoded (positioned malformed-command 0) ≡ decoded bs bytes = rw q at e in absurd (nope (cc))
     go true q = (same-eq (take 12 all) (opening number) q, rw q at e)
 
 -- a byte that is not 0 lies inside its list

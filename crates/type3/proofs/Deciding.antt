@@ -6,7 +6,7 @@ use mathlib.Core.List.{List, [], _∷_}
 use Prim.Native.Nat.{ℕ, zero, suc}
 use lib.Dec.{eqb}
 use lib.ListN.{length}
-use Rattle.tag.specs.Refusals.{nothing-to-write, not-writable, too-long}
+use Rattle.tag.specs.Refusals.{empty-message, not-writable, message-too-long}
 use Rattle.tag.specs.Checks.{Checked, check, fine, fault, firstOf}
 use Rattle.tag.specs.TagType.{unwritten, written, planned, writingBy, writing}
 use Rattle.type3.specs.declared.read.Attributes.{Attributes}
@@ -24,7 +24,7 @@ module _ (number i m : List ℕ) where
 
   -- the tests that are left for a tag that reads
   abbrev left : Checked
-  left = firstOf (check (not (eqb (length m) 0)) nothing-to-write ∷ check (mayWrite i) not-writable ∷ check (fits i (length m)) too-long ∷ [])
+  left = firstOf (check (not (eqb (length m) 0)) empty-message ∷ check (mayWrite i) not-writable ∷ check (fits i (length m)) message-too-long ∷ [])
 
   writing-left : firstOf (attributeChecks (length i) (attributes i)) ≡ fine → writing (type3 number) i m ≡ planned (plan i m) left
   unfolding writing
@@ -37,8 +37,8 @@ module _ (number i m : List ℕ) where
     left-is = rw (known .known .says .writable-is, known .known .says .nmaxb-is) (go (eqb (length m) 0) (mayWrite i) (fits i (length m)))
       where
         go : (none may room : Bool)
-            → firstOf (check (not none) nothing-to-write ∷ check may not-writable ∷ check room too-long ∷ [])
-            ≡ faultAs (cond none nothing-to-write (cond may (cond room 0 too-long) not-writable))
+            → firstOf (check (not none) empty-message ∷ check may not-writable ∷ check room message-too-long ∷ [])
+            ≡ faultAs (cond none empty-message (cond may (cond room 0 message-too-long) not-writable))
         go true may room = refl
         go false false room = refl
         go false true false = refl

@@ -11,7 +11,7 @@ use lib.ListN.{length, take, drop, replicate, length-drop}
 use lib.Seq.{take-at, drop-drop, split-at}
 use Rattle.tag.specs.declared.Block.{Block}
 use Rattle.tag.specs.Bytes.{byte, same, overwrite}
-use Rattle.tag.specs.Refusals.{Refusal, positioned, not-well-formed}
+use Rattle.tag.specs.Refusals.{Refusal, positioned, malformed-command}
 use Rattle.tag.proofs.Logic.{and-l, and-r, and-three, and-both, same-eq, same-refl, true-false, nope}
 use Rattle.type3.specs.declared.Command.{Command}
 use Rattle.type3.specs.Update.{blocksPerCommand}
@@ -146,21 +146,21 @@ decoded-framed number nbw nmaxb all bs bytes e =
     )
 
 -- whatever does not decode is refused with 20
-undecoded-by : (nbw nmaxb : ℕ) (ns : Names) (r : Refusal) → decodeBy nbw nmaxb ns ≡ undecoded r → r ≡ positioned not-well-formed 0
+undecoded-by : (nbw nmaxb : ℕ) (ns : Names) (r : Refusal) → decodeBy nbw nmaxb ns ≡ undecoded r → r ≡ positioned malformed-command 0
 unfolding decodeBy
 undecoded-by nbw nmaxb no-names r e = cc
 undecoded-by nbw nmaxb (names cs t) r e = go (wellNamed nbw nmaxb cs && eqb (length t) (16 * length cs)) refl
   where
-    go : (q : Bool) → wellNamed nbw nmaxb cs && eqb (length t) (16 * length cs) ≡ q → r ≡ positioned not-well-formed 0
-    go false q = let z : undecoded (positioned not-well-formed 0) ≡ undecoded r = rw q at e in cc
+    go : (q : Bool) → wellNamed nbw nmaxb cs && eqb (length t) (16 * length cs) ≡ q → r ≡ positioned malformed-command 0
+    go false q = let z : undecoded (positioned malformed-command 0) ≡ undecoded r = rw q at e in cc
     go true q = let z : decoded cs t ≡ undecoded r = rw q at e in absurd (nope (cc))
 
-undecoded-is : (number : List ℕ) (nbw nmaxb : ℕ) (all : List ℕ) (r : Refusal) → decode number nbw nmaxb all ≡ undecoded r → r ≡ positioned not-well-formed 0
+undecoded-is : (number : List ℕ) (nbw nmaxb : ℕ) (all : List ℕ) (r : Refusal) → decode number nbw nmaxb all ≡ undecoded r → r ≡ positioned malformed-command 0
 unfolding decode
 undecoded-is number nbw nmaxb all r e = go (same (take 12 all) (opening number)) refl
   where
-    go : (q : Bool) → same (take 12 all) (opening number) ≡ q → r ≡ positioned not-well-formed 0
-    go false q = let z : undecoded (positioned not-well-formed 0) ≡ undecoded r = rw q at e in cc
+    go : (q : Bool) → same (take 12 all) (opening number) ≡ q → r ≡ positioned malformed-command 0
+    go false q = let z : undecoded (positioned malformed-command 0) ≡ undecoded r = rw q at e in cc
     go true q = undecoded-by nbw nmaxb (namesOf (byte all 12) (drop 13 all)) r (rw q at e)
 
 module _ (number : List ℕ) (nbw nmaxb : ℕ) (all : List ℕ) where
@@ -182,10 +182,10 @@ module _ (number : List ℕ) (nbw nmaxb : ℕ) (all : List ℕ) where
           let z : undecoded u ≡ carried all = sym q ∙ decode-framed number nbw all p nmaxb n r in
           absurd (nope (cc))
 
-  pub decode-refused : isCommand (decode number nbw nmaxb all) ≡ false → decode number nbw nmaxb all ≡ undecoded (positioned not-well-formed 0)
+  pub decode-refused : isCommand (decode number nbw nmaxb all) ≡ false → decode number nbw nmaxb all ≡ undecoded (positioned malformed-command 0)
   decode-refused h = go (decode number nbw nmaxb all) refl
     where
-      go : (d : Decoded) → decode number nbw nmaxb all ≡ d → decode number nbw nmaxb all ≡ undecoded (positioned not-well-formed 0)
+      go : (d : Decoded) → decode number nbw nmaxb all ≡ d → decode number nbw nmaxb all ≡ undecoded (positioned malformed-command 0)
       go (undecoded r) q = q ∙ ap undecoded (undecoded-is number nbw nmaxb all r q)
       go (decoded bs bytes) q = absurd (true-false (ap isCommand q) h)
 

@@ -10,7 +10,7 @@ use lib.Dec.{leb, eqb}
 use lib.ListN.{length, take, drop, length-append, length-take, length-drop}
 use lib.Seq.{sets, drop-cons, drop-drop, take-add, length-take-le}
 use Rattle.tag.specs.Bytes.{byte, same, overwrite}
-use Rattle.tag.specs.Refusals.{not-well-formed, short-buffer}
+use Rattle.tag.specs.Refusals.{malformed-command, short-buffer}
 use Rattle.tag.specs.TagType.{withheld, output}
 use Rattle.tag.proofs.Logic.{and-l, and-r}
 use Rattle.tag.proofs.Same.{same-append}
@@ -86,10 +86,10 @@ command-stored l number bs bytes n s h =
 -- ---- the three answers of encoding
 
 pub encode-unnamed : (number : List ℕ) (nbw nmaxb n : ℕ) (bs bytes : List ℕ) (room : ℕ)
-    → leb n (length bs) && wellNamed nbw nmaxb (take n bs) ≡ false → encode number nbw nmaxb n bs bytes room ≡ withheld not-well-formed
+    → leb n (length bs) && wellNamed nbw nmaxb (take n bs) ≡ false → encode number nbw nmaxb n bs bytes room ≡ withheld malformed-command
 encode-unnamed number nbw nmaxb n bs bytes room h = go (leb n (length bs)) refl
   where
-    go : (q : Bool) → leb n (length bs) ≡ q → encode number nbw nmaxb n bs bytes room ≡ withheld not-well-formed
+    go : (q : Bool) → leb n (length bs) ≡ q → encode number nbw nmaxb n bs bytes room ≡ withheld malformed-command
     go false q = rw q
     go true q =
         let k : wellNamed nbw nmaxb (take n bs) ≡ false = rw q at h in

@@ -8,7 +8,7 @@ use native.Mathlib.Omega.{arith}
 use borrow.Author.Tests.{lt-ltb, le-ltb}
 use lib.ListN.{length}
 use Rattle.tag.specs.Bytes.{byte}
-use Rattle.tag.specs.Refusals.{positioned, not-well-formed}
+use Rattle.tag.specs.Refusals.{positioned, malformed-command}
 use Rattle.tag.specs.Checks.{fine, fault, firstOf}
 use Rattle.tag.specs.Stores.{Store, ill, stores, formed, done}
 use Rattle.tag.specs.Judging.{Applied}
@@ -24,7 +24,7 @@ use Rattle.type3.proofs.Message.{unread, passes-reads}
 -- ---- which commands are taken
 
 module _ (n : ℕ) (number : List ℕ) (nbw nmaxb : ℕ) (bytes : List ℕ) where
-  pub decode-past : n / 16 ≤ nmaxb → decodeFor n number nbw nmaxb bytes ≡ undecoded (positioned not-well-formed 0)
+  pub decode-past : n / 16 ≤ nmaxb → decodeFor n number nbw nmaxb bytes ≡ undecoded (positioned malformed-command 0)
   decode-past l = rw (le-ltb nmaxb (n / 16) l)
 
   pub decode-inside : nmaxb < n / 16 → decodeFor n number nbw nmaxb bytes ≡ decode number nbw nmaxb bytes
@@ -73,7 +73,7 @@ module _ (number i bytes : List ℕ) where
   model-given : firstOf (attributeChecks (length i) (attributes i)) ≡ fine → model (type3 number) i bytes ≡ given i (commandOf d)
   model-given e = ap (λ v. modelBy i v (commandOf d)) (passes-reads i e .1)
 
-  pub model-ill : firstOf (attributeChecks (length i) (attributes i)) ≡ fine → isCommand d ≡ false → model (type3 number) i bytes ≡ unstored not-well-formed
+  pub model-ill : firstOf (attributeChecks (length i) (attributes i)) ≡ fine → isCommand d ≡ false → model (type3 number) i bytes ≡ unstored malformed-command
   model-ill e q = model-given e ∙ ap (given i) (ill-command d q)
 
   pub model-stored : firstOf (attributeChecks (length i) (attributes i)) ≡ fine → isCommand d ≡ true → model (type3 number) i bytes ≡ stored (done i (commandOf d))

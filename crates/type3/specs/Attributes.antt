@@ -6,7 +6,7 @@ use mathlib.Core.List.{List, [], _∷_}
 use Prim.Native.Nat.{ℕ, _+_, _*_, _%_}
 use lib.Dec.{leb, eqb}
 use Rattle.tag.specs.Bytes.{byte}
-use Rattle.tag.specs.Refusals.{image-length, mark-or-checksum, unknown-version, access-or-flags, past-image, bad-length}
+use Rattle.tag.specs.Refusals.{image-size, not-ndef, unknown-version, bad-access, bad-data-area, bad-length}
 use Rattle.tag.specs.Checks.{Check, check}
 use Rattle.tag.specs.Version.{knownVersion}
 
@@ -57,11 +57,11 @@ flagsDefined a =
 -- refusals 1 to 5 and 7, by the image's length and the attributes; 7 whatever WriteFlag says
 abbrev pub attributeChecks : ℕ → Attributes → List Check
 attributeChecks n a =
-    check (imageLength n) image-length
-    ∷ check (eqb (a .sum) (a .checksum)) mark-or-checksum
+    check (imageLength n) image-size
+    ∷ check (eqb (a .sum) (a .checksum)) not-ndef
     ∷ check (knownVersion (a .version)) unknown-version
-    ∷ check (flagsDefined a) access-or-flags
-    ∷ check (leb (16 * (1 + a .nmaxb)) n) past-image
+    ∷ check (flagsDefined a) bad-access
+    ∷ check (leb (16 * (1 + a .nmaxb)) n) bad-data-area
     ∷ check (leb (a .ln) (16 * a .nmaxb)) bad-length
     ∷ []
 

@@ -8,7 +8,7 @@ use Prim.Native.Nat.{ℕ, zero, suc, _+_, _*_, _/_}
 use lib.Dec.{leb, eqb}
 use lib.ListN.{length, take, drop}
 use Rattle.tag.specs.Bytes.{byte, same, has}
-use Rattle.tag.specs.Refusals.{Refusal, positioned, not-well-formed}
+use Rattle.tag.specs.Refusals.{Refusal, positioned, malformed-command}
 use Rattle.tag.specs.Stores.{Store, Command, ill, stores}
 use Rattle.tag.specs.TagType.{Output, withheld, fitted}
 use Rattle.type3.specs.Update.{blocksPerCommand}
@@ -63,12 +63,12 @@ commandBytes number bs bytes = opening number ++ length bs ∷ namesBytes bs ++ 
 -- these blocks and their bytes: 20, then 12, else the number of bytes
 abbrev pub encodeBy : List ℕ → ℕ → ℕ → List ℕ → List ℕ → ℕ → Output
 encodeBy number nbw nmaxb bs bytes room =
-    cond (wellNamed nbw nmaxb bs) (fitted room (13 + 18 * length bs) (commandBytes number bs bytes)) (withheld not-well-formed)
+    cond (wellNamed nbw nmaxb bs) (fitted room (13 + 18 * length bs) (commandBytes number bs bytes)) (withheld malformed-command)
 
 -- the first b of the blocks and 16·b of the bytes, written to a buffer with this much room: 20, then 12, else the number of bytes
 abbrev pub encode : List ℕ → ℕ → ℕ → ℕ → List ℕ → List ℕ → ℕ → Output
 encode number nbw nmaxb b bs bytes room =
-    cond (leb b (length bs)) (encodeBy number nbw nmaxb (take b bs) (take (16 * b) bytes) room) (withheld not-well-formed)
+    cond (leb b (length bs)) (encodeBy number nbw nmaxb (take b bs) (take (16 * b) bytes) room) (withheld malformed-command)
 
 -- a command read: the blocks and their bytes, or a refusal
 pub data Decoded : Type 0 where
@@ -77,13 +77,13 @@ pub data Decoded : Type 0 where
 
 -- by the names, once the opening and the count are taken; one command a call: 20 at position 0
 unfoldable pub decodeBy : ℕ → ℕ → Names → Decoded
-decodeBy nbw nmaxb no-names = undecoded (positioned not-well-formed 0)
+decodeBy nbw nmaxb no-names = undecoded (positioned malformed-command 0)
 decodeBy nbw nmaxb (names bs bytes) =
-    cond (wellNamed nbw nmaxb bs && eqb (length bytes) (16 * length bs)) (decoded bs bytes) (undecoded (positioned not-well-formed 0))
+    cond (wellNamed nbw nmaxb bs && eqb (length bytes) (16 * length bs)) (decoded bs bytes) (undecoded (positioned malformed-command 0))
 
 unfoldable pub decode : List ℕ → ℕ → ℕ → List ℕ → Decoded
 decode number nbw nmaxb bytes =
-    cond (same (take 12 bytes) (opening number)) (decodeBy nbw nmaxb (namesOf (byte bytes 12) (drop 13 bytes))) (undecoded (positioned not-well-formed 0))
+    cond (same (take 12 bytes) (opening number)) (decodeBy nbw nmaxb (namesOf (byte bytes 12) (drop 13 bytes))) (undecoded (positioned malformed-command 0))
 
 -- what a command stores: sixteen bytes for each block
 abbrev pub storesOf : List ℕ → List ℕ → List Store

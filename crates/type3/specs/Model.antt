@@ -6,7 +6,7 @@ use Prim.Native.Nat.{ℕ, _+_, _-_, _*_, _/_, _<_, _≤_}
 use lib.Dec.{ltb}
 use lib.ListN.{length, drop}
 use Rattle.tag.specs.Bytes.{byte}
-use Rattle.tag.specs.Refusals.{positioned, not-well-formed}
+use Rattle.tag.specs.Refusals.{positioned, malformed-command}
 use Rattle.tag.specs.Stores.{Store}
 use Rattle.type3.specs.Codec.{Decoded, undecoded, decode, storesOf}
 use Rattle.type3.specs.InPlace.{numbers}
@@ -23,4 +23,4 @@ pub record Storable (bytes : List ℕ) (n : ℕ) : Type 0 where
 
 -- a command for an image of n bytes: blocks 0 to Nmaxb lie in it
 abbrev pub decodeFor : ℕ → List ℕ → ℕ → ℕ → List ℕ → Decoded
-decodeFor n number nbw nmaxb bytes = cond (ltb nmaxb (n / 16)) (decode number nbw nmaxb bytes) (undecoded (positioned not-well-formed 0))
+decodeFor n number nbw nmaxb bytes = cond (ltb nmaxb (n / 16)) (decode number nbw nmaxb bytes) (undecoded (positioned malformed-command 0))

@@ -19,7 +19,7 @@ use Rattle.type3.specs.Attributes.{nmaxbOf, attributes, attributeChecks,
 -- ---- the attributes
 
 abbrev pub checkedAs : code.Checked → Checked
-checkedAs (checked.Fault r) = fault r
+checkedAs (checked.Refused r) = fault r
 checkedAs (checked.Fine a) = fine
 
 -- a refusal as the checks have it; 0 is none
@@ -54,7 +54,7 @@ pub record Readable (i : List ℕ) (a : Attributes) : Type 0 where
   pub known : Attests i a
 
 abbrev pub Known : List ℕ → code.Checked → Type 0
-Known i (checked.Fault r) = Unit {0}
+Known i (checked.Refused r) = Unit {0}
 Known i (checked.Fine a) = Attests i a
 
 -- ---- the answer of reading

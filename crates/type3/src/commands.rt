@@ -3,9 +3,11 @@
 
 use crate::Command;
 use crate::names;
+use crate::read;
 use tag::Block;
 use tag::CountAnswer;
 use tag::numbers;
+use tag::refusals;
 use tag::slices;
 ghost use mathlib.Core.Path.{_≡_};
 ghost use mathlib.Core.Bool.{_&&_};
@@ -19,6 +21,21 @@ ghost use Rattle.type3.specs.Update.{blocksPerCommand};
 ghost use Rattle.type3.specs.Codec.{nameable, wellNamed, opening, commandBytes, encode, decode, span};
 ghost use Rattle.type3.specs.InPlace.{numbers, framed, carried};
 ghost use Rattle.type3.specs.CodecViews.{commandAs, isCommand, EncodedTo, DecodedTo, PutAsked, Framed};
+
+// A command may name so many blocks.
+pub const MOST_BLOCKS: usize = 8;
+
+// Where a command has its block count.
+pub(crate) const COUNT: usize = 12;
+
+// The bytes of a command before the names of its blocks; the count is the last of them.
+pub const FRONT: usize = COUNT + 1;
+
+// The bytes that a command has for each block: its name and its data.
+pub const PER_BLOCK: usize = names::LENGTH + read::BLOCK_SIZE;
+
+// The data of as many blocks as a command may name.
+pub const MOST_BYTES: usize = MOST_BLOCKS * read::BLOCK_SIZE;
 
 // The answer of `decode`: a refusal with an empty command, or 0 and the command.
 pub struct Decoded {
@@ -36,14 +53,14 @@ fn countable(count: usize, nbw: usize) -> bool
     if nbw < count {
         return false;
     }
-    if 8 < count {
+    if MOST_BLOCKS < count {
         return false;
     }
     true
 }
 
 // The bytes up to the block count, and the count.
-pub fn opening(number: [u8; 8], count: u8) -> [u8; 13]
+pub fn opening(number: [u8; 8], count: u8) -> [u8; FRONT]
     ensures { λ r. ⌜ r ≡ opening number ++ (count ∷ []) ⌝ }
 {
     [
@@ -72,7 +89,7 @@ fn put(number: [u8; 8], blocks: &[usize], sixteens: &[u8], bytes: &mut [u8])
     let front = opening(number, count as u8);
     slices::store(&front, 0, bytes);
     names::put(blocks, bytes);
-    slices::store(sixteens, 13 + 2 * count, bytes);
+    slices::store(sixteens, FRONT + names::LENGTH * count, bytes);
 }
 
 // Whether a command may name the first `count` of the blocks.
@@ -100,13 +117,13 @@ fn encode_parts(
     ensures { λ r. ⌜ PutOut (encode number nbw nmaxb count (now (blocks .entry)) (now (sixteens .entry))) (now (bytes .entry)) r (now (bytes .exit)) ⌝ }
 {
     if !well_named(count, blocks, nbw, nmaxb) {
-        return CountAnswer::Refused(20);
+        return CountAnswer::Refused(refusals::MALFORMED_COMMAND);
     }
-    let size = 13 + 18 * count;
+    let size = FRONT + PER_BLOCK * count;
     if bytes.len() < size {
-        return CountAnswer::Refused(12);
+        return CountAnswer::Refused(refusals::SHORT_BUFFER);
     }
-    let filled = 16 * count;
+    let filled = read::BLOCK_SIZE * count;
     put(number, &blocks[..count], &sixteens[..filled], bytes);
     CountAnswer::Count(size)
 }
@@ -133,10 +150,10 @@ pub fn span(list: &[u8]) -> usize
     ensures is { λ r. ⌜ r ≡ span (now (list .entry)) ⌝ }
     ensures small { λ r. ⌜ r < 4608 ⌝ }
 {
-    if list.len() < 13 {
-        return 13;
+    if list.len() < FRONT {
+        return FRONT;
     }
-    13 + 18 * numbers::wide(list[12])
+    FRONT + PER_BLOCK * numbers::wide(list[COUNT])
 }
 
 // Whether the first twelve bytes are those of our commands.
@@ -164,14 +181,14 @@ fn is_framed(bytes: &[u8], number: &[u8], nbw: usize) -> bool
     requires { ⌜ length (now number) ≡ 8 ⌝ }
     ensures { λ r. ⌜ r ≡ framed (now (number .entry)) nbw (now (bytes .entry)) ⌝ }
 {
-    if bytes.len() < 13 {
+    if bytes.len() < FRONT {
         return false;
     }
-    let count = bytes[12] as usize;
+    let count = bytes[COUNT] as usize;
     if !countable(count, nbw) {
         return false;
     }
-    if bytes.len() != 13 + 18 * count {
+    if bytes.len() != FRONT + PER_BLOCK * count {
         return false;
     }
     if !opens(bytes, number) {
@@ -185,8 +202,8 @@ fn blocks_fit(bytes: &[u8], nmaxb: usize) -> bool
     requires { ⌜ Framed (now bytes) ⌝ }
     ensures { λ r. ⌜ r ≡ nameable nmaxb (numbers (byte (now (bytes .entry)) 12) (drop 13 (now (bytes .entry)))) ⌝ }
 {
-    let count = bytes[12] as usize;
-    let mut blocks = [0usize; 8];
+    let count = bytes[COUNT] as usize;
+    let mut blocks = [0usize; MOST_BLOCKS];
     names::read(bytes, count, &mut blocks);
     names::nameable(&blocks[..count], nmaxb)
 }
@@ -206,12 +223,12 @@ fn carried(bytes: &[u8]) -> Command
     requires { ⌜ Framed (now bytes) ⌝ }
     ensures { λ r. ⌜ r ≡ commandAs (carried (now (bytes .entry))) ⌝ }
 {
-    let count = bytes[12] as usize;
-    let mut numbers = [0usize; 8];
+    let count = bytes[COUNT] as usize;
+    let mut numbers = [0usize; MOST_BLOCKS];
     names::read(bytes, count, &mut numbers);
     let blocks = names::blocks_of(numbers);
-    let start = 13 + 2 * count;
-    let mut sixteens = [0u8; 128];
+    let start = FRONT + names::LENGTH * count;
+    let mut sixteens = [0u8; MOST_BYTES];
     slices::store(&bytes[start..], 0, &mut sixteens);
     Command {
         count,
@@ -227,17 +244,17 @@ pub fn decode(bytes: &[u8], number: &[u8; 8], nbw: usize, nmaxb: usize) -> Decod
     if is_command(bytes, number, nbw, nmaxb) {
         let command = carried(bytes);
         return Decoded {
-            refusal: 0,
+            refusal: refusals::NONE,
             command,
         };
     }
     let command = Command {
         count: 0,
-        blocks: [Block(0); 8],
-        bytes: [0u8; 128],
+        blocks: [Block(0); MOST_BLOCKS],
+        bytes: [0u8; MOST_BYTES],
     };
     Decoded {
-        refusal: 20,
+        refusal: refusals::MALFORMED_COMMAND,
         command,
     }
 }

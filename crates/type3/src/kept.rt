@@ -1,5 +1,6 @@
 // Whether a Type 3 tag keeps the bytes that writing a message does not set.
 
+use crate::read;
 use crate::space;
 use tag::Address;
 use tag::Block;
@@ -20,9 +21,9 @@ pub fn is_kept(image: &[u8], work: &[u8], n: usize) -> bool
     ensures { λ r. ⌜ r ≡ equalAt (λ a. not (setFor n a)) (now (image .entry)) (now (work .entry)) (run 0 (length (now (image .entry)))) ⌝ }
 {
     let blocks = space::blocks_for(n);
-    let end = Block(1 + blocks).address(16);
-    if !kept::is_kept_outside(image, work, Address(9), end) {
+    let end = Block(1 + blocks).address(read::BLOCK_SIZE);
+    if !kept::is_kept_outside(image, work, Address(read::WRITE_FLAG), end) {
         return false;
     }
-    work[10] == image[10]
+    work[read::RW_FLAG] == image[read::RW_FLAG]
 }

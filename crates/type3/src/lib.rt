@@ -14,6 +14,6 @@ use tag::Block;
 // A write command: its blocks, of which the first `count` are used, and sixteen bytes for each of them.
 pub struct Command {
     pub count: usize,
-    pub blocks: [Block; 8],
-    pub bytes: [u8; 128],
+    pub blocks: [Block; commands::MOST_BLOCKS],
+    pub bytes: [u8; commands::MOST_BYTES],
 }

@@ -5,6 +5,7 @@ use crate::read;
 use crate::stores;
 use tag::Address;
 use tag::ModelAnswer;
+use tag::refusals;
 ghost use mathlib.Core.Path.{_≡_};
 ghost use lib.ListN.{length};
 ghost use Rattle.tag.specs.Stores.{done};
@@ -26,7 +27,7 @@ pub fn take_command(
     ensures is { λ r. ⌜ r ≡ isCommand (decodeFor (length (now (image .entry))) (now (number .entry)) nbw nmaxb (now (command .entry))) ⌝ }
     ensures stored { λ _. ⌜ now (image .exit) ≡ done (now (image .entry)) (commandOf (decodeFor (length (now (image .entry))) (now (number .entry)) nbw nmaxb (now (command .entry)))) ⌝ }
 {
-    let end = Address(image.len()).block(16);
+    let end = Address(image.len()).block(read::BLOCK_SIZE);
     if end.0 <= nmaxb {
         return false;
     }
@@ -42,7 +43,7 @@ pub fn model(image: &mut [u8], number: &[u8; 8], command: &[u8]) -> ModelAnswer
     ensures { λ r. ⌜ Took (type3 (now (number .entry))) (now (image .entry)) (now (command .entry)) r (now (image .exit)) ⌝ }
 {
     let refusal = read::fault(image);
-    if refusal != 0 {
+    if refusal != refusals::NONE {
         return ModelAnswer::Refused(refusal);
     }
     let attributes = read::said(image);
@@ -51,5 +52,5 @@ pub fn model(image: &mut [u8], number: &[u8; 8], command: &[u8]) -> ModelAnswer
     if take_command(image, number, command, nbw, nmaxb) {
         return ModelAnswer::Stored;
     }
-    ModelAnswer::Refused(20)
+    ModelAnswer::Refused(refusals::MALFORMED_COMMAND)
 }

@@ -1,6 +1,7 @@
 // How a command names its blocks (a block list element each): 80h and the block's number, a byte. The loops work with the number inside a
 // block.
 
+use crate::commands;
 use tag::Block;
 ghost use mathlib.Core.Path.{_≡_};
 ghost use Prim.Native.Nat.{ℕ, _+_, _*_, _<_, _≤_};
@@ -11,15 +12,21 @@ ghost use Rattle.type3.specs.Codec.{nameBytes, namesBytes, nameable};
 ghost use Rattle.type3.specs.InPlace.{marked, numbers};
 ghost use Rattle.type3.specs.CodecViews.{blockNumbers, blocksOf};
 
+// The bytes of a block's name.
+pub const LENGTH: usize = 2;
+
+// Where the number of the first block stands: in its name behind 80h.
+pub(crate) const FIRST_NUMBER: usize = commands::FRONT + 1;
+
 // How a command names the block.
-pub fn name(block: u8) -> [u8; 2]
+pub fn name(block: u8) -> [u8; LENGTH]
     ensures { λ r. ⌜ r ≡ nameBytes block ⌝ }
 {
     [0x80, block]
 }
 
 // The numbers of a command's blocks.
-pub fn block_numbers(blocks: [Block; 8]) -> [usize; 8]
+pub fn block_numbers(blocks: [Block; commands::MOST_BLOCKS]) -> [usize; commands::MOST_BLOCKS]
     ensures { λ r. ⌜ r ≡ blockNumbers blocks ⌝ }
 {
     [
@@ -35,7 +42,7 @@ pub fn block_numbers(blocks: [Block; 8]) -> [usize; 8]
 }
 
 // The blocks of a command by their numbers, as they came in.
-pub fn blocks_of(numbers: [usize; 8]) -> [Block; 8]
+pub fn blocks_of(numbers: [usize; commands::MOST_BLOCKS]) -> [Block; commands::MOST_BLOCKS]
     ensures { λ r. ⌜ r ≡ blocksOf numbers ⌝ }
 {
     [
@@ -92,7 +99,7 @@ pub(crate) fn put(blocks: &[usize], bytes: &mut [u8])
 {
     let mut i = 0usize;
     while i < blocks.len() {
-        let at = 13 + 2 * i;
+        let at = commands::FRONT + LENGTH * i;
         let two = name(blocks[i] as u8);
         bytes[at] = two[0];
         bytes[at + 1] = two[1];
@@ -107,7 +114,7 @@ pub(crate) fn marked(bytes: &[u8], count: usize) -> bool
 {
     let mut i = 0usize;
     while i < count {
-        if bytes[13 + 2 * i] != 0x80 {
+        if bytes[commands::FRONT + LENGTH * i] != 0x80 {
             return false;
         }
         i += 1;
@@ -122,7 +129,7 @@ pub(crate) fn read(bytes: &[u8], count: usize, blocks: &mut [usize])
 {
     let mut i = 0usize;
     while i < count {
-        blocks[i] = bytes[14 + 2 * i] as usize;
+        blocks[i] = bytes[FIRST_NUMBER + LENGTH * i] as usize;
         i += 1;
     }
 }

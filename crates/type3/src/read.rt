@@ -6,6 +6,7 @@ use tag::ReadAnswer;
 use tag::Report;
 use tag::What;
 use tag::numbers;
+use tag::refusals;
 use tag::slices;
 use tag::version;
 ghost use mathlib.Core.Path.{_≡_};
@@ -22,6 +23,34 @@ ghost use Rattle.type3.specs.Attributes.{attributes, imageLength, flagsD
 ghost use Rattle.type3.specs.Message.{reading};
 ghost use Rattle.type3.specs.Views.{WholeBlocks, checkedAs, faultAs, Says, Known, reportAs, answerFor};
 
+// The bytes of a block.
+pub const BLOCK_SIZE: usize = 16;
+
+// An image is one block at least.
+const SHORTEST_IMAGE: usize = BLOCK_SIZE;
+
+// It has 256 blocks at most.
+pub const LONGEST_IMAGE: usize = 256 * BLOCK_SIZE;
+
+// The addresses of the attributes, from here to CHECKSUM. The version is at 0; Nmaxb and the checksum have two bytes, and Ln three.
+const NBR: usize = 1;
+
+const NBW: usize = 2;
+
+const NMAXB: usize = 3;
+
+pub const WRITE_FLAG: usize = 9;
+
+pub const RW_FLAG: usize = 10;
+
+const LN: usize = 11;
+
+// Ln's two lower bytes.
+const LN_LOW: usize = LN + 1;
+
+// The sum of all bytes before it.
+const CHECKSUM: usize = 14;
+
 // What block 0 says of a tag that passes the tests.
 pub struct Attributes {
     pub nbw: usize,
@@ -35,7 +64,7 @@ pub struct Attributes {
 
 // The answer of the tests: the first that fails gives its refusal.
 pub enum Checked {
-    Fault(u8),
+    Refused(u8),
     Fine(Attributes),
 }
 
@@ -54,13 +83,13 @@ fn flags_defined(image: &[u8]) -> bool
     requires { ⌜ 16 ≤ length (now image) ⌝ }
     ensures { λ r. ⌜ r ≡ flagsDefined (attributes (now (image .entry))) ⌝ }
 {
-    if !is_either(image[9], 0x00, 0x0F) {
+    if !is_either(image[WRITE_FLAG], 0x00, 0x0F) {
         return false;
     }
-    if !is_either(image[10], 0x00, 0x01) {
+    if !is_either(image[RW_FLAG], 0x00, 0x01) {
         return false;
     }
-    image[1] != 0
+    image[NBR] != 0
 }
 
 // Is RWFlag 01h and Nbw at least 1?
@@ -68,10 +97,10 @@ fn may_write(image: &[u8]) -> bool
     requires { ⌜ 16 ≤ length (now image) ⌝ }
     ensures { λ r. ⌜ r ≡ mayWrite (now (image .entry)) ⌝ }
 {
-    if image[10] != 0x01 {
+    if image[RW_FLAG] != 0x01 {
         return false;
     }
-    1 <= image[2]
+    1 <= image[NBW]
 }
 
 // Ln, of three bytes.
@@ -79,7 +108,7 @@ fn ln_of(image: &[u8]) -> usize
     requires { ⌜ 16 ≤ length (now image) ⌝ }
     ensures { λ r. ⌜ r ≡ attributes (now (image .entry)) .ln ⌝ }
 {
-    65536 * numbers::wide(image[11]) + numbers::word(image, 12)
+    65536 * numbers::wide(image[LN]) + numbers::word(image, LN_LOW)
 }
 
 // Refusals 5 and 7; 0 for neither.
@@ -87,15 +116,15 @@ fn size_fault(image: &[u8]) -> u8
     requires { ⌜ WholeBlocks (now image) ⌝ }
     ensures { λ r. ⌜ faultAs r ≡ firstOf (drop 4 (attributeChecks (length (now (image .entry))) (attributes (now (image .entry))))) ⌝ }
 {
-    let nmaxb = numbers::word(image, 3);
-    let end = Block(1 + nmaxb).address(16);
+    let nmaxb = numbers::word(image, NMAXB);
+    let end = Block(1 + nmaxb).address(BLOCK_SIZE);
     if image.len() < end.0 {
-        return 5;
+        return refusals::BAD_DATA_AREA;
     }
-    if 16 * nmaxb < ln_of(image) {
-        return 7;
+    if BLOCK_SIZE * nmaxb < ln_of(image) {
+        return refusals::BAD_LENGTH;
     }
-    0
+    refusals::NONE
 }
 
 // Refusals 2 to 4, and then those of `size_fault`.
@@ -103,14 +132,14 @@ fn block_fault(image: &[u8]) -> u8
     requires { ⌜ WholeBlocks (now image) ⌝ }
     ensures { λ r. ⌜ faultAs r ≡ firstOf (drop 1 (attributeChecks (length (now (image .entry))) (attributes (now (image .entry))))) ⌝ }
 {
-    if numbers::sum(image, 14) != numbers::word(image, 14) as u16 {
-        return 2;
+    if numbers::sum(image, CHECKSUM) != numbers::word(image, CHECKSUM) as u16 {
+        return refusals::NOT_NDEF;
     }
     if !version::is_known(image[0]) {
-        return 3;
+        return refusals::UNKNOWN_VERSION;
     }
     if !flags_defined(image) {
-        return 4;
+        return refusals::BAD_ACCESS;
     }
     size_fault(image)
 }
@@ -119,13 +148,13 @@ fn block_fault(image: &[u8]) -> u8
 fn is_whole(n: usize) -> bool
     ensures { λ r. ⌜ r ≡ imageLength n ⌝ }
 {
-    if n % 16 != 0 {
+    if n % BLOCK_SIZE != 0 {
         return false;
     }
-    if n < 16 {
+    if n < SHORTEST_IMAGE {
         return false;
     }
-    n <= 4096
+    n <= LONGEST_IMAGE
 }
 
 // The first of the refusals 1 to 5 and 7; 0 if the tag passes all tests. A number alone: the attributes beside it would be handed
@@ -136,7 +165,7 @@ pub(crate) fn fault(image: &[u8]) -> u8
     if is_whole(image.len()) {
         return block_fault(image);
     }
-    1
+    refusals::IMAGE_SIZE
 }
 
 // What block 0 says.
@@ -144,10 +173,10 @@ pub(crate) fn said(image: &[u8]) -> Attributes
     requires { ⌜ 16 ≤ length (now image) ⌝ }
     ensures { λ r. ⌜ Says (now (image .entry)) r ⌝ }
 {
-    let nbw = numbers::wide(image[2]);
-    let nmaxb = numbers::word(image, 3);
+    let nbw = numbers::wide(image[NBW]);
+    let nmaxb = numbers::word(image, NMAXB);
     let ln = ln_of(image);
-    let busy = image[9] == 0x0F;
+    let busy = image[WRITE_FLAG] == 0x0F;
     let writable = may_write(image);
     Attributes {
         nbw,
@@ -165,11 +194,11 @@ pub fn attributes_of(image: &[u8]) -> Checked
     ensures known { λ r. ⌜ Known (now (image .entry)) r ⌝ }
 {
     if !is_whole(image.len()) {
-        return Checked::Fault(1);
+        return Checked::Refused(refusals::IMAGE_SIZE);
     }
     let refusal = block_fault(image);
-    if refusal != 0 {
-        return Checked::Fault(refusal);
+    if refusal != refusals::NONE {
+        return Checked::Refused(refusal);
     }
     let attributes = said(image);
     Checked::Fine(attributes)
@@ -187,7 +216,7 @@ fn report(a: Attributes) -> Report
     if length == 0 {
         return without(What::Empty, writable);
     }
-    let address = Block(1).address(16);
+    let address = Block(1).address(BLOCK_SIZE);
     Report {
         what: What::Message,
         address,
@@ -215,7 +244,7 @@ pub fn read(image: &[u8]) -> ReadAnswer
     ensures { λ r. ⌜ Read reading (now (image .entry)) [] r [] ⌝ }
 {
     let refusal = fault(image);
-    if refusal != 0 {
+    if refusal != refusals::NONE {
         return ReadAnswer::Refused(refusal);
     }
     let attributes = said(image);

@@ -1,6 +1,8 @@
 // Where a message goes on a Type 3 tag: refusals 9 to 11, and how many blocks it takes.
 
+use crate::read;
 use crate::read::Attributes;
+use tag::refusals;
 ghost use mathlib.Core.Path.{_≡_};
 ghost use Rattle.type3.specs.Update.{blocksFor};
 ghost use Rattle.type3.specs.Space.{refusalFor};
@@ -9,10 +11,10 @@ ghost use Rattle.type3.specs.Space.{refusalFor};
 pub fn blocks_for(n: usize) -> usize
     ensures { λ r. ⌜ r ≡ blocksFor n ⌝ }
 {
-    if n % 16 == 0 {
-        return n / 16;
+    if n % read::BLOCK_SIZE == 0 {
+        return n / read::BLOCK_SIZE;
     }
-    n / 16 + 1
+    n / read::BLOCK_SIZE + 1
 }
 
 // Refusals 9, 10 and 11, in this order, for a message of `n` bytes; 0 where it fits, in blocks 1 and on.
@@ -20,13 +22,13 @@ pub fn refusal(a: Attributes, n: usize) -> u8
     ensures { λ r. ⌜ r ≡ refusalFor a n ⌝ }
 {
     if n == 0 {
-        return 9;
+        return refusals::EMPTY_MESSAGE;
     }
     if !a.writable {
-        return 10;
+        return refusals::NOT_WRITABLE;
     }
     if a.nmaxb < blocks_for(n) {
-        return 11;
+        return refusals::MESSAGE_TOO_LONG;
     }
-    0
+    refusals::NONE
 }

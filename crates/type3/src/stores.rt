@@ -1,5 +1,8 @@
 // What a well-formed command stores, taken from its bytes in place: block k's name at 13 + 2k, its data behind the names.
 
+use crate::commands;
+use crate::names;
+use crate::read;
 use tag::Block;
 use tag::numbers;
 use tag::slices;
@@ -17,8 +20,8 @@ fn store_sixteen(from: &[u8], f: usize, to: &mut [u8], at: usize)
     requires { ⌜ (f + 16 ≤ length (now from)) × (at + 16 ≤ length (now to)) ⌝ }
     ensures { λ _. ⌜ now (to .exit) ≡ sets (now (to .entry)) at (take 16 (drop f (now (from .entry)))) ⌝ }
 {
-    let mut sixteen = [0u8; 16];
-    slices::store(&from[f..f + 16], 0, &mut sixteen);
+    let mut sixteen = [0u8; read::BLOCK_SIZE];
+    slices::store(&from[f..f + read::BLOCK_SIZE], 0, &mut sixteen);
     slices::store(&sixteen, at, to);
 }
 
@@ -27,10 +30,10 @@ fn store_block(command: &[u8], count: usize, k: usize, image: &mut [u8])
     requires { ⌜ (count ≤ 8) × (k < count) × (13 + 18 * count ≤ length (now command)) × (16 * byte (now command) (14 + 2 * k) + 16 ≤ length (now image)) ⌝ }
     ensures { λ _. ⌜ now (image .exit) ≡ sets (now (image .entry)) (16 * byte (now (command .entry)) (14 + 2 * k)) (take 16 (drop (13 + 2 * count + 16 * k) (now (command .entry)))) ⌝ }
 {
-    let block = numbers::wide(command[14 + 2 * k]);
-    let at = Block(block).address(16);
+    let block = numbers::wide(command[names::FIRST_NUMBER + names::LENGTH * k]);
+    let at = Block(block).address(read::BLOCK_SIZE);
     let start = at.0;
-    let from = 13 + 2 * count + 16 * k;
+    let from = commands::FRONT + names::LENGTH * count + read::BLOCK_SIZE * k;
     store_sixteen(command, from, image, start);
 }
 
@@ -39,7 +42,7 @@ pub(crate) fn store_blocks(command: &[u8], image: &mut [u8])
     requires { ⌜ Storable (now command) (length (now image)) ⌝ }
     ensures { λ _. ⌜ now (image .exit) ≡ puts (now (image .entry)) (storesFrom (now (command .entry)) (byte (now (command .entry)) 12) 0) ⌝ }
 {
-    let count = numbers::wide(command[12]);
+    let count = numbers::wide(command[commands::COUNT]);
     let mut k = 0usize;
     while k < count {
         store_block(command, count, k, image);

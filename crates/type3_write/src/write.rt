@@ -3,6 +3,7 @@
 use tag::Block;
 use tag::CountAnswer;
 use tag::numbers;
+use tag::refusals;
 use tag::slices;
 use type3::commands;
 use type3::names;
@@ -22,6 +23,18 @@ ghost use Rattle.type3.specs.Codec.{namesBytes, opening};
 ghost use Rattle.type3.specs.Type3.{type3};
 ghost use Rattle.type3.specs.Views.{Readable};
 ghost use Rattle.type3_write.specs.Listing.{filled, blocksAt, attributeBlock, attributeCommand, messageCommand, messageCommands, listAs, Fills, Dealt, Listing};
+
+// Where the command for block 0 has its data.
+const ATTRIBUTE_DATA: usize = commands::FRONT + names::LENGTH;
+
+// The bytes of the command for block 0.
+const ATTRIBUTE_COMMAND: usize = commands::FRONT + commands::PER_BLOCK;
+
+// A list has two of them.
+const ATTRIBUTE_COMMANDS: usize = 2 * ATTRIBUTE_COMMAND;
+
+// A block's last byte.
+const LAST_OF_BLOCK: usize = read::BLOCK_SIZE - 1;
 
 // ---- the parts of a command
 
@@ -43,37 +56,37 @@ fn put_names(first: Block, count: usize, out: &mut [u8])
     let mut j = 0usize;
     while j < count {
         let two = names::name((b + j) as u8);
-        out[2 * j] = two[0];
-        out[2 * j + 1] = two[1];
+        out[names::LENGTH * j] = two[0];
+        out[names::LENGTH * j + 1] = two[1];
         j += 1;
     }
 }
 
 // The first sixteen bytes of the part. They go through an array, and the compiler makes one load and one store of them.
-fn whole_block(part: &[u8]) -> [u8; 16]
+fn whole_block(part: &[u8]) -> [u8; read::BLOCK_SIZE]
     requires { ⌜ 16 ≤ length (now part) ⌝ }
     ensures { λ r. ⌜ r ≡ take 16 (now (part .entry)) ⌝ }
 {
-    let mut block = [0u8; 16];
-    slices::store(&part[0..16], 0, &mut block);
+    let mut block = [0u8; read::BLOCK_SIZE];
+    slices::store(&part[0..read::BLOCK_SIZE], 0, &mut block);
     block
 }
 
 // The part, filled with 00h.
-fn short_block(part: &[u8]) -> [u8; 16]
+fn short_block(part: &[u8]) -> [u8; read::BLOCK_SIZE]
     requires { ⌜ length (now part) ≤ 16 ⌝ }
     ensures { λ r. ⌜ r ≡ filled (now (part .entry)) ⌝ }
 {
-    let mut block = [0u8; 16];
+    let mut block = [0u8; read::BLOCK_SIZE];
     slices::store(part, 0, &mut block);
     block
 }
 
 // One block of the message, which is handed on from the block's offset as a part: sixteen bytes, 00h past the end.
-fn fill_block(part: &[u8]) -> [u8; 16]
+fn fill_block(part: &[u8]) -> [u8; read::BLOCK_SIZE]
     ensures { λ r. ⌜ r ≡ filled (now (part .entry)) ⌝ }
 {
-    if part.len() < 16 {
+    if part.len() < read::BLOCK_SIZE {
         return short_block(part);
     }
     whole_block(part)
@@ -85,8 +98,8 @@ fn put_block(message: &[u8], skip: usize, j: usize, out: &mut [u8])
     ensures { λ _. ⌜ now (out .exit) ≡ sets (now (out .entry)) (16 * j) (filled (drop (16 * (skip + j)) (now (message .entry)))) ⌝ }
 {
     let i = skip + j;
-    let block = fill_block(&message[16 * i..]);
-    slices::store(&block, 16 * j, out);
+    let block = fill_block(&message[read::BLOCK_SIZE * i..]);
+    slices::store(&block, read::BLOCK_SIZE * j, out);
 }
 
 // The whole blocks among `count` past the first `skip`, and how many they are. The loop's test tells the compiler that each is
@@ -96,9 +109,9 @@ fn put_whole_blocks(message: &[u8], skip: usize, count: usize, out: &mut [u8]) -
     ensures laid { λ r. ⌜ now (out .exit) ≡ blocksAt (now (message .entry)) skip r ++ drop (16 * r) (now (out .entry)) ⌝ }
     ensures left { λ r. ⌜ (r ≤ count) × (count ≤ r + 1) ⌝ }
 {
-    let end = numbers::smaller(16 * (skip + count), message.len());
+    let end = numbers::smaller(read::BLOCK_SIZE * (skip + count), message.len());
     let mut j = 0usize;
-    while 16 * (skip + j) + 15 < end {
+    while read::BLOCK_SIZE * (skip + j) + LAST_OF_BLOCK < end {
         put_block(message, skip, j, out);
         j += 1;
     }
@@ -124,8 +137,8 @@ fn put_attribute_block(image: &[u8], flag: u8, ln: usize, out: &mut [u8])
     let high = ln / 65536;
     let mid = ln / 256 % 256;
     let low = ln % 256;
-    let sum = numbers::sum(image, 9) as usize
-        + numbers::wide(image[10])
+    let sum = numbers::sum(image, read::WRITE_FLAG) as usize
+        + numbers::wide(image[read::RW_FLAG])
         + numbers::wide(flag)
         + high
         + mid
@@ -141,7 +154,7 @@ fn put_attribute_block(image: &[u8], flag: u8, ln: usize, out: &mut [u8])
         image[7],
         image[8],
         flag,
-        image[10],
+        image[read::RW_FLAG],
         high as u8,
         mid as u8,
         low as u8,
@@ -159,8 +172,8 @@ fn put_attributes(image: &[u8], number: [u8; 8], flag: u8, ln: usize, out: &mut 
     ensures { λ _. ⌜ now (out .exit) ≡ attributeCommand number (now (image .entry)) flag ln ++ drop 31 (now (out .entry)) ⌝ }
 {
     put_opening(number, 1, out);
-    put_names(Block(0), 1, &mut out[13..]);
-    put_attribute_block(image, flag, ln, &mut out[15..]);
+    put_names(Block(0), 1, &mut out[commands::FRONT..]);
+    put_attribute_block(image, flag, ln, &mut out[ATTRIBUTE_DATA..]);
 }
 
 // Writes `count` blocks of the message, past its first `skip`; the message starts at block 1.
@@ -169,9 +182,9 @@ fn put_command(message: &[u8], number: [u8; 8], skip: usize, count: usize, out: 
     ensures { λ _. ⌜ now (out .exit) ≡ messageCommand number (now (message .entry)) skip count ++ drop (13 + 18 * count) (now (out .entry)) ⌝ }
 {
     let first = Block(1 + skip);
-    let at = 13 + 2 * count;
+    let at = commands::FRONT + names::LENGTH * count;
     put_opening(number, count, out);
-    put_names(first, count, &mut out[13..]);
+    put_names(first, count, &mut out[commands::FRONT..]);
     put_blocks(message, skip, count, &mut out[at..]);
 }
 
@@ -187,7 +200,7 @@ fn put_message(message: &[u8], number: [u8; 8], w: usize, turns: usize, out: &mu
     while t < turns {
         let count = numbers::smaller(w, k - skip);
         put_command(message, number, skip, count, &mut out[at..]);
-        at += 13 + 18 * count;
+        at += commands::FRONT + commands::PER_BLOCK * count;
         skip += w;
         t += 1;
     }
@@ -210,9 +223,9 @@ fn put_list(
 {
     let n = message.len();
     let k = space::blocks_for(n);
-    let last = 31 + 13 * turns + 18 * k;
+    let last = ATTRIBUTE_COMMAND + commands::FRONT * turns + commands::PER_BLOCK * k;
     put_attributes(image, number, 0x0F, ln, list);
-    put_message(message, number, w, turns, &mut list[31..]);
+    put_message(message, number, w, turns, &mut list[ATTRIBUTE_COMMAND..]);
     put_attributes(image, number, 0x00, n, &mut list[last..]);
 }
 
@@ -238,14 +251,14 @@ fn write_to(
 {
     let n = message.len();
     let refusal = space::refusal(a, n);
-    if refusal != 0 {
+    if refusal != refusals::NONE {
         return CountAnswer::Refused(refusal);
     }
     let k = space::blocks_for(n);
-    let w = numbers::smaller(a.nbw, 8);
+    let w = numbers::smaller(a.nbw, commands::MOST_BLOCKS);
     let turns = turns_for(k, w);
-    if list.len() < 62 + 13 * turns + 18 * k {
-        return CountAnswer::Refused(12);
+    if list.len() < ATTRIBUTE_COMMANDS + commands::FRONT * turns + commands::PER_BLOCK * k {
+        return CountAnswer::Refused(refusals::SHORT_BUFFER);
     }
     let ln = a.ln;
     put_list(image, message, number, ln, w, turns, list);
@@ -259,7 +272,7 @@ pub fn write(image: &[u8], message: &[u8], number: &[u8; 8], list: &mut [u8]) ->
 {
     let checked = read::attributes_of(image);
     match checked {
-        Checked::Fault(n) => CountAnswer::Refused(n),
+        Checked::Refused(n) => CountAnswer::Refused(n),
         Checked::Fine(a) => write_to(image, message, *number, a, list),
     }
 }

@@ -4,20 +4,25 @@
 // length, so that a longer file is refused as it would be whole.
 
 use tag::CountAnswer;
+use type2::commands;
+use type2::container;
 ghost use Rattle.io.specs.Counts.{Counts};
 
-// The first `count` commands of a list, six bytes each.
+// One byte more than the longest image has.
+const IMAGE: usize = container::LONGEST_IMAGE + 1;
+
+// The first `count` commands of a list.
 fn print_list(list: &[u8], count: usize) {
     printing::commands(count);
     let mut at = 0usize;
     let mut left = count;
     while 0 < left {
         // `write` counts no command that the list does not hold; no contract here says so, and so it is tested
-        if list.len() - at < 6 {
+        if list.len() - at < commands::LENGTH {
             return;
         }
-        printing::line(&list[at..at + 6]);
-        at += 6;
+        printing::line(&list[at..at + commands::LENGTH]);
+        at += commands::LENGTH;
         left -= 1;
     }
 }
@@ -43,7 +48,7 @@ fn load(path: &[u8], buf: &mut [u8]) -> usize
 }
 
 fn main() {
-    let mut image = [0u8; 1025];
+    let mut image = [0u8; IMAGE];
     let n = load(b"tag.bin", &mut image);
     let mut message = [0u8; 2048];
     let m = load(b"message.bin", &mut message);
