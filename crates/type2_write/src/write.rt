@@ -34,7 +34,7 @@ fn write_inside(
         Address(container::FIRST),
         end,
         writable,
-        4,
+        container::BLOCK_SIZE,
         table,
         new,
         marks,
