@@ -9,8 +9,9 @@ use lib.ListN.{length, take, drop}
 use Rattle.tag.specs.Bytes.{byte}
 use Rattle.type3.specs.declared.commands.Decoded as code
 use Rattle.type3.specs.Codec.{decoded}
-use Rattle.type3.specs.InPlace.{numbers, carried}
-use Rattle.type3.specs.CodecViews.{blockNumbers, decodedAs, commandAs, isCommand, DecodedTo}
+use Rattle.type3.specs.Views.InPlace.{numbers, carried}
+use Rattle.type3.specs.CodecContracts.{blockNumbers, decodedAs, commandAs, DecodedTo}
+use Rattle.type3.specs.Views.Framing.{isCommand}
 use Rattle.type3.proofs.Naming.{length-numbers}
 use Rattle.type3.proofs.Decoding.{decode-carried, frame}
 

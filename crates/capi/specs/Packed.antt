@@ -1,14 +1,17 @@
 -- The answers as C gets them, each one number: a refusal in its low byte, and above it the position, or on success the count. Of
 -- a count or a position 56 bits are kept, which is all of it: no list that a machine holds has 2^56 commands.
 -- Assumes nothing.
+use mathlib.Core.Path.{_≡_}
 use mathlib.Core.Bool.{Bool, true, false}
 use mathlib.Core.List.{List, [], _∷_}
 use Prim.Native.Nat.{ℕ, _+_, _*_, _%_, _^_}
 use lib.ListN.{length}
 use Rattle.tag.specs.Bytes.{overwrite}
-use Rattle.tag.specs.Reading.{What, message, empty, being-written, Answer, refusal, answer}
+use Rattle.tag.specs.Reading.{What, message, empty, being-written, Reading, Answer, refusal, answer, answerOf, gatheredInto}
 use Rattle.tag.specs.Refusals.{Refusal, plain, positioned}
-use Rattle.tag.specs.Answers.{Returned, refuses, gives}
+use Rattle.tag.specs.TagType.{TagType, Output, outputInto}
+use Rattle.tag.specs.Model.{model, imageAfter}
+use Rattle.tag.specs.Answers.{Returned, refuses, gives, countOf, storingOf}
 use Rattle.tag.specs.Judge.{Verdict, accepted, refused}
 use Rattle.type2.specs.Codec as two
 use Rattle.type3.specs.Codec as three
@@ -88,3 +91,18 @@ blocksInto old (three.decoded bs bytes) = overwrite bs old
 abbrev pub sixteensInto : List ℕ → three.Decoded → List ℕ
 sixteensInto old (three.undecoded f) = old
 sixteensInto old (three.decoded bs bytes) = overwrite bytes old
+
+-- ---- the contracts of the C functions as relations
+
+-- a call that puts out what o says for so much room, given a buffer, answers n and leaves the buffer as out
+abbrev pub PutOutToC : (ℕ → Output) → List ℕ → ℕ → List ℕ → Type 0
+PutOutToC o buffer n out = (n ≡ packedCount (countOf (o (length buffer)))) × (out ≡ outputInto buffer (o (length buffer)))
+
+-- a call that answers for a reading, given a gathering buffer and five numbers, answers n and leaves both as gathered and out
+abbrev pub ReadToC : Reading → List ℕ → List ℕ → ℕ → List ℕ → List ℕ → Type 0
+ReadToC v buffer five n gathered out =
+    (n ≡ packedRead (answerOf (length buffer) v)) × (gathered ≡ gatheredInto buffer v) × (out ≡ reportInto five (answerOf (length buffer) v))
+
+-- the model, given a tag and a command, answers n and leaves the tag as j
+abbrev pub TookToC : TagType → List ℕ → List ℕ → ℕ → List ℕ → Type 0
+TookToC T i command n j = (n ≡ packedStoring (storingOf (model T i command))) × (j ≡ imageAfter i (model T i command))

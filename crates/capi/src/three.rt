@@ -9,25 +9,22 @@ use type3::commands;
 use type3::names;
 use type3::read;
 ghost use mathlib.Core.Path.{_≡_};
+ghost use mathlib.Core.List.{[]};
 ghost use Prim.Native.Nat.{_*_, _≤_};
 ghost use lib.ListN.{length, take};
 ghost use lib.Seq.{sets};
 ghost use Rattle.tag.specs.Bytes.{overwrite};
-ghost use Rattle.tag.specs.Reading.{answerOf};
-ghost use Rattle.tag.specs.Answers.{countOf, storingOf};
-ghost use Rattle.tag.specs.TagType.{write, outputInto};
+ghost use Rattle.tag.specs.TagType.{write};
 ghost use Rattle.tag.specs.Judge.{judged};
-ghost use Rattle.tag.specs.Model.{model, imageAfter};
 ghost use Rattle.type3.specs.Message.{reading};
 ghost use Rattle.type3.specs.Type3.{type3};
 ghost use Rattle.type3.specs.Codec.{encode, decode};
-ghost use Rattle.type3.specs.CodecViews.{blockNumbers, blocksOf};
-ghost use Rattle.capi.specs.Packed.{packedRead, reportInto, packedCount, packedVerdict, packedStoring, packedDecoded3, countInto, blocksInto, sixteensInto};
+ghost use Rattle.type3.specs.CodecContracts.{blockNumbers, blocksOf};
+ghost use Rattle.capi.specs.Packed.{PutOutToC, ReadToC, TookToC, packedVerdict, packedDecoded3, countInto, blocksInto, sixteensInto};
 
 #[no_mangle]
 pub extern "C" fn zan_type3_read(image: &[u8], out: &mut [u64; 5]) -> u64
-    ensures answer { λ r. ⌜ r ≡ packedRead (answerOf 0 (reading (now (image .entry)))) ⌝ }
-    ensures report { λ _. ⌜ now (out .exit) ≡ reportInto (now (out .entry)) (answerOf 0 (reading (now (image .entry)))) ⌝ }
+    ensures { λ r. ⌜ ReadToC (reading (now (image .entry))) [] (now (out .entry)) r [] (now (out .exit)) ⌝ }
 {
     let answer = type3::read::read(image);
     answers::reading(answer, out)
@@ -40,8 +37,7 @@ pub extern "C" fn zan_type3_write(
     number: &[u8; 8],
     list: &mut [u8],
 ) -> u64
-    ensures answer { λ r. ⌜ r ≡ packedCount (countOf (write (type3 (now (number .entry))) (length (now (list .entry))) (now (image .entry)) (now (message .entry)))) ⌝ }
-    ensures buffer { λ _. ⌜ now (list .exit) ≡ outputInto (now (list .entry)) (write (type3 (now (number .entry))) (length (now (list .entry))) (now (image .entry)) (now (message .entry))) ⌝ }
+    ensures { λ r. ⌜ PutOutToC (λ room. write (type3 (now (number .entry))) room (now (image .entry)) (now (message .entry))) (now (list .entry)) r (now (list .exit)) ⌝ }
 {
     let answer = type3_write::write::write(image, message, number, list);
     answers::count(answer)
@@ -62,8 +58,7 @@ pub extern "C" fn zan_type3_judge(
 
 #[no_mangle]
 pub extern "C" fn zan_type3_model(image: &mut [u8], number: &[u8; 8], command: &[u8]) -> u64
-    ensures answer { λ r. ⌜ r ≡ packedStoring (storingOf (model (type3 (now (number .entry))) (now (image .entry)) (now (command .entry)))) ⌝ }
-    ensures stored { λ _. ⌜ now (image .exit) ≡ imageAfter (now (image .entry)) (model (type3 (now (number .entry))) (now (image .entry)) (now (command .entry))) ⌝ }
+    ensures { λ r. ⌜ TookToC (type3 (now (number .entry))) (now (image .entry)) (now (command .entry)) r (now (image .exit)) ⌝ }
 {
     let answer = type3::model::model(image, number, command);
     answers::storing(answer)
@@ -79,8 +74,7 @@ pub extern "C" fn zan_type3_encode(
     nmaxb: u64,
     bytes: &mut [u8],
 ) -> u64
-    ensures answer { λ r. ⌜ r ≡ packedCount (countOf (encode (now (number .entry)) nbw nmaxb count (now (blocks .entry)) (now (sixteens .entry)) (length (now (bytes .entry))))) ⌝ }
-    ensures written { λ _. ⌜ now (bytes .exit) ≡ outputInto (now (bytes .entry)) (encode (now (number .entry)) nbw nmaxb count (now (blocks .entry)) (now (sixteens .entry)) (length (now (bytes .entry)))) ⌝ }
+    ensures { λ r. ⌜ PutOutToC (encode (now (number .entry)) nbw nmaxb count (now (blocks .entry)) (now (sixteens .entry))) (now (bytes .entry)) r (now (bytes .exit)) ⌝ }
 {
     let named = blocks_from(blocks);
     let carried = *sixteens;

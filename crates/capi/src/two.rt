@@ -7,21 +7,15 @@ use type2::Command;
 use type2::commands;
 use type2::container;
 ghost use mathlib.Core.Path.{_≡_};
-ghost use lib.ListN.{length};
-ghost use Rattle.tag.specs.Reading.{answerOf, gatheredInto};
-ghost use Rattle.tag.specs.Answers.{countOf, storingOf};
-ghost use Rattle.tag.specs.TagType.{write, outputInto};
+ghost use Rattle.tag.specs.TagType.{write};
 ghost use Rattle.tag.specs.Judge.{judged};
-ghost use Rattle.tag.specs.Model.{model, imageAfter};
 ghost use Rattle.type2.specs.Type2.{type2};
 ghost use Rattle.type2.specs.Codec.{encode, decode};
-ghost use Rattle.capi.specs.Packed.{packedRead, reportInto, packedCount, packedVerdict, packedStoring, packedDecoded2, blockInto, dataInto};
+ghost use Rattle.capi.specs.Packed.{PutOutToC, ReadToC, TookToC, packedVerdict, packedDecoded2, blockInto, dataInto};
 
 #[no_mangle]
 pub extern "C" fn zan_type2_read(image: &[u8], gathered: &mut [u8], out: &mut [u64; 5]) -> u64
-    ensures answer { λ r. ⌜ r ≡ packedRead (answerOf (length (now (gathered .entry))) ((type2 .reading) (now (image .entry)))) ⌝ }
-    ensures buffer { λ _. ⌜ now (gathered .exit) ≡ gatheredInto (now (gathered .entry)) ((type2 .reading) (now (image .entry))) ⌝ }
-    ensures report { λ _. ⌜ now (out .exit) ≡ reportInto (now (out .entry)) (answerOf (length (now (gathered .entry))) ((type2 .reading) (now (image .entry)))) ⌝ }
+    ensures { λ r. ⌜ ReadToC ((type2 .reading) (now (image .entry))) (now (gathered .entry)) (now (out .entry)) r (now (gathered .exit)) (now (out .exit)) ⌝ }
 {
     let answer = type2::read::read(image, gathered);
     answers::reading(answer, out)
@@ -29,8 +23,7 @@ pub extern "C" fn zan_type2_read(image: &[u8], gathered: &mut [u8], out: &mut [u
 
 #[no_mangle]
 pub extern "C" fn zan_type2_write(image: &[u8], message: &[u8], list: &mut [u8]) -> u64
-    ensures answer { λ r. ⌜ r ≡ packedCount (countOf (write type2 (length (now (list .entry))) (now (image .entry)) (now (message .entry)))) ⌝ }
-    ensures buffer { λ _. ⌜ now (list .exit) ≡ outputInto (now (list .entry)) (write type2 (length (now (list .entry))) (now (image .entry)) (now (message .entry))) ⌝ }
+    ensures { λ r. ⌜ PutOutToC (λ room. write type2 room (now (image .entry)) (now (message .entry))) (now (list .entry)) r (now (list .exit)) ⌝ }
 {
     let answer = type2_write::write::write(image, message, list);
     answers::count(answer)
@@ -46,8 +39,7 @@ pub extern "C" fn zan_type2_judge(image: &[u8], message: &[u8], list: &[u8]) -> 
 
 #[no_mangle]
 pub extern "C" fn zan_type2_model(image: &mut [u8], command: &[u8]) -> u64
-    ensures answer { λ r. ⌜ r ≡ packedStoring (storingOf (model type2 (now (image .entry)) (now (command .entry)))) ⌝ }
-    ensures stored { λ _. ⌜ now (image .exit) ≡ imageAfter (now (image .entry)) (model type2 (now (image .entry)) (now (command .entry))) ⌝ }
+    ensures { λ r. ⌜ TookToC type2 (now (image .entry)) (now (command .entry)) r (now (image .exit)) ⌝ }
 {
     let answer = type2::model::model(image, command);
     answers::storing(answer)
@@ -60,8 +52,7 @@ pub extern "C" fn zan_type2_encode(
     blocks: u64,
     bytes: &mut [u8],
 ) -> u64
-    ensures answer { λ r. ⌜ r ≡ packedCount (countOf (encode blocks block (now (four .entry)) (length (now (bytes .entry))))) ⌝ }
-    ensures written { λ _. ⌜ now (bytes .exit) ≡ outputInto (now (bytes .entry)) (encode blocks block (now (four .entry)) (length (now (bytes .entry)))) ⌝ }
+    ensures { λ r. ⌜ PutOutToC (encode blocks block (now (four .entry))) (now (bytes .entry)) r (now (bytes .exit)) ⌝ }
 {
     let bytes4 = *four;
     let command = Command {

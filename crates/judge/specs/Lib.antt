@@ -1,3 +1,2 @@
 -- What the judge's functions ask of each other.
-pub mod Task
-pub mod Type2
+pub mod Views

@@ -10,9 +10,9 @@ use tag::refusals;
 use tag::slices;
 ghost use mathlib.Core.Path.{_≡_};
 ghost use lib.ListN.{length};
-ghost use Rattle.tag.specs.Judging.{Tested, ListJudged};
-ghost use Rattle.kinds.specs.Types.{typeOf};
-ghost use Rattle.judge.specs.Task.{Writable, Judging};
+ghost use Rattle.tag.specs.Views.Judging.{Tested, ListJudged};
+ghost use Rattle.kinds.specs.Views.Types.{typeOf};
+ghost use Rattle.judge.specs.Views.Task.{Writable, Judging};
 
 // The fault of one command, 20 to 22, or 0. What a well-formed command says is stored in `work` in any case.
 fn step(

@@ -13,13 +13,13 @@ use type2::container::DataArea;
 ghost use mathlib.Core.Path.{_≡_};
 ghost use lib.ListN.{length};
 ghost use Rattle.tag.specs.Contracts.{Judged};
-ghost use Rattle.tag.specs.Judging.{ListJudged};
-ghost use Rattle.tlv.specs.Views.{ahead};
-ghost use Rattle.tlv_tag.specs.SpaceViews.{Room};
+ghost use Rattle.tag.specs.Views.Judging.{ListJudged};
+ghost use Rattle.tlv.specs.Views.Walks.{ahead};
+ghost use Rattle.tlv_tag.specs.Views.Space.{Room};
 ghost use Rattle.type2.specs.Type2.{type2};
-ghost use Rattle.type2.specs.Views.{Inside};
-ghost use Rattle.type2.specs.Table.{Clear};
-ghost use Rattle.judge.specs.Type2.{Planned};
+ghost use Rattle.type2.specs.Views.Container.{Inside};
+ghost use Rattle.type2.specs.Views.Table.{Clear};
+ghost use Rattle.judge.specs.Views.Type2.{Planned};
 
 // With the space for the message found.
 fn judge_space(image: &[u8], message: &[u8], list: &[u8], w: Walk, table: &[u16]) -> JudgeAnswer

@@ -10,7 +10,7 @@ use type3::read::Checked;
 use type3::space;
 ghost use Rattle.tag.specs.Contracts.{Judged};
 ghost use Rattle.type3.specs.Type3.{type3};
-ghost use Rattle.type3.specs.Views.{Readable};
+ghost use Rattle.type3.specs.Views.Attributes.{Readable};
 
 // Refusals 9 to 11 of a tag that reads, then the list.
 fn judge_readable(

@@ -13,7 +13,7 @@ use Rattle.type2.proofs.Holding as two
 use Rattle.type3.proofs.Holding as three
 use Rattle.kinds.specs.declared.Kind.{Kind}
 use Rattle.kinds.specs.declared.Kind.the-variants as kind
-use Rattle.kinds.specs.Types.{typeOf, Attested}
+use Rattle.kinds.specs.Views.Types.{typeOf, Attested}
 
 pub some-span : (k : Kind) (idm i bytes : List ℕ) → 0 < (typeOf k idm .span) i bytes
 some-span (kind.Type2 e) idm i bytes = omega arith

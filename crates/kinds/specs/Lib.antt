@@ -1,2 +1,2 @@
 -- A type of tag by value, as the definitions have it.
-pub mod Types
+pub mod Views

@@ -4,8 +4,8 @@ use crate::Kind;
 ghost use mathlib.Core.Path.{_≡_};
 ghost use Prim.Native.Nat.{_<_};
 ghost use lib.ListN.{length};
-ghost use Rattle.tag.specs.Judging.{Piece, Applied};
-ghost use Rattle.kinds.specs.Types.{typeOf, Attested};
+ghost use Rattle.tag.specs.Views.Judging.{Piece, Applied};
+ghost use Rattle.kinds.specs.Views.Types.{typeOf, Attested};
 
 // How many bytes the first command of the list takes, by the tag handed in.
 fn span(kind: Kind, idm: &[u8; 8], image: &[u8], list: &[u8]) -> usize

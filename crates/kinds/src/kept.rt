@@ -4,7 +4,7 @@ use crate::Kind;
 ghost use mathlib.Core.Path.{_≡_};
 ghost use lib.ListN.{length};
 ghost use Rattle.tag.specs.Judge.{keeps, task};
-ghost use Rattle.kinds.specs.Types.{typeOf, Attested, Protects};
+ghost use Rattle.kinds.specs.Views.Types.{typeOf, Attested, Protects};
 
 // Does the tag `work` have the bytes of the tag handed in at each address that writing the message does not set? A tag with a TLV area
 // goes by its skip table; Type 3 has none.

@@ -6,19 +6,18 @@ use tag::holding;
 use tag::slices;
 ghost use mathlib.Core.Path.{_≡_};
 ghost use lib.ListN.{length};
-ghost use Rattle.tag.specs.Answers.{readAs, oldHeld};
+ghost use Rattle.tag.specs.Answers.{oldHeld};
+ghost use Rattle.tag.specs.Contracts.{Read};
 ghost use Rattle.tag.specs.Judge.{holdsAs, readsAs};
-ghost use Rattle.tag.specs.Reading.{answerOf, gatheredInto};
 ghost use Rattle.tag.specs.TagType.{held};
-ghost use Rattle.kinds.specs.Types.{typeOf};
+ghost use Rattle.kinds.specs.Views.Types.{typeOf};
 
 // The gathering buffer's bytes: only Type 2 has interrupted messages, and none is longer than its image.
 pub const GATHERED: usize = type2::container::LONGEST_IMAGE;
 
 // What the tag reads as.
 pub fn read(kind: Kind, idm: &[u8; 8], image: &[u8], gathered: &mut [u8]) -> ReadAnswer
-    ensures answer { λ r. ⌜ readAs r ≡ answerOf (length (now (gathered .entry))) ((typeOf kind (now (idm .entry)) .reading) (now (image .entry))) ⌝ }
-    ensures buffer { λ _. ⌜ now (gathered .exit) ≡ gatheredInto (now (gathered .entry)) ((typeOf kind (now (idm .entry)) .reading) (now (image .entry))) ⌝ }
+    ensures { λ r. ⌜ Read (typeOf kind (now (idm .entry)) .reading) (now (image .entry)) (now (gathered .entry)) r (now (gathered .exit)) ⌝ }
 {
     match kind {
         Kind::Type2(e) => type2::read::read(image, gathered),

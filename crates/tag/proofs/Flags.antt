@@ -10,7 +10,7 @@ use lib.Dec.{eqb}
 use lib.ListN.{length, take}
 use lib.Seq.{take-all}
 use Rattle.tag.specs.Bytes.{byte, run, same}
-use Rattle.tag.specs.Flags.{flagTo}
+use Rattle.tag.specs.Views.Flags.{flagTo}
 use Rattle.tag.specs.Judge.{equalAt}
 use Rattle.tag.proofs.Keeping.{equal-all}
 use Rattle.tag.proofs.Runs.{run-more}

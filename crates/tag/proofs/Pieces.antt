@@ -10,7 +10,7 @@ use borrow.Author.Tests.{ne-eqb}
 use lib.ListN.{length, take, drop, length-append, length-drop, take-append-drop, drop-of-length-le}
 use lib.Seq.{take-at, drop-at, take-all, drop-drop}
 use Rattle.tag.specs.TagType.{TagType, joined, cutUp}
-use Rattle.tag.specs.Judging.{Piece}
+use Rattle.tag.specs.Views.Judging.{Piece}
 use Rattle.tag.proofs.Each.{Each}
 
 module _ (span : List ℕ → ℕ) where

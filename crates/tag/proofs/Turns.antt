@@ -14,7 +14,7 @@ use Rattle.tag.specs.Stores.{Store, Command, ill, stores, formed, puts, 
 use Rattle.tag.specs.TagType.{TagType, held, cutUp}
 use Rattle.tag.specs.Judge.{accepted, refused, Task, holdsAs, readsAs, keeps, fault, judge, task}
 use Rattle.tag.specs.Answers.{oldHeld}
-use Rattle.tag.specs.Judging.{Piece, Applied, Tested}
+use Rattle.tag.specs.Views.Judging.{Piece, Applied, Tested}
 use Rattle.tag.proofs.Logic.{true-false}
 use Rattle.tag.proofs.Pieces.{cut-none, cut-more}
 use Rattle.tag.proofs.Judging.{fault-ill, fault-change, fault-misread, fault-none, judge-next, judge-stop, judge-good, judge-bad}

@@ -15,9 +15,13 @@ use Rattle.tag.specs.Judge.{judged}
 use Rattle.tag.specs.Model.{model, imageAfter}
 use Rattle.tag.specs.Answers.{readAs, countOf, countAs, verdictAs, storingOf, modelAs}
 
+-- a call that answers for a reading, given a gathering buffer, answers r and leaves the buffer as out
+abbrev pub ReadOf : Reading → List ℕ → ReadAnswer → List ℕ → Type 0
+ReadOf v buffer r out = (readAs r ≡ answerOf (length buffer) v) × (out ≡ gatheredInto buffer v)
+
 -- `read`, given a tag and a gathering buffer, answers r and leaves the buffer as out; how the type reads is the first argument
 abbrev pub Read : (List ℕ → Reading) → List ℕ → List ℕ → ReadAnswer → List ℕ → Type 0
-Read reading i buffer r out = (readAs r ≡ answerOf (length buffer) (reading i)) × (out ≡ gatheredInto buffer (reading i))
+Read reading i buffer r out = ReadOf (reading i) buffer r out
 
 -- `shown`, given a tag, the gathered copy and an answer of `read`, hands back the part
 abbrev pub Showed : List ℕ → List ℕ → ReadAnswer → List ℕ → Type 0

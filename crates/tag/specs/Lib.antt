@@ -12,6 +12,4 @@ pub mod Model
 pub mod Cuts
 pub mod Answers
 pub mod Contracts
-pub mod Judging
-pub mod Numbers
-pub mod Flags
+pub mod Views

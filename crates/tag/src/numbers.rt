@@ -4,7 +4,7 @@ ghost use mathlib.Core.Path.{_≡_};
 ghost use Prim.Native.Nat.{_+_, _*_, _<_, _≤_, min};
 ghost use lib.ListN.{length};
 ghost use Rattle.tag.specs.Bytes.{byte};
-ghost use Rattle.tag.specs.Numbers.{sumTo};
+ghost use Rattle.tag.specs.Views.Numbers.{sumTo};
 
 // A byte as a number to compute with. Unlike `as usize`, it brings its bound with it, and no caller has to show that the byte fits.
 pub fn wide(x: u8) -> usize

@@ -10,7 +10,7 @@ ghost use lib.Dec.{eqb};
 ghost use lib.ListN.{length};
 ghost use lib.Seq.{sets};
 ghost use Rattle.tag.specs.Bytes.{byte, same};
-ghost use Rattle.tag.specs.Flags.{flagTo};
+ghost use Rattle.tag.specs.Views.Flags.{flagTo};
 ghost use Rattle.tag.specs.Reading.{part, shown};
 ghost use Rattle.tag.specs.Answers.{readAs};
 ghost use Rattle.tag.specs.Contracts.{Showed};

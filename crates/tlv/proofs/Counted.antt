@@ -7,8 +7,8 @@ use native.Mathlib.Decide.{decLt}
 use native.Mathlib.Omega.{arith}
 use lib.ListN.{length, replicate}
 use Rattle.tag.specs.Bytes.{byte, run}
-use Rattle.tlv.specs.Table.{unskipped}
-use Rattle.tlv.specs.Counted.{OneMore, Added, TableOf}
+use Rattle.tlv.specs.Views.Table.{unskipped}
+use Rattle.tlv.specs.Views.Counted.{OneMore, Added, TableOf}
 use Rattle.tlv.proofs.Skipping.{unskipped-all}
 
 pub none-added : (first end : ℕ) (t : List ℕ) → Added first end 0 t t

@@ -14,11 +14,11 @@ use Rattle.tlv.specs.declared.find.Stepped.the-variants as stepped
 use Rattle.tlv.specs.declared.find.Found as code-found
 use Rattle.tlv.specs.declared.find.Found.the-variants as code-at
 use Rattle.tlv.specs.Areas.{anyArea}
-use Rattle.tlv.specs.Counted.{Declared}
+use Rattle.tlv.specs.Views.Counted.{Declared}
 use Rattle.tlv.specs.Walk.{Passed, Kind, kindOf, Step, on, stepAt, find}
-use Rattle.tlv.specs.Views.{ahead, Onward, Along, Walked}
-use Rattle.tlv.specs.Passing.{passedAs, PassedPlaced}
-use Rattle.tlv.specs.Finding.{stepOf, steppedAs, TypePlaced, SteppedPlaced, FoundPlaced}
+use Rattle.tlv.specs.Views.Walks.{ahead, Onward, Along, Walked}
+use Rattle.tlv.specs.Views.Passing.{passedAs, PassedPlaced}
+use Rattle.tlv.specs.Views.Finding.{stepOf, steppedAs, TypePlaced, SteppedPlaced, FoundPlaced}
 use Rattle.tlv.proofs.Skipping.{unskipped-few, unskipped-all}
 use Rattle.tlv.proofs.Steps.{onward}
 

@@ -11,8 +11,8 @@ use lib.ListN.{length, set, length-set}
 use lib.Seq.{getD-set-same, getD-set-other}
 use Rattle.tag.specs.Bytes.{byte}
 use Rattle.tlv.specs.Areas.{Area, covers, without}
-use Rattle.tlv.specs.Table.{unskipped}
-use Rattle.tlv.specs.Marks.{Marked}
+use Rattle.tlv.specs.Views.Table.{unskipped}
+use Rattle.tlv.specs.Views.Marks.{Marked}
 use Rattle.tlv.proofs.Skipping.{marked-more}
 
 -- t has become u: the addresses from first up to a are marked

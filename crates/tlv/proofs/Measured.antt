@@ -10,8 +10,8 @@ use lib.ListN.{length, getD}
 use Rattle.tlv.specs.declared.walk.Walk.{Walk}
 use Rattle.tag.specs.Refusals.{bad-length}
 use Rattle.tlv.specs.Walk.{len, more, stop, passValue}
-use Rattle.tlv.specs.Views.{ahead, Within}
-use Rattle.tlv.specs.Values.{short, at, measured}
+use Rattle.tlv.specs.Views.Walks.{ahead, Within}
+use Rattle.tlv.specs.Views.Values.{short, at, measured}
 use Rattle.tlv.proofs.Skipping.{unskipped-past}
 use Rattle.tlv.proofs.Usable.{from, At, from-first, ahead-rising}
 use Rattle.tlv.proofs.Rising.{nth-inside, nth-outside, nth-spread, nth-consecutive}

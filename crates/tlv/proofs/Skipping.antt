@@ -14,7 +14,7 @@ use mir.Val.{boolByte}
 use Rattle.tag.specs.Bytes.{byte, run}
 use Rattle.tag.proofs.Logic.{and-l, and-r}
 use Rattle.tlv.specs.Areas.{Area, covers, without}
-use Rattle.tlv.specs.Table.{unskipped, noneSkipped}
+use Rattle.tlv.specs.Views.Table.{unskipped, noneSkipped}
 
 pub unskipped-pass : (t : List ℕ) (a n : ℕ) → eqb (byte t a) 0 ≡ false → 0 < n → unskipped t a n ≡ unskipped t (a + 1) (n - 1)
 unfolding unskipped

@@ -14,9 +14,9 @@ use Rattle.tlv.specs.declared.length.Field as code-field
 use Rattle.tlv.specs.declared.length.Field.the-variants as field
 use Rattle.tlv.specs.declared.length.Passed as code-passed
 use Rattle.tlv.specs.declared.length.Passed.the-variants as passed
-use Rattle.tlv.specs.Passing.{FieldPlaced, Moved, PassedWithin, PassedPlaced, Skipped}
+use Rattle.tlv.specs.Views.Passing.{FieldPlaced, Moved, PassedWithin, PassedPlaced, Skipped}
 use Rattle.tlv.specs.Walk.{Taken, takeByte, onByte}
-use Rattle.tlv.specs.Views.{ahead, takenAs, Placed, Onward, Along, TakenPlaced}
+use Rattle.tlv.specs.Views.Walks.{ahead, takenAs, Placed, Onward, Along, TakenPlaced}
 use Rattle.tlv.proofs.Counted.{none-added, one-added, one-from, added-from, added-more}
 
 -- ---- a byte taken

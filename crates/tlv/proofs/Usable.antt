@@ -13,8 +13,8 @@ use lib.ListN.{length, getD}
 use Rattle.tag.specs.Bytes.{byte, isSet}
 use Rattle.tag.proofs.Addresses.{Above, Rising}
 use Rattle.tlv.specs.declared.walk.Walk.{Walk}
-use Rattle.tlv.specs.Table.{unskipped, usableIn}
-use Rattle.tlv.specs.Views.{ahead}
+use Rattle.tlv.specs.Views.Table.{unskipped, usableIn}
+use Rattle.tlv.specs.Views.Walks.{ahead}
 use Rattle.tlv.proofs.Skipping.{unskipped-take, unskipped-end}
 
 -- the usable addresses from a up to e

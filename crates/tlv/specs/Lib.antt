@@ -1,10 +1,4 @@
 -- The TLV area of a tag: the walk to the message TLV, and the usable bytes from there on. Read them in this order.
 pub mod Areas
 pub mod Walk
-pub mod Table
-pub mod Marks
-pub mod Counted
 pub mod Views
-pub mod Passing
-pub mod Finding
-pub mod Values

@@ -13,9 +13,9 @@ ghost use mathlib.Core.Path.{_≡_};
 ghost use Prim.Native.Nat.{min, max};
 ghost use Rattle.tlv.specs.Areas.{without, anyArea};
 ghost use Rattle.tlv.specs.Walk.{controlValue, passControl};
-ghost use Rattle.tlv.specs.Views.{ahead, Placed};
-ghost use Rattle.tlv.specs.Marks.{controlAs, areaAs};
-ghost use Rattle.tlv.specs.Passing.{passedAs, PassedPlaced, Skips, Skipped, lastOf};
+ghost use Rattle.tlv.specs.Views.Walks.{ahead, Placed};
+ghost use Rattle.tlv.specs.Views.Marks.{controlAs, areaAs};
+ghost use Rattle.tlv.specs.Views.Passing.{passedAs, PassedPlaced, Skips, Skipped, lastOf};
 
 // The later of two addresses.
 fn later(a: Address, b: Address) -> Address

@@ -10,8 +10,8 @@ ghost use mathlib.Core.Path.{_≡_};
 ghost use Prim.Native.Nat.{_-_};
 ghost use Rattle.tlv.specs.Areas.{anyArea};
 ghost use Rattle.tlv.specs.Walk.{kindOf, stepAt, step, find};
-ghost use Rattle.tlv.specs.Views.{ahead, Placed};
-ghost use Rattle.tlv.specs.Finding.{stepOf, steppedAs, TypePlaced, SteppedPlaced, foundAs, FoundPlaced};
+ghost use Rattle.tlv.specs.Views.Walks.{ahead, Placed};
+ghost use Rattle.tlv.specs.Views.Finding.{stepOf, steppedAs, TypePlaced, SteppedPlaced, foundAs, FoundPlaced};
 
 // A step of the walk: a refusal, a TLV passed, or the message TLV, by its type byte's address and the walk past that byte.
 pub enum Stepped {

@@ -7,8 +7,8 @@ use tag::Address;
 use tag::refusals;
 ghost use mathlib.Core.Path.{_≡_};
 ghost use Rattle.tlv.specs.Walk.{len, longOf, lengthOf, passValue};
-ghost use Rattle.tlv.specs.Views.{ahead, Placed, Within};
-ghost use Rattle.tlv.specs.Passing.{fieldAs, FieldPlaced, passedAs, PassedWithin, PassedPlaced};
+ghost use Rattle.tlv.specs.Views.Walks.{ahead, Placed, Within};
+ghost use Rattle.tlv.specs.Views.Passing.{fieldAs, FieldPlaced, passedAs, PassedWithin, PassedPlaced};
 
 // A length field: bad, or its number and the walk past it.
 pub enum Field {

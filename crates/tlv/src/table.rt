@@ -4,8 +4,8 @@ use tag::Address;
 ghost use mathlib.Core.Path.{_≡_};
 ghost use Prim.Native.Nat.{_-_, _<_, _≤_};
 ghost use lib.ListN.{length, getD};
-ghost use Rattle.tlv.specs.Table.{unskipped, noneSkipped};
-ghost use Rattle.tlv.specs.Marks.{Marked};
+ghost use Rattle.tlv.specs.Views.Table.{unskipped, noneSkipped};
+ghost use Rattle.tlv.specs.Views.Marks.{Marked};
 
 // The first usable address from `at` on, or `end`.
 pub fn next_usable(table: &[u16], at: Address, end: Address) -> Address

@@ -10,8 +10,8 @@ ghost use mathlib.Core.List.{map};
 ghost use Prim.Native.Nat.{_*_, _<_, _≤_};
 ghost use lib.ListN.{length, getD, take, drop};
 ghost use Rattle.tag.specs.Bytes.{byte, overlay, overwrite};
-ghost use Rattle.tlv.specs.Views.{ahead, Placed, Within, Along};
-ghost use Rattle.tlv.specs.Values.{measured, valueAs, ValueRoom, BlocksMarked};
+ghost use Rattle.tlv.specs.Views.Walks.{ahead, Placed, Within, Along};
+ghost use Rattle.tlv.specs.Views.Values.{measured, valueAs, ValueRoom, BlocksMarked};
 
 // A value of so many bytes: fewer usable ones are left; or the address of the first, and whether skipped ones lie in between.
 pub enum Value {

@@ -4,7 +4,7 @@ use crate::table;
 use tag::Address;
 ghost use mathlib.Core.Path.{_≡_};
 ghost use Rattle.tlv.specs.Walk.{takeByte};
-ghost use Rattle.tlv.specs.Views.{ahead, Placed, takenAs, TakenPlaced};
+ghost use Rattle.tlv.specs.Views.Walks.{ahead, Placed, takenAs, TakenPlaced};
 
 // The place reached: the next address to look at, the data area's end, and how many areas were declared on the way.
 pub struct Walk {

@@ -7,7 +7,7 @@ use native.Mathlib.Omega.{arith}
 use borrow.Author.Tests.{le-leb, lt-leb}
 use lib.ListN.{length, length-append}
 use Rattle.tlv_tag.specs.Update.{lengthField, content}
-use Rattle.tlv_tag.specs.UpdateViews.{contentLength}
+use Rattle.tlv_tag.specs.Views.Update.{contentLength}
 
 pub length-short : (n : ℕ) → n ≤ 254 → n ∷ [] ≡ lengthField n
 unfolding lengthField

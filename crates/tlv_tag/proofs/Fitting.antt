@@ -17,17 +17,16 @@ use Rattle.tlv.specs.declared.find.Found as code-found
 use Rattle.tlv.specs.declared.find.Found.the-variants as found
 use Rattle.tlv.specs.Areas.{anyArea}
 use Rattle.tlv.specs.Walk.{Length, bad, len, find}
-use Rattle.tlv.specs.Counted.{Added, Declared}
-use Rattle.tlv.specs.Views.{ahead, Placed, Walked}
-use Rattle.tlv.specs.Finding.{FoundPlaced}
+use Rattle.tlv.specs.Views.Counted.{Added, Declared}
+use Rattle.tlv.specs.Views.Walks.{ahead, Placed, Walked}
+use Rattle.tlv.specs.Views.Finding.{FoundPlaced}
 use Rattle.tlv.proofs.Finding.{find-all, found-declared}
 use Rattle.tlv_tag.specs.declared.space.Space as code
 use Rattle.tlv_tag.specs.declared.space.Space.the-variants as answer
 use Rattle.tlv_tag.specs.Message.{View, refuse, view, viewBy}
-use Rattle.tlv_tag.specs.Space.{Space, no-space, spaceOf}
-use Rattle.tlv_tag.specs.Blank.{Blank}
-use Rattle.tlv_tag.specs.Reading.{refusalOf}
-use Rattle.tlv_tag.specs.SpaceViews.{Room, SpaceHere, SpacePlaced}
+use Rattle.tlv_tag.specs.Views.Space.{Space, no-space, spaceOf, Room, SpaceHere, SpacePlaced}
+use Rattle.tlv_tag.specs.Views.Blank.{Blank}
+use Rattle.tlv_tag.specs.Views.Reading.{refusalOf}
 
 -- one byte of length and n of message
 pub ltb-leb : (n u : ℕ) → ltb n u ≡ leb (1 + n) u

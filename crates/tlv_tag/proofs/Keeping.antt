@@ -10,18 +10,18 @@ use borrow.Author.Tests.{le-leb, lt-leb, lt-ltb, le-ltb, not-true, not-false}
 use lib.Dec.{leb, eqb}
 use lib.ListN.{length, getD, take, drop}
 use Rattle.tag.specs.Bytes.{byte, run, same, isSet}
-use Rattle.tag.specs.Flags.{flagTo}
+use Rattle.tag.specs.Views.Flags.{flagTo}
 use Rattle.tag.specs.Judge.{equalAt}
 use Rattle.tag.proofs.Flags.{flag-kept, zero-flag}
 use Rattle.tag.proofs.Keeping.{equal-same, equal-none, outside-differs, outside-same}
 use Rattle.tag.proofs.Logic.{and-l, and-r}
 use Rattle.tlv.specs.declared.walk.Walk.{Walk}
-use Rattle.tlv.specs.Table.{noneSkipped, usableIn}
-use Rattle.tlv.specs.Views.{ahead, Within}
+use Rattle.tlv.specs.Views.Table.{noneSkipped, usableIn}
+use Rattle.tlv.specs.Views.Walks.{ahead, Within}
 use Rattle.tlv.proofs.Usable.{set-usable}
 use Rattle.tlv_tag.specs.declared.kept.Extent.{Extent}
-use Rattle.tlv_tag.specs.UpdateViews.{contentLength}
-use Rattle.tlv_tag.specs.Kept.{Bounded}
+use Rattle.tlv_tag.specs.Views.Update.{contentLength}
+use Rattle.tlv_tag.specs.Views.Kept.{Bounded}
 
 -- the bytes set lie below the usable address that comes after as many others
 pub set-below : (t : List ℕ) (w : Walk) → Within t w → (n k z : ℕ) → k ≡ contentLength n → z ≡ getD (ahead t w) k (w .end .0)

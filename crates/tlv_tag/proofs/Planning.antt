@@ -13,7 +13,7 @@ use Rattle.tag.specs.Checks.{check, Checked, firstOf}
 use Rattle.tlv_tag.specs.Message.{TlvTag, View, refuse, view, viewed, reading}
 use Rattle.tlv_tag.specs.Update.{usable, fitsIn, planBy}
 use Rattle.tlv_tag.specs.Tag.{tagOf}
-use Rattle.tlv_tag.specs.Space.{Space, no-space, space, spaceOf}
+use Rattle.tlv_tag.specs.Views.Space.{Space, no-space, space, spaceOf}
 use Rattle.tlv_tag.proofs.Writes.{report-writable}
 
 -- what the space is for writing

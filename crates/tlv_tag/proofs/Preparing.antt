@@ -14,11 +14,11 @@ use lib.Seq.{getD-set-same, getD-set-other}
 use Rattle.tag.specs.Bytes.{byte}
 use Rattle.tag.specs.Plan.{touches, between}
 use Rattle.tlv.specs.declared.walk.Walk.{Walk}
-use Rattle.tlv.specs.Views.{ahead}
-use Rattle.tlv.specs.Values.{BlocksMarked}
+use Rattle.tlv.specs.Views.Walks.{ahead}
+use Rattle.tlv.specs.Views.Values.{BlocksMarked}
 use Rattle.tlv.proofs.Usable.{from, At, from-first, from-end}
 use Rattle.tlv_tag.specs.Update.{content, lengthAt, planBy}
-use Rattle.tlv_tag.specs.UpdateViews.{contentLength, marked}
+use Rattle.tlv_tag.specs.Views.Update.{contentLength, marked}
 use Rattle.tlv_tag.proofs.Content.{length-content}
 
 -- ---- the first length byte

@@ -23,12 +23,12 @@ use Rattle.tlv.specs.declared.find.Found as code-found
 use Rattle.tlv.specs.declared.find.Found.the-variants as code-at
 use Rattle.tlv.specs.Areas.{anyArea}
 use Rattle.tlv.specs.Walk.{Length, bad, len, lengthOf, Passed, more, stop, passValue, find}
-use Rattle.tlv.specs.Views.{ahead}
-use Rattle.tlv.specs.Finding.{foundAs}
-use Rattle.tlv.specs.Values.{at, measured}
+use Rattle.tlv.specs.Views.Walks.{ahead}
+use Rattle.tlv.specs.Views.Finding.{foundAs}
+use Rattle.tlv.specs.Views.Values.{at, measured}
 use Rattle.tlv_tag.specs.Message.{TlvTag, View, refuse, view, viewBy, viewOf, viewed, reportOf, readingOf, reading}
-use Rattle.tlv_tag.specs.Blank.{Blank}
-use Rattle.tlv_tag.specs.Reading.{areaView, tlvView, valueReading, refusalOf, reportAs}
+use Rattle.tlv_tag.specs.Views.Blank.{Blank}
+use Rattle.tlv_tag.specs.Views.Reading.{areaView, tlvView, valueReading, refusalOf, reportAs}
 use Rattle.tlv_tag.proofs.Fitting.{Begins, found-all}
 
 -- the answer and the gathering buffer afterwards are those of a reading

@@ -2,9 +2,4 @@
 pub mod Message
 pub mod Update
 pub mod Tag
-pub mod Space
-pub mod Blank
-pub mod Reading
-pub mod SpaceViews
-pub mod UpdateViews
-pub mod Kept
+pub mod Views

@@ -12,11 +12,11 @@ ghost use Prim.Native.Nat.{_+_, _-_, _≤_};
 ghost use lib.Dec.{eqb};
 ghost use lib.ListN.{length};
 ghost use Rattle.tag.specs.Bytes.{byte, run};
-ghost use Rattle.tag.specs.Flags.{flagTo};
+ghost use Rattle.tag.specs.Views.Flags.{flagTo};
 ghost use Rattle.tag.specs.Judge.{equalAt};
-ghost use Rattle.tlv.specs.Table.{usableIn};
-ghost use Rattle.tlv.specs.Views.{ahead, Within};
-ghost use Rattle.tlv_tag.specs.Kept.{Bounded, Extends};
+ghost use Rattle.tlv.specs.Views.Table.{usableIn};
+ghost use Rattle.tlv.specs.Views.Walks.{ahead, Within};
+ghost use Rattle.tlv_tag.specs.Views.Kept.{Bounded, Extends};
 
 // The bytes to set lie at the usable addresses from `first` up to `stop`.
 pub struct Extent {

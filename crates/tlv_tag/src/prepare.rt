@@ -9,12 +9,11 @@ use tlv::table;
 use tlv::walk::Walk;
 ghost use mathlib.Core.Path.{_≡_};
 ghost use lib.ListN.{length};
-ghost use Rattle.tlv.specs.Views.{ahead};
-ghost use Rattle.tlv_tag.specs.Space.{spaceOf};
-ghost use Rattle.tlv_tag.specs.Blank.{Blank};
-ghost use Rattle.tlv_tag.specs.Reading.{areaView};
-ghost use Rattle.tlv_tag.specs.SpaceViews.{Room};
-ghost use Rattle.tlv_tag.specs.UpdateViews.{Spare, Prepared, PreparedIn};
+ghost use Rattle.tlv.specs.Views.Walks.{ahead};
+ghost use Rattle.tlv_tag.specs.Views.Space.{spaceOf, Room};
+ghost use Rattle.tlv_tag.specs.Views.Blank.{Blank};
+ghost use Rattle.tlv_tag.specs.Views.Reading.{areaView};
+ghost use Rattle.tlv_tag.specs.Views.Update.{Spare, Prepared, PreparedIn};
 
 // A refusal; or the address of the first length byte.
 pub enum Preparation {

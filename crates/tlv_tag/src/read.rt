@@ -14,20 +14,19 @@ use tlv::walk::Walk;
 ghost use mathlib.Core.Path.{_≡_};
 ghost use Prim.Native.Nat.{_≤_};
 ghost use lib.ListN.{length};
-ghost use Rattle.tag.specs.Reading.{reads, answerOf, gatheredInto};
-ghost use Rattle.tag.specs.Answers.{readAs};
-ghost use Rattle.tlv.specs.Counted.{Declared};
-ghost use Rattle.tlv.specs.Views.{ahead, Placed};
+ghost use Rattle.tag.specs.Reading.{reads};
+ghost use Rattle.tag.specs.Contracts.{ReadOf};
+ghost use Rattle.tlv.specs.Views.Counted.{Declared};
+ghost use Rattle.tlv.specs.Views.Walks.{ahead, Placed};
 ghost use Rattle.tlv_tag.specs.Message.{readingOf};
-ghost use Rattle.tlv_tag.specs.Blank.{Blank};
-ghost use Rattle.tlv_tag.specs.Reading.{areaView, tlvView, valueReading, refusalOf, reportAs};
+ghost use Rattle.tlv_tag.specs.Views.Blank.{Blank};
+ghost use Rattle.tlv_tag.specs.Views.Reading.{areaView, tlvView, valueReading, refusalOf, reportAs};
 
 // The answer for a message that is there, from the walk before its first byte: gathered if it is interrupted, unless the
 // buffer is shorter.
 fn deliver(image: &[u8], gathered: &mut [u8], table: &[u16], w: Walk, report: Report) -> ReadAnswer
     requires { ⌜ Placed (now image) (now table) w × (report .length ≤ length (ahead (now table) w)) ⌝ }
-    ensures answer { λ r. ⌜ readAs r ≡ answerOf (length (now (gathered .entry))) (reads (reportAs (now (image .entry)) (ahead (now (table .entry)) w) report)) ⌝ }
-    ensures buffer { λ _. ⌜ now (gathered .exit) ≡ gatheredInto (now (gathered .entry)) (reads (reportAs (now (image .entry)) (ahead (now (table .entry)) w) report)) ⌝ }
+    ensures read { λ r. ⌜ ReadOf (reads (reportAs (now (image .entry)) (ahead (now (table .entry)) w) report)) (now (gathered .entry)) r (now (gathered .exit)) ⌝ }
 {
     let interrupted = report.interrupted;
     if !interrupted {
@@ -51,8 +50,7 @@ fn read_value(
     writable: bool,
 ) -> ReadAnswer
     requires { ⌜ Placed (now image) (now table) w ⌝ }
-    ensures answer { λ r. ⌜ readAs r ≡ answerOf (length (now (gathered .entry))) (valueReading writable (now (image .entry)) n (ahead (now (table .entry)) w)) ⌝ }
-    ensures buffer { λ _. ⌜ now (gathered .exit) ≡ gatheredInto (now (gathered .entry)) (valueReading writable (now (image .entry)) n (ahead (now (table .entry)) w)) ⌝ }
+    ensures read { λ r. ⌜ ReadOf (valueReading writable (now (image .entry)) n (ahead (now (table .entry)) w)) (now (gathered .entry)) r (now (gathered .exit)) ⌝ }
 {
     if n == 0 {
         return ReadAnswer::Reads(Report {
@@ -87,8 +85,7 @@ fn read_message(
     writable: bool,
 ) -> ReadAnswer
     requires { ⌜ Placed (now image) (now table) w ⌝ }
-    ensures answer { λ r. ⌜ readAs r ≡ answerOf (length (now (gathered .entry))) (readingOf writable (now (image .entry)) (tlvView (now (image .entry)) (ahead (now (table .entry)) w))) ⌝ }
-    ensures buffer { λ _. ⌜ now (gathered .exit) ≡ gatheredInto (now (gathered .entry)) (readingOf writable (now (image .entry)) (tlvView (now (image .entry)) (ahead (now (table .entry)) w))) ⌝ }
+    ensures read { λ r. ⌜ ReadOf (readingOf writable (now (image .entry)) (tlvView (now (image .entry)) (ahead (now (table .entry)) w))) (now (gathered .entry)) r (now (gathered .exit)) ⌝ }
 {
     match w.take_length(image, table) {
         Field::Bad => ReadAnswer::Refused(refusals::BAD_LENGTH),
@@ -106,8 +103,7 @@ pub fn read_area(
     writable: bool,
 ) -> ReadAnswer
     requires { ⌜ Blank (now image) (now table) (first .0) (end .0) ⌝ }
-    ensures answer { λ r. ⌜ readAs r ≡ answerOf (length (now (gathered .entry))) (readingOf writable (now (image .entry)) (areaView (now (image .entry)) (first .0) (end .0))) ⌝ }
-    ensures buffer { λ _. ⌜ now (gathered .exit) ≡ gatheredInto (now (gathered .entry)) (readingOf writable (now (image .entry)) (areaView (now (image .entry)) (first .0) (end .0))) ⌝ }
+    ensures read { λ r. ⌜ ReadOf (readingOf writable (now (image .entry)) (areaView (now (image .entry)) (first .0) (end .0))) (now (gathered .entry)) r (now (gathered .exit)) ⌝ }
     ensures table { λ _. ⌜ Declared (first .0) (end .0) (now (table .entry)) (now (table .exit)) ⌝ }
 {
     let w = Walk::new(first, end);

@@ -9,14 +9,13 @@ use tlv::walk::Walk;
 ghost use mathlib.Core.Path.{_≡_};
 ghost use mathlib.Core.List.{List};
 ghost use Prim.Native.Nat.{ℕ};
-ghost use Rattle.tlv.specs.Counted.{Declared};
-ghost use Rattle.tlv.specs.Views.{ahead, Placed};
+ghost use Rattle.tlv.specs.Views.Counted.{Declared};
+ghost use Rattle.tlv.specs.Views.Walks.{ahead, Placed};
 ghost use Rattle.tlv_tag.specs.Message.{view};
 ghost use Rattle.tlv_tag.specs.Update.{fitsIn};
-ghost use Rattle.tlv_tag.specs.Space.{spaceOf};
-ghost use Rattle.tlv_tag.specs.Blank.{Blank};
-ghost use Rattle.tlv_tag.specs.Reading.{areaView, tlvView};
-ghost use Rattle.tlv_tag.specs.SpaceViews.{spaceAs, SpaceHere, SpacePlaced};
+ghost use Rattle.tlv_tag.specs.Views.Space.{spaceOf, spaceAs, SpaceHere, SpacePlaced};
+ghost use Rattle.tlv_tag.specs.Views.Blank.{Blank};
+ghost use Rattle.tlv_tag.specs.Views.Reading.{areaView, tlvView};
 
 // A refusal; or the walk past the message TLV's type byte, where the message with its length has room.
 pub enum Space {

@@ -7,10 +7,10 @@ ghost use mathlib.Core.Path.{_≡_};
 ghost use Prim.Native.Nat.{_*_, _<_, _≤_};
 ghost use lib.ListN.{length, drop};
 ghost use Rattle.tag.specs.Bytes.{overlay};
-ghost use Rattle.tlv.specs.Views.{ahead, Placed, Within, Along};
-ghost use Rattle.tlv.specs.Values.{BlocksMarked};
+ghost use Rattle.tlv.specs.Views.Walks.{ahead, Placed, Within, Along};
+ghost use Rattle.tlv.specs.Views.Values.{BlocksMarked};
 ghost use Rattle.tlv_tag.specs.Update.{lengthField, content};
-ghost use Rattle.tlv_tag.specs.UpdateViews.{contentLength};
+ghost use Rattle.tlv_tag.specs.Views.Update.{contentLength};
 
 // Sets the length in its shortest form, and hands back the walk past it.
 fn set_length(w: Walk, n: usize, table: &[u16], image: &mut [u8]) -> Walk

@@ -10,13 +10,13 @@ use Rattle.tag.specs.Checks.{fault, firstOf}
 use Rattle.tag.specs.TagType.{unwritten, written, writing}
 use Rattle.tlv_tag.specs.Message.{View, refuse, viewAfter, viewed}
 use Rattle.tlv_tag.specs.Update.{planBy}
-use Rattle.tlv_tag.specs.Space.{no-space, space, spaceOf}
-use Rattle.tlv_tag.specs.Reading.{areaView}
+use Rattle.tlv_tag.specs.Views.Space.{no-space, space, spaceOf}
+use Rattle.tlv_tag.specs.Views.Reading.{areaView}
 use Rattle.tlv_tag.proofs.Planning.{writingIn, writing-space}
 use Rattle.type2.specs.Memory.{memory}
 use Rattle.type2.specs.Codec.{encoded}
 use Rattle.type2.specs.Type2.{command, span, type2}
-use Rattle.type2.specs.Views.{Inside}
+use Rattle.type2.specs.Views.Container.{Inside}
 use Rattle.type2.proofs.Reading.{inside-view}
 
 by-view : (i m : List ℕ) (v : View) → viewed memory i ≡ v

@@ -10,15 +10,15 @@ use Rattle.tag.specs.Bytes.{run, isSet}
 use Rattle.tag.specs.Judge.{equalAt, keeps, task}
 use Rattle.tag.proofs.Keeping.{equal-same}
 use Rattle.tlv.specs.declared.walk.Walk.{Walk}
-use Rattle.tlv.specs.Table.{usableIn}
-use Rattle.tlv.specs.Views.{ahead}
+use Rattle.tlv.specs.Views.Table.{usableIn}
+use Rattle.tlv.specs.Views.Walks.{ahead}
 use Rattle.tlv_tag.specs.declared.kept.Extent.{Extent}
 use Rattle.tlv_tag.specs.Update.{content}
-use Rattle.tlv_tag.specs.SpaceViews.{Room}
-use Rattle.tlv_tag.specs.Kept.{Bounded, Extends}
+use Rattle.tlv_tag.specs.Views.Space.{Room}
+use Rattle.tlv_tag.specs.Views.Kept.{Bounded, Extends}
 use Rattle.tlv_tag.proofs.Content.{length-content}
 use Rattle.type2.specs.Type2.{type2}
-use Rattle.type2.specs.Kept.{Covered}
+use Rattle.type2.specs.Views.Kept.{Covered}
 
 pub covered : (i m table : List ℕ) (w : Walk) (e : Extent) → Room i table (length m) w → ahead table w ≡ (type2 .plan) i m .addresses
     → Extends table (ahead table w) (length m) e → Bounded table (w .end .0) e → Covered i m table e

@@ -11,7 +11,7 @@ use Rattle.tag.specs.Bytes.{byte}
 use Rattle.tag.specs.Refusals.{malformed-command}
 use Rattle.tag.specs.Reading.{Reading, unreadable, reads, refusalNumber}
 use Rattle.tag.specs.Stores.{ill, stores, formed, done}
-use Rattle.tag.specs.Judging.{Applied}
+use Rattle.tag.specs.Views.Judging.{Applied}
 use Rattle.tag.specs.Model.{unstored, stored, given, modelBy, model}
 use Rattle.tlv_tag.proofs.Refusals.{numbered}
 use Rattle.type2.specs.Memory.{memory}

@@ -12,15 +12,15 @@ use Rattle.tag.specs.Reading.{unreadable, refusalNumber}
 use Rattle.tlv.specs.Areas.{anyArea}
 use Rattle.tlv.specs.Walk.{find}
 use Rattle.tlv_tag.specs.Message.{viewOf, viewAfter, viewed, readingOf, reading}
-use Rattle.tlv_tag.specs.Blank.{Blank}
-use Rattle.tlv_tag.specs.Reading.{areaView, refusalOf}
+use Rattle.tlv_tag.specs.Views.Blank.{Blank}
+use Rattle.tlv_tag.specs.Views.Reading.{areaView, refusalOf}
 use Rattle.tlv_tag.proofs.Reading.{reading-fault, reading-refusal}
 use Rattle.type2.specs.declared.container.DataArea.{DataArea}
 use Rattle.type2.specs.declared.container.DataArea.the-variants as code
 use Rattle.type2.specs.Memory.{memory}
 use Rattle.type2.specs.Type2.{type2}
-use Rattle.type2.specs.Views.{checkedAs, InsideArea, Inside, Known}
-use Rattle.type2.specs.Table.{Clear}
+use Rattle.type2.specs.Views.Container.{checkedAs, InsideArea, Inside, Known}
+use Rattle.type2.specs.Views.Table.{Clear}
 
 -- a check fails
 pub refused : (i : List ℕ) (d : DataArea) (n : ℕ) → checkedAs d ≡ firstOf ((memory .checks) i) → d ≡ code.Refused n → (type2 .reading) i ≡ unreadable n

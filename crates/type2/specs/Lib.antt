@@ -2,7 +2,5 @@
 pub mod Memory
 pub mod Codec
 pub mod Type2
+pub mod CodecContracts
 pub mod Views
-pub mod CodecViews
-pub mod Table
-pub mod Kept

@@ -12,7 +12,7 @@ ghost use Prim.Native.Nat.{_/_};
 ghost use lib.ListN.{length, drop};
 ghost use Rattle.tag.specs.Bytes.{byte};
 ghost use Rattle.type2.specs.Codec.{nameable, commandBytes, wellFormed, decoded};
-ghost use Rattle.type2.specs.CodecViews.{commandAs, EncodedTo, DecodedTo};
+ghost use Rattle.type2.specs.CodecContracts.{commandAs, EncodedTo, DecodedTo};
 
 // Where a command has its four bytes.
 pub const DATA: usize = 2;

@@ -8,7 +8,7 @@ ghost use lib.ListN.{length, drop};
 ghost use Prim.Native.Nat.{_≤_};
 ghost use Rattle.tag.specs.Checks.{firstOf};
 ghost use Rattle.type2.specs.Memory.{memory};
-ghost use Rattle.type2.specs.Views.{checkedAs, Known};
+ghost use Rattle.type2.specs.Views.Container.{checkedAs, Known};
 
 // The bytes of a block.
 pub const BLOCK_SIZE: usize = 4;

@@ -11,7 +11,7 @@ ghost use mathlib.Core.Path.{_≡_};
 ghost use Rattle.tag.specs.Reading.{refusalNumber};
 ghost use Rattle.tag.specs.Contracts.{Read, Showed};
 ghost use Rattle.type2.specs.Type2.{type2};
-ghost use Rattle.type2.specs.Table.{Clear};
+ghost use Rattle.type2.specs.Views.Table.{Clear};
 
 // Reading, with the skip table lent.
 fn read_with(image: &[u8], gathered: &mut [u8], table: &mut [u16]) -> ReadAnswer

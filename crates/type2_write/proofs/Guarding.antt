@@ -11,8 +11,8 @@ use lib.ListN.{length, set, take, drop, length-append, length-drop, length-set}
 use Rattle.tag.specs.Bytes.{overwrite}
 use Rattle.tag.specs.TagType.{withheld, output}
 use Rattle.tag.proofs.Filling.{lay-part}
-use Rattle.tlv_tag.specs.UpdateViews.{marked}
-use Rattle.type2_write.specs.Listing.{blockBytes, markedCount, markedBytes, guardedBytes, guardedOutput, Listed}
+use Rattle.tlv_tag.specs.Views.Update.{marked}
+use Rattle.type2_write.specs.Views.Listing.{blockBytes, markedCount, markedBytes, guardedBytes, guardedOutput, Listed}
 use Rattle.type2_write.proofs.Laying.{length-block, length-picked}
 
 module _ (i new marks : List ℕ) (first : ℕ) (h : Listed i new marks first) where

@@ -19,7 +19,7 @@ use Rattle.tag.proofs.Picks.{length-picks, picked, picks-next}
 use Rattle.tag.proofs.Counts.{counted-yes, counted-no}
 use Rattle.tag.proofs.Sending.{Named, picks-named}
 use Rattle.type2.specs.Codec.{commandBytes, encoded}
-use Rattle.type2_write.specs.Listing.{blockBytes, oneEach}
+use Rattle.type2_write.specs.Views.Listing.{blockBytes, oneEach}
 
 -- ---- one block
 

@@ -16,16 +16,16 @@ use Rattle.tag.proofs.Counts.{length-list, counted-same}
 use Rattle.tlv_tag.specs.declared.prepare.Preparation as code
 use Rattle.tlv_tag.specs.declared.prepare.Preparation.the-variants as answer
 use Rattle.tlv_tag.specs.Update.{lengthAt, planBy}
-use Rattle.tlv_tag.specs.Space.{space, spaceOf}
-use Rattle.tlv_tag.specs.Reading.{areaView}
-use Rattle.tlv_tag.specs.UpdateViews.{marked, Spare, Prepared, PreparedIn}
+use Rattle.tlv_tag.specs.Views.Space.{space, spaceOf}
+use Rattle.tlv_tag.specs.Views.Reading.{areaView}
+use Rattle.tlv_tag.specs.Views.Update.{marked, Spare, Prepared, PreparedIn}
 use Rattle.type2.specs.Codec.{encoded}
 use Rattle.type2.specs.Type2.{type2}
-use Rattle.type2.specs.Views.{Inside}
+use Rattle.type2.specs.Views.Container.{Inside}
 use Rattle.type2.proofs.Memory.{whole-blocks}
 use Rattle.type2.proofs.Deciding.{no-space-writing, space-writing}
-use Rattle.type2_write.specs.Listing.{blockBytes, oneEach, markedCount, markedBytes, guardedBytes, guardedOutput, Listed}
-use Rattle.type2_write.specs.Writing.{Unmarked}
+use Rattle.type2_write.specs.Views.Listing.{blockBytes, oneEach, markedCount, markedBytes, guardedBytes, guardedOutput, Listed}
+use Rattle.type2_write.specs.Views.Writing.{Unmarked}
 use Rattle.type2_write.proofs.Laying.{chunks-one, block-one}
 
 -- ---- the list

@@ -12,10 +12,9 @@ ghost use mathlib.Core.Bool.{cond};
 ghost use mathlib.Core.List.{_++_};
 ghost use Prim.Native.Nat.{_+_, _*_, _/_, _<_, _≤_};
 ghost use lib.ListN.{length, set, take, drop};
-ghost use Rattle.tag.specs.TagType.{outputInto};
-ghost use Rattle.tag.specs.Answers.{countAs, countOf};
-ghost use Rattle.tlv_tag.specs.UpdateViews.{marked};
-ghost use Rattle.type2_write.specs.Listing.{blockBytes, markedCount, markedBytes, guardedOutput, Listed};
+ghost use Rattle.tag.specs.Contracts.{PutOut};
+ghost use Rattle.tlv_tag.specs.Views.Update.{marked};
+ghost use Rattle.type2_write.specs.Views.Listing.{blockBytes, markedCount, markedBytes, guardedOutput, Listed};
 
 // Writes the command of a block, with the image's bytes, to the front of `out`.
 fn put_block(image: &[u8], block: Block, out: &mut [u8])
@@ -94,8 +93,7 @@ pub(crate) fn put_list(
     list: &mut [u8],
 ) -> CountAnswer
     requires { ⌜ Listed (now image) (now new) (now marks) (first .0) ⌝ }
-    ensures answer { λ r. ⌜ countAs r ≡ countOf (guardedOutput (length (now (list .entry))) (now (image .entry)) (now (new .entry)) (now (marks .entry)) (first .0)) ⌝ }
-    ensures buffer { λ _. ⌜ now (list .exit) ≡ outputInto (now (list .entry)) (guardedOutput (length (now (list .entry))) (now (image .entry)) (now (new .entry)) (now (marks .entry)) (first .0)) ⌝ }
+    ensures { λ r. ⌜ PutOut (λ room. guardedOutput room (now (image .entry)) (now (new .entry)) (now (marks .entry)) (first .0)) (now (list .entry)) r (now (list .exit)) ⌝ }
 {
     let end = Address(image.len()).block(container::BLOCK_SIZE);
     let blocks = end.0;

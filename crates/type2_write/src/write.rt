@@ -11,8 +11,8 @@ ghost use mathlib.Core.Path.{_≡_};
 ghost use lib.ListN.{length};
 ghost use Rattle.tag.specs.Contracts.{Wrote};
 ghost use Rattle.type2.specs.Type2.{type2};
-ghost use Rattle.type2.specs.Views.{Inside};
-ghost use Rattle.type2_write.specs.Writing.{Work};
+ghost use Rattle.type2.specs.Views.Container.{Inside};
+ghost use Rattle.type2_write.specs.Views.Writing.{Work};
 
 // Refusals 6 to 12, or the list, for a tag whose data area ends at `end`.
 fn write_inside(

@@ -13,8 +13,8 @@ use Rattle.type3.specs.declared.read.Attributes.{Attributes}
 use Rattle.type3.specs.Attributes.{attributes, attributeChecks, mayWrite}
 use Rattle.type3.specs.Update.{fits, plan}
 use Rattle.type3.specs.Type3.{type3}
-use Rattle.type3.specs.Views.{faultAs, Readable}
-use Rattle.type3.specs.Space.{refusalFor}
+use Rattle.type3.specs.Views.Attributes.{faultAs, Readable}
+use Rattle.type3.specs.Views.Space.{refusalFor}
 use Rattle.type3.proofs.Message.{unread, passes-reads, reads-writable}
 
 module _ (number i m : List ℕ) where

@@ -16,8 +16,9 @@ use Rattle.tag.proofs.Logic.{and-l, and-r, and-three, and-both, same-eq, same-r
 use Rattle.type3.specs.declared.Command.{Command}
 use Rattle.type3.specs.Update.{blocksPerCommand}
 use Rattle.type3.specs.Codec.{namesBytes, Names, no-names, names, namesOf, nameable, wellNamed, opening, commandBytes, Decoded, undecoded, decoded, decodeBy, decode}
-use Rattle.type3.specs.InPlace.{marked, numbers, framedBy, framed, carried}
-use Rattle.type3.specs.CodecViews.{blockNumbers, commandAs, isCommand, Framed}
+use Rattle.type3.specs.Views.InPlace.{marked, numbers, framedBy, framed, carried}
+use Rattle.type3.specs.CodecContracts.{blockNumbers, commandAs}
+use Rattle.type3.specs.Views.Framing.{isCommand, Framed}
 use Rattle.type3.proofs.Codec.{length-opening, past-count, grouped, decode-encode, encode-decode, length-command, count-at}
 use Rattle.type3.proofs.Numbering.{numbers-back}
 use Rattle.type3.proofs.Naming.{length-numbers}

@@ -14,7 +14,7 @@ use Rattle.tag.proofs.Keeping.{equal-same, equal-split, equal-none, outside-dif
 use Rattle.tag.proofs.Runs.{run-set}
 use Rattle.type3.specs.Update.{blocksFor, addresses, values}
 use Rattle.type3.specs.Type3.{type3}
-use Rattle.type3.specs.Kept.{setFor}
+use Rattle.type3.specs.Views.Kept.{setFor}
 use Rattle.type3.proofs.Update.{length-body}
 
 -- ---- compared

@@ -11,14 +11,14 @@ use Rattle.tag.specs.Bytes.{byte}
 use Rattle.tag.specs.Refusals.{positioned, malformed-command}
 use Rattle.tag.specs.Checks.{fine, fault, firstOf}
 use Rattle.tag.specs.Stores.{Store, ill, stores, formed, done}
-use Rattle.tag.specs.Judging.{Applied}
+use Rattle.tag.specs.Views.Judging.{Applied}
 use Rattle.tag.specs.Model.{unstored, stored, given, modelBy, model}
 use Rattle.tag.proofs.Logic.{true-false}
 use Rattle.type3.specs.Attributes.{nmaxbOf, attributes, attributeChecks}
 use Rattle.type3.specs.Codec.{Decoded, undecoded, decoded, decode, storesOf, commandOf}
 use Rattle.type3.specs.Type3.{type3}
-use Rattle.type3.specs.CodecViews.{isCommand}
-use Rattle.type3.specs.Model.{decodeFor}
+use Rattle.type3.specs.Views.Framing.{isCommand}
+use Rattle.type3.specs.Views.Model.{decodeFor}
 use Rattle.type3.proofs.Message.{unread, passes-reads}
 
 -- ---- which commands are taken

@@ -14,7 +14,7 @@ use Rattle.tag.specs.Bytes.{byte, has}
 use Rattle.tag.proofs.Logic.{and-l, and-r, and-three}
 use Rattle.tag.proofs.Storing.{sets-append}
 use Rattle.type3.specs.Codec.{namesBytes, nameable}
-use Rattle.type3.specs.InPlace.{marked, numbers}
+use Rattle.type3.specs.Views.InPlace.{marked, numbers}
 use Rattle.type3.proofs.Codec.{length-names}
 
 -- ---- a block among others

@@ -6,7 +6,7 @@ use Prim.Native.Nat.{ℕ, zero, suc}
 use lib.ListN.{getD}
 use Rattle.tag.specs.declared.Block.{Block}
 use Rattle.tag.specs.Bytes.{byte}
-use Rattle.type3.specs.CodecViews.{blockNumbers, blocksOf}
+use Rattle.type3.specs.CodecContracts.{blockNumbers, blocksOf}
 
 -- blocks by their numbers have these numbers
 pub numbers-back : (ns : List ℕ) → blockNumbers (blocksOf ns) ≡ ns

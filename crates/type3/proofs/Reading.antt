@@ -17,7 +17,7 @@ use Rattle.tag.proofs.Checks.{fine-all}
 use Rattle.type3.specs.declared.read.Attributes.{Attributes}
 use Rattle.type3.specs.Attributes.{attributes, imageLength, attributeChecks, mayWrite}
 use Rattle.type3.specs.Message.{busy, view, viewBy, readingOf, reading}
-use Rattle.type3.specs.Views.{faultAs, WholeBlocks, Says, Attests, answerFor}
+use Rattle.type3.specs.Views.Attributes.{faultAs, WholeBlocks, Says, Attests, answerFor}
 use Rattle.type3.proofs.Message.{Passes, bounds, ln-fits, unread}
 
 -- ---- the number of the first test that fails

@@ -10,9 +10,9 @@ use lib.Seq.{sets, drop-drop, getD-drop}
 use Rattle.tag.specs.Bytes.{byte}
 use Rattle.tag.specs.Stores.{puts, stores}
 use Rattle.type3.specs.Codec.{nameable, decode, storesOf, commandOf}
-use Rattle.type3.specs.InPlace.{numbers}
-use Rattle.type3.specs.CodecViews.{isCommand, Framed}
-use Rattle.type3.specs.Model.{Storable, storesFrom}
+use Rattle.type3.specs.Views.InPlace.{numbers}
+use Rattle.type3.specs.Views.Framing.{isCommand, Framed}
+use Rattle.type3.specs.Views.Model.{Storable, storesFrom}
 use Rattle.type3.proofs.Naming.{nameable-each, length-numbers}
 use Rattle.type3.proofs.Decoding.{frame, decode-carried}
 

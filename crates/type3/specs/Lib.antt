@@ -4,9 +4,5 @@ pub mod Message
 pub mod Update
 pub mod Codec
 pub mod Type3
-pub mod InPlace
-pub mod CodecViews
+pub mod CodecContracts
 pub mod Views
-pub mod Space
-pub mod Kept
-pub mod Model

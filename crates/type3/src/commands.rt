@@ -19,8 +19,9 @@ ghost use Rattle.tag.specs.Bytes.{byte, same, overwrite};
 ghost use Rattle.tag.specs.Contracts.{PutOut};
 ghost use Rattle.type3.specs.Update.{blocksPerCommand};
 ghost use Rattle.type3.specs.Codec.{nameable, wellNamed, opening, commandBytes, encode, decode, span};
-ghost use Rattle.type3.specs.InPlace.{numbers, framed, carried};
-ghost use Rattle.type3.specs.CodecViews.{commandAs, isCommand, EncodedTo, DecodedTo, PutAsked, Framed};
+ghost use Rattle.type3.specs.Views.InPlace.{numbers, framed, carried};
+ghost use Rattle.type3.specs.CodecContracts.{commandAs, EncodedTo, DecodedTo};
+ghost use Rattle.type3.specs.Views.Framing.{isCommand, PutAsked, Framed};
 
 // A command may name so many blocks.
 pub const MOST_BLOCKS: usize = 8;

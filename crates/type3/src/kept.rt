@@ -12,7 +12,7 @@ ghost use lib.ListN.{length};
 ghost use Rattle.tag.specs.Bytes.{run};
 ghost use Rattle.tag.specs.Judge.{equalAt};
 ghost use Rattle.type3.specs.Update.{blocksFor};
-ghost use Rattle.type3.specs.Kept.{setFor};
+ghost use Rattle.type3.specs.Views.Kept.{setFor};
 
 // Does the tag `work` have the bytes of `image` but for those that writing a message of `n` bytes sets? Between WriteFlag and the end of
 // the message's blocks only RWFlag is not set.

@@ -11,9 +11,9 @@ ghost use lib.ListN.{length};
 ghost use Rattle.tag.specs.Stores.{done};
 ghost use Rattle.tag.specs.Contracts.{Took};
 ghost use Rattle.type3.specs.Codec.{commandOf};
-ghost use Rattle.type3.specs.CodecViews.{isCommand};
+ghost use Rattle.type3.specs.Views.Framing.{isCommand};
 ghost use Rattle.type3.specs.Type3.{type3};
-ghost use Rattle.type3.specs.Model.{decodeFor};
+ghost use Rattle.type3.specs.Views.Model.{decodeFor};
 
 // Stores what the command says, and answers whether it is well formed for this Nbw and this Nmaxb and blocks 0 to Nmaxb lie in
 // the image; nothing is stored if not.

@@ -9,8 +9,8 @@ ghost use lib.ListN.{length, drop, getD};
 ghost use lib.Seq.{sets};
 ghost use Rattle.tag.specs.Bytes.{has};
 ghost use Rattle.type3.specs.Codec.{nameBytes, namesBytes, nameable};
-ghost use Rattle.type3.specs.InPlace.{marked, numbers};
-ghost use Rattle.type3.specs.CodecViews.{blockNumbers, blocksOf};
+ghost use Rattle.type3.specs.Views.InPlace.{marked, numbers};
+ghost use Rattle.type3.specs.CodecContracts.{blockNumbers, blocksOf};
 
 // The bytes of a block's name.
 pub const LENGTH: usize = 2;

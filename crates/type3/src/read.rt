@@ -21,7 +21,7 @@ ghost use Rattle.tag.specs.Answers.{whatOf};
 ghost use Rattle.tag.specs.Contracts.{Read, Showed};
 ghost use Rattle.type3.specs.Attributes.{attributes, imageLength, flagsDefined, attributeChecks, mayWrite};
 ghost use Rattle.type3.specs.Message.{reading};
-ghost use Rattle.type3.specs.Views.{WholeBlocks, checkedAs, faultAs, Says, Known, reportAs, answerFor};
+ghost use Rattle.type3.specs.Views.Attributes.{WholeBlocks, checkedAs, faultAs, Says, Known, reportAs, answerFor};
 
 // The bytes of a block.
 pub const BLOCK_SIZE: usize = 16;

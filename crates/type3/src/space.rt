@@ -5,7 +5,7 @@ use crate::read::Attributes;
 use tag::refusals;
 ghost use mathlib.Core.Path.{_≡_};
 ghost use Rattle.type3.specs.Update.{blocksFor};
-ghost use Rattle.type3.specs.Space.{refusalFor};
+ghost use Rattle.type3.specs.Views.Space.{refusalFor};
 
 // How many blocks a message of `n` bytes takes; the last may be filled in part.
 pub fn blocks_for(n: usize) -> usize

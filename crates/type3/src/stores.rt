@@ -12,7 +12,7 @@ ghost use lib.ListN.{length, take, drop};
 ghost use lib.Seq.{sets};
 ghost use Rattle.tag.specs.Bytes.{byte};
 ghost use Rattle.tag.specs.Stores.{puts};
-ghost use Rattle.type3.specs.Model.{Storable, storesFrom};
+ghost use Rattle.type3.specs.Views.Model.{Storable, storesFrom};
 
 // Stores sixteen bytes of `from` in `to`. They go through an array of this function's own, which lies apart from both slices as the
 // compiler knows: it makes one load and one store of them.

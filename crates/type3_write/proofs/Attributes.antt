@@ -6,10 +6,10 @@ use Prim.Native.Nat.{ℕ, _+_}
 use native.Mathlib.Omega.{arith}
 use lib.ListN.{length}
 use Rattle.tag.specs.Bytes.{byte}
-use Rattle.tag.specs.Numbers.{sumTo}
+use Rattle.tag.specs.Views.Numbers.{sumTo}
 use Rattle.type3.specs.Attributes.{steadySum}
 use Rattle.type3.proofs.Codec.{length-command}
-use Rattle.type3_write.specs.Listing.{attributeBlock, attributeCommand}
+use Rattle.type3_write.specs.Views.Listing.{attributeBlock, attributeCommand}
 
 -- the sum of the bytes of block 0 that writing keeps
 pub sum-steady : (i : List ℕ) → sumTo i 9 + byte i 10 ≡ steadySum i

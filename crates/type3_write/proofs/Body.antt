@@ -10,7 +10,7 @@ use Rattle.tag.proofs.Filling.{lay-more}
 use Rattle.tag.proofs.Storing.{sets-front}
 use Rattle.type3.specs.Update.{blocksFor, body}
 use Rattle.type3.proofs.Update.{length-body}
-use Rattle.type3_write.specs.Listing.{filled, blocksAt}
+use Rattle.type3_write.specs.Views.Listing.{filled, blocksAt}
 
 pub length-blocks : (m : List ℕ) (s n : ℕ) → s + n ≤ blocksFor (length m) → length (blocksAt m s n) ≡ 16 * n
 length-blocks m s n l = omega (arith, length-take (16 * n) (drop (16 * s) (body m)), length-drop (16 * s) (body m), length-body m)

@@ -12,7 +12,7 @@ use Rattle.tag.specs.Bytes.{run}
 use Rattle.tag.proofs.Runs.{length-run}
 use Rattle.tag.proofs.Chunks.{rounded-up}
 use Rattle.type3.specs.Update.{blocksFor}
-use Rattle.type3_write.specs.Listing.{blocksAt, messageCommand, messageCommands, Dealt}
+use Rattle.type3_write.specs.Views.Listing.{blocksAt, messageCommand, messageCommands, Dealt}
 use Rattle.type3.proofs.Codec.{length-command}
 use Rattle.type3_write.proofs.Body.{length-blocks}
 

@@ -19,7 +19,7 @@ use Rattle.type3.specs.Codec.{commandBytes, storedBytes, encoded}
 use Rattle.type3.specs.Type3.{type3}
 use Rattle.type3.proofs.Update.{HasRoom, inside}
 use Rattle.type3.proofs.Counts.{between-guard, between-on, between-past}
-use Rattle.type3_write.specs.Listing.{attributeBlock, attributeCommand, messageCommand, messageCommands, listAs, Dealt}
+use Rattle.type3_write.specs.Views.Listing.{attributeBlock, attributeCommand, messageCommand, messageCommands, listAs, Dealt}
 use Rattle.type3_write.proofs.Attributes.{length-attribute-command}
 use Rattle.type3_write.proofs.Dealing.{left-over, length-commands}
 use Rattle.type3_write.proofs.StoredBlocks.{closed-block, new-block, new-blocks}

@@ -14,7 +14,7 @@ use Rattle.tag.proofs.Runs.{length-run, map-run}
 use Rattle.type3.specs.Attributes.{steadySum, attributes}
 use Rattle.type3.specs.Update.{blocksFor, addresses, lnSum, body, values, closedSum, closed, plan}
 use Rattle.type3.proofs.Update.{closed-else, closed-length, closed-reads, above-addresses, length-body, new-agrees, new-length, HasRoom, inside}
-use Rattle.type3_write.specs.Listing.{blocksAt, attributeBlock}
+use Rattle.type3_write.specs.Views.Listing.{blocksAt, attributeBlock}
 
 -- block 0 of an image is its sixteen bytes
 sixteen : (j : List ℕ) → 16 ≤ length j → take 16 j ≡ map (byte j) (run 0 16)

@@ -1,2 +1,2 @@
 -- The writer of Type 3 tags: the list as its code lays it.
-pub mod Listing
+pub mod Views

@@ -21,8 +21,8 @@ ghost use Rattle.tag.specs.Contracts.{Wrote};
 ghost use Rattle.type3.specs.Update.{blocksFor};
 ghost use Rattle.type3.specs.Codec.{namesBytes, opening};
 ghost use Rattle.type3.specs.Type3.{type3};
-ghost use Rattle.type3.specs.Views.{Readable};
-ghost use Rattle.type3_write.specs.Listing.{filled, blocksAt, attributeBlock, attributeCommand, messageCommand, messageCommands, listAs, Fills, Dealt, Listing};
+ghost use Rattle.type3.specs.Views.Attributes.{Readable};
+ghost use Rattle.type3_write.specs.Views.Listing.{filled, blocksAt, attributeBlock, attributeCommand, messageCommand, messageCommands, listAs, Fills, Dealt, Listing};
 
 // Where the command for block 0 has its data.
 const ATTRIBUTE_DATA: usize = commands::FRONT + names::LENGTH;

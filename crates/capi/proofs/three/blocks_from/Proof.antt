@@ -2,7 +2,7 @@
 use mathlib.Core.Path.{ap}
 use borrow.Author.Needs.{needs}
 use Rattle.tag.proofs.Runs.{bytes-of}
-use Rattle.type3.specs.CodecViews.{blocksOf}
+use Rattle.type3.specs.CodecContracts.{blocksOf}
 use Rattle.capi.proofs.three.blocks_from.Statement.{statement}
 use Rattle.capi.proofs.three.blocks_from.Tie as tie
 

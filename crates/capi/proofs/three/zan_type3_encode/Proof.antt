@@ -5,7 +5,7 @@ use lib.ListN.{length}
 use Rattle.tag.specs.Answers.{countOf}
 use Rattle.tag.specs.TagType.{outputInto}
 use Rattle.type3.specs.Codec.{encode}
-use Rattle.type3.specs.CodecViews.{blockNumbers}
+use Rattle.type3.specs.CodecContracts.{blockNumbers}
 use Rattle.type3.proofs.Numbering.{numbers-back}
 use Rattle.capi.specs.Packed.{packedCount}
 use Rattle.capi.proofs.three.zan_type3_encode.Statement.{statement}

@@ -6,7 +6,11 @@ use Rattle.capi.proofs.three.zan_type3_read.Statement.{statement}
 use Rattle.capi.proofs.three.zan_type3_read.Tie as tie
 
 returns : tie.Need-returns
-returns c = (c .reading .ensures .0 ∙ ap packedRead (c .before .before .read .ensures .0), c .reading .ensures .1 ∙ ap (reportInto (c .before .before .before .before .args .out .now)) (c .before .before .read .ensures .0))
+returns c =
+    let at-read = c .before .before in
+    let five = at-read .before .before .args .out .now in
+    let read = at-read .read .ensures in
+    (c .reading .ensures .0 ∙ ap packedRead (read .0), read .1, c .reading .ensures .1 ∙ ap (reportInto five) (read .0))
 
 pub zan-type3-read-spec : {M : Type 1} → statement M
 zan-type3-read-spec = tie.close

@@ -9,7 +9,7 @@ returns : tie.Need-returns
 returns c =
     let a = c .before .before .before .before .before .before .before .before .args in
     let read = c .before .before .before .before .read in
-    (c .reading .ensures .0 ∙ ap packedRead (read .ensures .0), (read .ensures .1, c .reading .ensures .1 ∙ ap (reportInto (a .out .now)) (read .ensures .0)))
+    (c .reading .ensures .0 ∙ ap packedRead (read .ensures .0), read .ensures .1, c .reading .ensures .1 ∙ ap (reportInto (a .out .now)) (read .ensures .0))
 
 pub zan-type2-read-spec : {M : Type 1} → statement M
 zan-type2-read-spec = tie.close

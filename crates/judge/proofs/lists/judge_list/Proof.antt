@@ -8,7 +8,7 @@ use lib.ListN.{length, take, drop}
 use Rattle.tag.specs.TagType.{commands}
 use Rattle.tag.specs.Judge.{judge, task}
 use Rattle.tag.proofs.Turns.{from, turn-stop, turn-next, turn-good, turn-bad}
-use Rattle.kinds.specs.Types.{typeOf}
+use Rattle.kinds.specs.Views.Types.{typeOf}
 use Rattle.kinds.proofs.EachKind.{some-span}
 use Rattle.judge.proofs.lists.judge_list.Statement.{statement}
 use Rattle.judge.proofs.lists.judge_list.Tie as tie

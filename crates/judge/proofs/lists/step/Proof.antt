@@ -1,6 +1,6 @@
 -- `lists::step` meets its contract: the tests in their order. Assumes nothing.
 use borrow.Author.Needs.{needs}
-use Rattle.kinds.specs.Types.{typeOf}
+use Rattle.kinds.specs.Views.Types.{typeOf}
 use Rattle.tag.proofs.Turns.{step-ill, step-change, step-misread, step-none}
 use Rattle.judge.proofs.lists.step.Statement.{statement}
 use Rattle.judge.proofs.lists.step.Tie as tie

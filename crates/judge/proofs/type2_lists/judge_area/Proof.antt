@@ -3,7 +3,7 @@ use mathlib.Core.Path.{sym, ap, _∙_, subst}
 use borrow.Author.Needs.{needs}
 use lib.ListN.{length}
 use Rattle.tag.specs.Judge.{judgeBy}
-use Rattle.tlv_tag.specs.SpaceViews.{spaceAs, SpacePlaced}
+use Rattle.tlv_tag.specs.Views.Space.{spaceAs, SpacePlaced}
 use Rattle.type2.specs.Type2.{type2}
 use Rattle.type2.proofs.Reading.{blank}
 use Rattle.type2.proofs.Deciding.{no-space-writing}

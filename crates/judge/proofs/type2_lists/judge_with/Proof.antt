@@ -3,7 +3,7 @@ use mathlib.Core.Path.{sym, ap, _∙_}
 use borrow.Author.Needs.{needs}
 use Rattle.tag.specs.Judge.{judgeBy}
 use Rattle.type2.specs.Type2.{type2}
-use Rattle.type2.specs.Views.{checkedAs}
+use Rattle.type2.specs.Views.Container.{checkedAs}
 use Rattle.type2.proofs.Reading.{checks-pass}
 use Rattle.type2.proofs.Deciding.{refused-writing}
 use Rattle.judge.proofs.type2_lists.judge_with.Statement.{statement}

@@ -2,7 +2,7 @@
 use mathlib.Core.Path.{sym, ap, subst, _∙_}
 use Rattle.tag.specs.Judge.{judgeBy}
 use Rattle.type3.specs.Type3.{type3}
-use Rattle.type3.specs.Views.{checkedAs, Known}
+use Rattle.type3.specs.Views.Attributes.{checkedAs, Known}
 use Rattle.type3.proofs.Deciding.{writing-unread}
 use borrow.Author.Needs.{needs}
 use Rattle.judge.proofs.type3_lists.judge.Statement.{statement}

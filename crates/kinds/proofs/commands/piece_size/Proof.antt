@@ -2,7 +2,7 @@
 use lib.ListN.{drop}
 use native.Mathlib.Omega.{arith}
 use Rattle.tag.proofs.Pieces.{span-rest, piece-rest, piece-span}
-use Rattle.kinds.specs.Types.{typeOf}
+use Rattle.kinds.specs.Views.Types.{typeOf}
 use Rattle.kinds.proofs.EachKind.{some-span}
 use borrow.Author.Needs.{needs}
 use Rattle.kinds.proofs.commands.piece_size.Statement.{statement}

@@ -7,7 +7,7 @@ use native.Mathlib.Omega.{arith}
 use borrow.Author.Needs.{needs}
 use lib.ListN.{length}
 use Rattle.tag.specs.Bytes.{byte}
-use Rattle.tag.specs.Numbers.{sumTo}
+use Rattle.tag.specs.Views.Numbers.{sumTo}
 use Rattle.tag.proofs.numbers.sum.Statement.{statement}
 use Rattle.tag.proofs.numbers.sum.Tie as tie
 

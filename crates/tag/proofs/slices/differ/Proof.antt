@@ -8,7 +8,7 @@ use borrow.Author.Needs.{needs}
 use lib.Dec.{eqb}
 use lib.ListN.{length}
 use Rattle.tag.specs.Bytes.{byte}
-use Rattle.tag.specs.Flags.{flagTo}
+use Rattle.tag.specs.Views.Flags.{flagTo}
 use Rattle.tag.proofs.Flags.{flag-more}
 use Rattle.tag.proofs.slices.differ.Statement.{statement}
 use Rattle.tag.proofs.slices.differ.Tie as tie

@@ -1,7 +1,7 @@
 -- `find::step_of` meets its contract. Assumes nothing.
 use mathlib.Core.Path.{sym, ap}
 use borrow.Author.Needs.{needs}
-use Rattle.tlv.specs.Finding.{stepOf}
+use Rattle.tlv.specs.Views.Finding.{stepOf}
 use Rattle.tlv.proofs.find.step_of.Statement.{statement}
 use Rattle.tlv.proofs.find.step_of.Tie as tie
 

@@ -5,7 +5,7 @@ use native.Mathlib.Omega.{arith}
 use borrow.Author.Needs.{needs}
 use lib.Dec.{eqb}
 use lib.ListN.{length, getD}
-use Rattle.tlv.specs.Table.{unskipped}
+use Rattle.tlv.specs.Views.Table.{unskipped}
 use Rattle.tlv.proofs.Skipping.{one-at-most, unskipped-count, unskipped-end}
 use Rattle.tlv.proofs.table.count_usable.Statement.{statement}
 use Rattle.tlv.proofs.table.count_usable.Tie as tie

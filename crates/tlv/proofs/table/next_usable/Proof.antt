@@ -5,7 +5,7 @@ use native.Mathlib.Omega.{arith}
 use borrow.Author.Needs.{needs}
 use borrow.Author.Tests.{ne-eqb}
 use lib.ListN.{length, getD}
-use Rattle.tlv.specs.Table.{unskipped}
+use Rattle.tlv.specs.Views.Table.{unskipped}
 use Rattle.tlv.proofs.Skipping.{unskipped-pass}
 use Rattle.tlv.proofs.table.next_usable.Statement.{statement}
 use Rattle.tlv.proofs.table.next_usable.Tie as tie

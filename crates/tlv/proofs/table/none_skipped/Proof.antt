@@ -6,7 +6,7 @@ use native.Mathlib.Omega.{arith}
 use borrow.Author.Needs.{needs}
 use lib.Dec.{eqb}
 use lib.ListN.{length}
-use Rattle.tlv.specs.Table.{noneSkipped}
+use Rattle.tlv.specs.Views.Table.{noneSkipped}
 use Rattle.tlv.proofs.Skipping.{none-next, none-end}
 use Rattle.tlv.proofs.table.none_skipped.Statement.{statement}
 use Rattle.tlv.proofs.table.none_skipped.Tie as tie

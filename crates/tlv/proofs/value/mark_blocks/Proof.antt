@@ -9,7 +9,7 @@ use borrow.Author.Needs.{needs}
 use lib.Dec.{eqb}
 use lib.ListN.{length, set, replicate, length-set, length-replicate}
 use Rattle.tag.specs.Bytes.{byte}
-use Rattle.tlv.specs.Views.{ahead}
+use Rattle.tlv.specs.Views.Walks.{ahead}
 use Rattle.tlv.proofs.Usable.{from, At, from-next, from-end}
 use Rattle.tlv.proofs.Touches.{touches-any, unmarked, mark-none, mark-done, mark-next}
 use Rattle.tlv.proofs.Turns.{replicate-next}

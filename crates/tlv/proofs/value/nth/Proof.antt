@@ -6,8 +6,8 @@ use Prim.Native.Nat.{suc, _+_, _-_, _≤_}
 use native.Mathlib.Omega.{arith}
 use borrow.Author.Needs.{needs}
 use lib.ListN.{length, getD, List·getD-eq-default}
-use Rattle.tlv.specs.Table.{noneSkipped}
-use Rattle.tlv.specs.Views.{ahead}
+use Rattle.tlv.specs.Views.Table.{noneSkipped}
+use Rattle.tlv.specs.Views.Walks.{ahead}
 use Rattle.tlv.proofs.Skipping.{unskipped-few, unskipped-nth}
 use Rattle.tlv.proofs.Usable.{from, At, from-next, from-end}
 use Rattle.tlv.proofs.Turns.{getD-next}

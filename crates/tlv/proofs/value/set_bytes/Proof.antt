@@ -7,7 +7,7 @@ use borrow.Author.Needs.{needs}
 use lib.ListN.{length, drop, length-set, drop-of-length-le}
 use lib.Seq.{drop-nil}
 use Rattle.tag.specs.Bytes.{overlay}
-use Rattle.tlv.specs.Views.{ahead}
+use Rattle.tlv.specs.Views.Walks.{ahead}
 use Rattle.tlv.proofs.Usable.{from, At, from-above, from-next, from-end}
 use Rattle.tlv.proofs.Overlays.{overlay-none, overlay-next}
 use Rattle.tlv.proofs.Steps.{stay, moved}

@@ -7,7 +7,7 @@ use native.Mathlib.Omega.{arith}
 use borrow.Author.Needs.{needs}
 use lib.Dec.{eqb}
 use Rattle.tag.specs.Bytes.{byte}
-use Rattle.tag.specs.Flags.{flagTo}
+use Rattle.tag.specs.Views.Flags.{flagTo}
 use Rattle.tag.proofs.Flags.{flag-more}
 use Rattle.tlv_tag.proofs.kept.skipped_changed.Statement.{statement}
 use Rattle.tlv_tag.proofs.kept.skipped_changed.Tie as tie

@@ -1,8 +1,8 @@
 -- `prepare::prepare` meets its contract. Assumes nothing.
 use mathlib.Core.Path.{sym, ap, _∙_}
 use borrow.Author.Needs.{needs}
-use Rattle.tlv.specs.Views.{ahead}
-use Rattle.tlv_tag.specs.SpaceViews.{spaceAs}
+use Rattle.tlv.specs.Views.Walks.{ahead}
+use Rattle.tlv_tag.specs.Views.Space.{spaceAs}
 use Rattle.tlv_tag.proofs.Fitting.{space-room}
 use Rattle.tlv_tag.proofs.prepare.prepare.Statement.{statement}
 use Rattle.tlv_tag.proofs.prepare.prepare.Tie as tie

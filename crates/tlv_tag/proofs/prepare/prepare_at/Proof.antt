@@ -6,7 +6,7 @@ use native.Mathlib.Omega.{arith}
 use borrow.Author.Needs.{needs}
 use lib.ListN.{length, length-set}
 use Rattle.tag.specs.Bytes.{overlay}
-use Rattle.tlv.specs.Views.{ahead}
+use Rattle.tlv.specs.Views.Walks.{ahead}
 use Rattle.tlv_tag.specs.Update.{content, lengthAt}
 use Rattle.tlv_tag.proofs.Preparing.{first-usable, marked-between}
 use Rattle.tlv_tag.proofs.prepare.prepare_at.Statement.{statement}

@@ -1,7 +1,7 @@
 -- `read::area_refusal` meets its contract. Assumes nothing.
 use mathlib.Core.Path.{sym, ap, _∙_}
 use borrow.Author.Needs.{needs}
-use Rattle.tlv_tag.specs.Reading.{refusalOf}
+use Rattle.tlv_tag.specs.Views.Reading.{refusalOf}
 use Rattle.tlv_tag.proofs.Fitting.{begin-placed, found-at, area-declared}
 use Rattle.tlv_tag.proofs.Reading.{area-lost, area-at}
 use Rattle.tlv_tag.proofs.read.area_refusal.Statement.{statement}

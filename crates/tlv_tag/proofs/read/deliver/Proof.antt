@@ -1,7 +1,7 @@
 -- `read::deliver` meets its contract. Assumes nothing.
 use borrow.Author.Needs.{needs}
 use borrow.Author.Tests.{not-true, not-false}
-use Rattle.tlv.specs.Views.{ahead}
+use Rattle.tlv.specs.Views.Walks.{ahead}
 use Rattle.tlv_tag.proofs.Reading.{whole, unfit, fit}
 use Rattle.tlv_tag.proofs.read.deliver.Statement.{statement}
 use Rattle.tlv_tag.proofs.read.deliver.Tie as tie

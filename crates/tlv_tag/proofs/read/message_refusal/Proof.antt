@@ -1,8 +1,8 @@
 -- `read::message_refusal` meets its contract. Assumes nothing.
 use mathlib.Core.Path.{sym, ap, _∙_}
 use borrow.Author.Needs.{needs}
-use Rattle.tlv.specs.Views.{ahead}
-use Rattle.tlv.specs.Passing.{passedAs}
+use Rattle.tlv.specs.Views.Walks.{ahead}
+use Rattle.tlv.specs.Views.Passing.{passedAs}
 use Rattle.tlv_tag.proofs.Reading.{stopped, passed}
 use Rattle.tlv_tag.proofs.read.message_refusal.Statement.{statement}
 use Rattle.tlv_tag.proofs.read.message_refusal.Tie as tie

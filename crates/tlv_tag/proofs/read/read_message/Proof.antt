@@ -1,8 +1,8 @@
 -- `read::read_message` meets its contract. Assumes nothing.
 use mathlib.Core.Path.{refl, sym, ap, _∙_}
 use borrow.Author.Needs.{needs}
-use Rattle.tlv.specs.Views.{ahead}
-use Rattle.tlv.specs.Passing.{fieldAs}
+use Rattle.tlv.specs.Views.Walks.{ahead}
+use Rattle.tlv.specs.Views.Passing.{fieldAs}
 use Rattle.tlv.proofs.Steps.{field-placed}
 use Rattle.tlv_tag.proofs.Reading.{field-bad, field-is}
 use Rattle.tlv_tag.proofs.read.read_message.Statement.{statement}

@@ -2,9 +2,9 @@
 use mathlib.Core.Path.{sym, ap, _∙_}
 use native.Mathlib.Omega.{arith}
 use borrow.Author.Needs.{needs}
-use Rattle.tlv.specs.Finding.{foundAs}
+use Rattle.tlv.specs.Views.Finding.{foundAs}
 use Rattle.tlv_tag.specs.Message.{viewOf}
-use Rattle.tlv_tag.specs.Space.{spaceOf}
+use Rattle.tlv_tag.specs.Views.Space.{spaceOf}
 use Rattle.tlv_tag.proofs.Fitting.{begin-placed, area-declared, found-all, found-at, here-placed}
 use Rattle.tlv_tag.proofs.space.find_space.Statement.{statement}
 use Rattle.tlv_tag.proofs.space.find_space.Tie as tie

@@ -2,8 +2,8 @@
 use mathlib.Core.Path.{sym, _∙_}
 use borrow.Author.Needs.{needs}
 use Rattle.tlv.specs.Walk.{lengthOf}
-use Rattle.tlv.specs.Views.{ahead}
-use Rattle.tlv_tag.specs.Reading.{tlvView}
+use Rattle.tlv.specs.Views.Walks.{ahead}
+use Rattle.tlv_tag.specs.Views.Reading.{tlvView}
 use Rattle.tlv_tag.proofs.Fitting.{refused-space, whole-space}
 use Rattle.tlv_tag.proofs.space.space_after.Statement.{statement}
 use Rattle.tlv_tag.proofs.space.space_after.Tie as tie

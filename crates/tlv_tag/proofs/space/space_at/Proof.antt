@@ -5,7 +5,7 @@ use borrow.Author.Needs.{needs}
 use borrow.Author.Tests.{not-true, not-false}
 use lib.ListN.{length}
 use Rattle.tag.proofs.Cases.{cases}
-use Rattle.tlv.specs.Views.{ahead}
+use Rattle.tlv.specs.Views.Walks.{ahead}
 use Rattle.tlv_tag.specs.Update.{fitsIn}
 use Rattle.tlv_tag.proofs.Field.{fits-less}
 use Rattle.tlv_tag.proofs.space.space_at.Statement.{statement}

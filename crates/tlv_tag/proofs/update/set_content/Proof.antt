@@ -3,7 +3,7 @@
 use mathlib.Core.List.{[], _∷_}
 use borrow.Author.Needs.{needs}
 use lib.ListN.{length}
-use Rattle.tlv.specs.Views.{ahead}
+use Rattle.tlv.specs.Views.Walks.{ahead}
 use Rattle.tlv.proofs.Usable.{ahead-rising}
 use Rattle.tlv.proofs.Overlays.{overlay-parts}
 use Rattle.tlv_tag.specs.Update.{lengthField}

@@ -4,7 +4,7 @@ use native.Mathlib.Omega.{arith}
 use borrow.Author.Needs.{needs}
 use Rattle.tag.specs.Bytes.{byte}
 use Rattle.type2.specs.Codec.{decoded}
-use Rattle.type2.specs.CodecViews.{commandAs}
+use Rattle.type2.specs.CodecContracts.{commandAs}
 use Rattle.type2.proofs.Encoding.{carried}
 use Rattle.type2.proofs.commands.carried.Statement.{statement}
 use Rattle.type2.proofs.commands.carried.Tie as tie

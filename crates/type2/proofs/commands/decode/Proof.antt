@@ -2,7 +2,7 @@
 use mathlib.Core.Path.{_∙_, sym, ap}
 use borrow.Author.Needs.{needs}
 use Rattle.type2.specs.Codec.{decoded}
-use Rattle.type2.specs.CodecViews.{commandAs}
+use Rattle.type2.specs.CodecContracts.{commandAs}
 use Rattle.type2.proofs.Encoding.{formed, decode-formed, decode-ill}
 use Rattle.type2.proofs.commands.decode.Statement.{statement}
 use Rattle.type2.proofs.commands.decode.Tie as tie

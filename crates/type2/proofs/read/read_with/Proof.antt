@@ -24,7 +24,7 @@ returns-2 c =
     let d = c .before .before .before .before .before .before .before .before .before .before .data-area in
     let x = c .before .before .before .before .read-area .ensures in
     let h = checks-pass (a .image .now) (d .result) _ _ (d .ensures .0) (d .ensures .1) (c .before .before .before .before .before .before .before .before .end .given .1) in
-    rw (by-area (a .image .now) _ _ h) (x .0, x .1 .0)
+    rw (by-area (a .image .now) _ _ h) (x .0)
 
 pub read-with-spec : {M : Type 1} → statement M
 read-with-spec =

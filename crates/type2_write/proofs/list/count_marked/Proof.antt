@@ -7,8 +7,8 @@ use native.Mathlib.Omega.{arith}
 use borrow.Author.Needs.{needs}
 use borrow.Author.Tests.{eq-eqb, ne-eqb}
 use Rattle.tag.proofs.Counts.{counted-yes, counted-no}
-use Rattle.tlv_tag.specs.UpdateViews.{marked}
-use Rattle.type2_write.specs.Listing.{markedCount}
+use Rattle.tlv_tag.specs.Views.Update.{marked}
+use Rattle.type2_write.specs.Views.Listing.{markedCount}
 use Rattle.type2_write.proofs.list.count_marked.Statement.{statement}
 use Rattle.type2_write.proofs.list.count_marked.Tie as tie
 

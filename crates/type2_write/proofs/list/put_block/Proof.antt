@@ -6,7 +6,7 @@ use borrow.Author.Needs.{needs}
 use lib.ListN.{length, drop}
 use lib.Seq.{take-all}
 use Rattle.tag.specs.Bytes.{overwrite}
-use Rattle.type2_write.specs.Listing.{blockBytes}
+use Rattle.type2_write.specs.Views.Listing.{blockBytes}
 use Rattle.type2_write.proofs.Laying.{block-bytes, length-block}
 use Rattle.type2_write.proofs.list.put_block.Statement.{statement}
 use Rattle.type2_write.proofs.list.put_block.Tie as tie

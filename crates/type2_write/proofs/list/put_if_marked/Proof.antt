@@ -8,8 +8,8 @@ use lib.ListN.{length}
 use Rattle.tag.proofs.Cases.{yes-case, no-case}
 use Rattle.tag.proofs.Counts.{counted-yes, counted-no}
 use Rattle.tag.proofs.Filling.{lent}
-use Rattle.tlv_tag.specs.UpdateViews.{marked}
-use Rattle.type2_write.specs.Listing.{blockBytes}
+use Rattle.tlv_tag.specs.Views.Update.{marked}
+use Rattle.type2_write.specs.Views.Listing.{blockBytes}
 use Rattle.type2_write.proofs.list.put_if_marked.Statement.{statement}
 use Rattle.type2_write.proofs.list.put_if_marked.Tie as tie
 

@@ -8,8 +8,8 @@ use borrow.Author.Needs.{needs}
 use lib.ListN.{length, take, drop}
 use Rattle.tag.specs.Plan.{picks}
 use Rattle.tag.proofs.Counts.{counted-more}
-use Rattle.tlv_tag.specs.UpdateViews.{marked}
-use Rattle.type2_write.specs.Listing.{blockBytes, oneEach, markedCount, markedBytes}
+use Rattle.tlv_tag.specs.Views.Update.{marked}
+use Rattle.type2_write.specs.Views.Listing.{blockBytes, oneEach, markedCount, markedBytes}
 use Rattle.type2_write.proofs.Laying.{picked-out}
 use Rattle.type2_write.proofs.list.put_marked.Statement.{statement}
 use Rattle.type2_write.proofs.list.put_marked.Tie as tie

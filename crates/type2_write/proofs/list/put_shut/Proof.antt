@@ -5,7 +5,7 @@ use Prim.Native.Nat.{_+_, _-_}
 use native.Mathlib.Omega.{arith}
 use borrow.Author.Needs.{needs}
 use lib.ListN.{set, drop}
-use Rattle.type2_write.specs.Listing.{blockBytes}
+use Rattle.type2_write.specs.Views.Listing.{blockBytes}
 use Rattle.type2_write.proofs.Laying.{block-set}
 use Rattle.type2_write.proofs.list.put_shut.Statement.{statement}
 use Rattle.type2_write.proofs.list.put_shut.Tie as tie

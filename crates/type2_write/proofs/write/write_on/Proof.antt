@@ -8,7 +8,7 @@ use lib.Seq.{length-take-le}
 use Rattle.tag.specs.TagType.{writeBy, outputInto}
 use Rattle.tag.specs.Answers.{countOf}
 use Rattle.type2.specs.Type2.{type2}
-use Rattle.type2.specs.Views.{checkedAs, Inside}
+use Rattle.type2.specs.Views.Container.{checkedAs, Inside}
 use Rattle.type2.proofs.Reading.{checks-pass}
 use Rattle.type2.proofs.Deciding.{refused-writing}
 use Rattle.type2_write.proofs.write.write_on.Statement.{statement}

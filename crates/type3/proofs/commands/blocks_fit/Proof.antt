@@ -7,7 +7,7 @@ use lib.Seq.{take-at, length-take-le}
 use Rattle.tag.specs.Bytes.{byte}
 use Rattle.tag.proofs.Storing.{sets-front}
 use Rattle.type3.specs.Codec.{nameable}
-use Rattle.type3.specs.InPlace.{numbers}
+use Rattle.type3.specs.Views.InPlace.{numbers}
 use Rattle.type3.proofs.Naming.{length-numbers}
 use Rattle.type3.proofs.commands.blocks_fit.Statement.{statement}
 use Rattle.type3.proofs.commands.blocks_fit.Tie as tie

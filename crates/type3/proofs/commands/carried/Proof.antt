@@ -7,8 +7,8 @@ use lib.ListN.{length, drop, replicate, length-drop}
 use lib.Seq.{sets, take-all}
 use Rattle.tag.specs.Bytes.{byte}
 use Rattle.tag.proofs.Storing.{sets-front}
-use Rattle.type3.specs.InPlace.{numbers}
-use Rattle.type3.specs.CodecViews.{blocksOf}
+use Rattle.type3.specs.Views.InPlace.{numbers}
+use Rattle.type3.specs.CodecContracts.{blocksOf}
 use Rattle.type3.proofs.Naming.{length-numbers}
 use Rattle.type3.proofs.Decoding.{same-command}
 use Rattle.type3.proofs.commands.carried.Statement.{statement}

@@ -4,8 +4,8 @@ use Prim.Native.Nat.{_*_}
 use borrow.Author.Needs.{needs}
 use lib.ListN.{take}
 use Rattle.type3.specs.Codec.{decoded}
-use Rattle.type3.specs.InPlace.{carried}
-use Rattle.type3.specs.CodecViews.{blockNumbers, commandAs}
+use Rattle.type3.specs.Views.InPlace.{carried}
+use Rattle.type3.specs.CodecContracts.{blockNumbers, commandAs}
 use Rattle.type3.proofs.Decoding.{frame, decode-carried, decode-refused, carried-viewed}
 use Rattle.type3.proofs.commands.decode.Statement.{statement}
 use Rattle.type3.proofs.commands.decode.Tie as tie

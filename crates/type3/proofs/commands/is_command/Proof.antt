@@ -6,7 +6,7 @@ use borrow.Author.Needs.{needs}
 use lib.ListN.{drop}
 use Rattle.tag.specs.Bytes.{byte}
 use Rattle.type3.specs.Codec.{nameable}
-use Rattle.type3.specs.InPlace.{numbers}
+use Rattle.type3.specs.Views.InPlace.{numbers}
 use Rattle.type3.proofs.Decoding.{frame, is-command-by}
 use Rattle.type3.proofs.commands.is_command.Statement.{statement}
 use Rattle.type3.proofs.commands.is_command.Tie as tie

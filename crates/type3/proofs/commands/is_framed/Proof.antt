@@ -6,7 +6,7 @@ use borrow.Author.Needs.{needs}
 use borrow.Author.Tests.{eq-eqb, ne-eqb, not-true, not-false}
 use lib.ListN.{length, List·getD-eq-default}
 use Rattle.tag.specs.Bytes.{byte}
-use Rattle.type3.specs.InPlace.{framedBy}
+use Rattle.type3.specs.Views.InPlace.{framedBy}
 use Rattle.type3.proofs.Encoding.{count-bounds}
 use Rattle.type3.proofs.commands.is_framed.Statement.{statement}
 use Rattle.type3.proofs.commands.is_framed.Tie as tie

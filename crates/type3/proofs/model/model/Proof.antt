@@ -8,7 +8,7 @@ use Rattle.tag.specs.Answers.{storingOf}
 use Rattle.tag.specs.Model.{imageAfter}
 use Rattle.type3.specs.Attributes.{nmaxbOf}
 use Rattle.type3.specs.Codec.{decode, commandOf}
-use Rattle.type3.specs.CodecViews.{isCommand}
+use Rattle.type3.specs.Views.Framing.{isCommand}
 use Rattle.type3.proofs.Reading.{fault-some, fault-none, fine-long, attested}
 use Rattle.type3.proofs.Modelling.{decode-by, ill-command, model-refused, model-ill, model-stored}
 use Rattle.type3.proofs.model.model.Statement.{statement}

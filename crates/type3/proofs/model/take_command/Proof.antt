@@ -6,7 +6,7 @@ use borrow.Author.Tests.{not-true, not-false}
 use lib.ListN.{length}
 use Rattle.tag.specs.Stores.{done}
 use Rattle.type3.specs.Codec.{commandOf}
-use Rattle.type3.specs.CodecViews.{isCommand}
+use Rattle.type3.specs.Views.Framing.{isCommand}
 use Rattle.type3.proofs.Decoding.{decode-refused}
 use Rattle.type3.proofs.Storing.{command-storable, command-stores}
 use Rattle.type3.proofs.Modelling.{decode-past, decode-inside}

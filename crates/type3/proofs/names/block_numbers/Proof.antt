@@ -2,7 +2,7 @@
 use borrow.Author.Needs.{needs}
 use lib.ListN.{length-map}
 use Rattle.tag.proofs.Runs.{bytes-of}
-use Rattle.type3.specs.CodecViews.{blockNumbers}
+use Rattle.type3.specs.CodecContracts.{blockNumbers}
 use Rattle.type3.proofs.Numbering.{number-at}
 use Rattle.type3.proofs.names.block_numbers.Statement.{statement}
 use Rattle.type3.proofs.names.block_numbers.Tie as tie

@@ -4,7 +4,7 @@ use Prim.Native.Nat.{_+_, _-_, _*_, _≤_}
 use native.Mathlib.Omega.{arith}
 use borrow.Author.Needs.{needs}
 use lib.ListN.{drop}
-use Rattle.type3.specs.InPlace.{marked}
+use Rattle.type3.specs.Views.InPlace.{marked}
 use Rattle.type3.proofs.Naming.{marked-more, unmarked, marked-none}
 use Rattle.type3.proofs.names.marked.Statement.{statement}
 use Rattle.type3.proofs.names.marked.Tie as tie

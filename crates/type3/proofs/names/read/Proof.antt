@@ -6,7 +6,7 @@ use borrow.Author.Needs.{needs}
 use lib.ListN.{length, drop, set, length-set}
 use lib.Seq.{sets}
 use Rattle.tag.specs.Bytes.{byte}
-use Rattle.type3.specs.InPlace.{numbers}
+use Rattle.type3.specs.Views.InPlace.{numbers}
 use Rattle.type3.proofs.Naming.{numbers-more}
 use Rattle.type3.proofs.names.read.Statement.{statement}
 use Rattle.type3.proofs.names.read.Tie as tie

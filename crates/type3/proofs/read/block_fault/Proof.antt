@@ -6,7 +6,7 @@ use native.Mathlib.Omega.{arith}
 use borrow.Author.Needs.{needs}
 use borrow.Author.Tests.{eq-eqb, ne-eqb, not-true, not-false}
 use Rattle.tag.specs.Bytes.{byte}
-use Rattle.tag.specs.Numbers.{sumTo}
+use Rattle.tag.specs.Views.Numbers.{sumTo}
 use Rattle.type3.specs.Attributes.{attributes}
 use Rattle.type3.proofs.read.block_fault.Statement.{statement}
 use Rattle.type3.proofs.read.block_fault.Tie as tie

@@ -8,7 +8,7 @@ use lib.ListN.{length, take, drop}
 use lib.Seq.{length-sets}
 use Rattle.tag.specs.Bytes.{byte}
 use Rattle.tag.specs.Stores.{puts}
-use Rattle.type3.specs.Model.{storesFrom}
+use Rattle.type3.specs.Views.Model.{storesFrom}
 use Rattle.type3.proofs.Storing.{puts-next, puts-end}
 use Rattle.type3.proofs.stores.store_blocks.Statement.{statement}
 use Rattle.type3.proofs.stores.store_blocks.Tie as tie

@@ -7,7 +7,7 @@ use borrow.Author.Needs.{needs}
 use lib.ListN.{drop}
 use Rattle.type3.specs.Attributes.{steadySum}
 use Rattle.type3.specs.Update.{lnSum}
-use Rattle.type3_write.specs.Listing.{attributeBlockBy, attributeBlock}
+use Rattle.type3_write.specs.Views.Listing.{attributeBlockBy, attributeBlock}
 use Rattle.type3_write.proofs.Attributes.{sum-steady}
 use Rattle.type3_write.proofs.write.put_attribute_block.Statement.{statement}
 use Rattle.type3_write.proofs.write.put_attribute_block.Tie as tie

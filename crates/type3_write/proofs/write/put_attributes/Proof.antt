@@ -2,7 +2,7 @@
 use mathlib.Core.Path.{refl}
 use mathlib.Core.List.{[], _∷_}
 use borrow.Author.Needs.{needs}
-use Rattle.type3_write.specs.Listing.{attributeBlock}
+use Rattle.type3_write.specs.Views.Listing.{attributeBlock}
 use Rattle.type3_write.proofs.Attributes.{length-attribute-block}
 use Rattle.type3_write.proofs.Laying.{lay-command}
 use Rattle.type3_write.proofs.write.put_attributes.Statement.{statement}

@@ -5,7 +5,7 @@ use native.Mathlib.Omega.{arith}
 use borrow.Author.Needs.{needs}
 use lib.ListN.{length, take, drop, length-drop}
 use lib.Seq.{sets, take-all}
-use Rattle.type3_write.specs.Listing.{filled}
+use Rattle.type3_write.specs.Views.Listing.{filled}
 use Rattle.type3_write.proofs.write.put_block.Statement.{statement}
 use Rattle.type3_write.proofs.write.put_block.Tie as tie
 

@@ -3,7 +3,7 @@ use Prim.Native.Nat.{_+_}
 use borrow.Author.Needs.{needs}
 use Rattle.tag.specs.Bytes.{run}
 use Rattle.tag.proofs.Runs.{length-run}
-use Rattle.type3_write.specs.Listing.{blocksAt}
+use Rattle.type3_write.specs.Views.Listing.{blocksAt}
 use Rattle.type3_write.proofs.Body.{length-blocks}
 use Rattle.type3_write.proofs.Laying.{lay-command}
 use Rattle.type3_write.proofs.write.put_command.Statement.{statement}

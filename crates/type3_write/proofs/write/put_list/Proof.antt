@@ -7,7 +7,7 @@ use borrow.Author.Needs.{needs}
 use lib.ListN.{length, length-append}
 use Rattle.tag.proofs.Filling.{lay-part}
 use Rattle.type3.specs.Update.{blocksFor}
-use Rattle.type3_write.specs.Listing.{attributeCommand, messageCommands}
+use Rattle.type3_write.specs.Views.Listing.{attributeCommand, messageCommands}
 use Rattle.type3_write.proofs.Attributes.{length-attribute-command}
 use Rattle.type3_write.proofs.Dealing.{length-commands}
 use Rattle.type3_write.proofs.write.put_list.Statement.{statement}

@@ -7,7 +7,7 @@ use borrow.Author.Needs.{needs}
 use lib.ListN.{length, drop, length-take, length-drop}
 use Rattle.tag.proofs.Filling.{lay-part}
 use Rattle.type3.specs.Update.{blocksFor}
-use Rattle.type3_write.specs.Listing.{messageCommand, messageCommands, Dealt}
+use Rattle.type3_write.specs.Views.Listing.{messageCommand, messageCommands, Dealt}
 use Rattle.type3_write.proofs.Dealing.{times-more, place-more, left-over, commands-more, length-commands}
 use Rattle.type3_write.proofs.write.put_message.Statement.{statement}
 use Rattle.type3_write.proofs.write.put_message.Tie as tie

@@ -6,7 +6,7 @@ use Prim.Native.Nat.{_+_, _-_, _*_, _≤_}
 use native.Mathlib.Omega.{arith}
 use borrow.Author.Needs.{needs}
 use lib.ListN.{length, drop}
-use Rattle.type3_write.specs.Listing.{blocksAt}
+use Rattle.type3_write.specs.Views.Listing.{blocksAt}
 use Rattle.type3_write.proofs.Body.{block-stored}
 use Rattle.type3_write.proofs.write.put_whole_blocks.Statement.{statement}
 use Rattle.type3_write.proofs.write.put_whole_blocks.Tie as tie

@@ -4,7 +4,7 @@ use borrow.Author.Needs.{needs}
 use lib.ListN.{length}
 use Rattle.tag.specs.TagType.{outputInto}
 use Rattle.tag.specs.Answers.{countOf}
-use Rattle.type3.specs.Views.{checkedAs, Known}
+use Rattle.type3.specs.Views.Attributes.{checkedAs, Known}
 use Rattle.type3.proofs.Deciding.{writing-unread}
 use Rattle.type3_write.proofs.Writing.{write-refused}
 use Rattle.type3_write.proofs.write.write.Statement.{statement}

@@ -7,7 +7,7 @@ use lib.ListN.{length}
 use Rattle.tag.specs.TagType.{outputInto}
 use Rattle.tag.specs.Answers.{countOf}
 use Rattle.type3.proofs.Deciding.{writing-refused, writing-planned}
-use Rattle.type3_write.specs.Listing.{Dealt}
+use Rattle.type3_write.specs.Views.Listing.{Dealt}
 use Rattle.type3_write.proofs.Writing.{write-refused, Planned, planned-bounds, write-short, write-list, write-laid}
 use Rattle.type3_write.proofs.write.write_to.Statement.{statement}
 use Rattle.type3_write.proofs.write.write_to.Tie as tie

@@ -6,8 +6,8 @@ use borrow.Author.Needs.{needs}
 use lib.ListN.{length}
 use Rattle.tlv.specs.Areas.{anyArea}
 use Rattle.tlv.specs.Walk.{find}
-use Rattle.tlv.specs.Views.{ahead, Walked}
-use Rattle.tlv.specs.Finding.{steppedAs, SteppedPlaced}
+use Rattle.tlv.specs.Views.Walks.{ahead, Walked}
+use Rattle.tlv.specs.Views.Finding.{steppedAs, SteppedPlaced}
 use Rattle.tlv.proofs.Fuel.{walk-more, walk-stop, walk-hit}
 use Rattle.tlv.proofs.Steps.{stay}
 use Rattle.tlv.proofs.Finding.{fuel-enough, walked-on, declared-until}

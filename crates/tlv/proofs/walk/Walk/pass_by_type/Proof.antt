@@ -4,7 +4,7 @@ use borrow.Author.Needs.{needs}
 use Rattle.tag.proofs.Cases.{cases}
 use Rattle.tlv.specs.Areas.{lock, memory}
 use Rattle.tlv.specs.Walk.{null, message, terminator, other, control}
-use Rattle.tlv.specs.Views.{ahead}
+use Rattle.tlv.specs.Views.Walks.{ahead}
 use Rattle.tlv.proofs.Steps.{stay}
 use Rattle.tlv.proofs.Finding.{step-passed, step-placed, by-kind}
 use Rattle.tlv.proofs.walk.Walk.pass_by_type.Statement.{statement}

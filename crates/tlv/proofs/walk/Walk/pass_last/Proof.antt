@@ -4,8 +4,8 @@ use native.Mathlib.Omega.{arith}
 use borrow.Author.Needs.{needs}
 use Rattle.tlv.specs.Areas.{anyArea, reserved, without}
 use Rattle.tlv.specs.Walk.{areaBy, more, stop}
-use Rattle.tlv.specs.Marks.{controlAs}
-use Rattle.tlv.specs.Views.{ahead}
+use Rattle.tlv.specs.Views.Marks.{controlAs}
+use Rattle.tlv.specs.Views.Walks.{ahead}
 use Rattle.tlv.proofs.Steps.{on-none, on-took, yes-by, no-by, took-placed, skipped}
 use Rattle.tlv.proofs.walk.Walk.pass_last.Statement.{statement}
 use Rattle.tlv.proofs.walk.Walk.pass_last.Tie as tie

@@ -2,7 +2,7 @@
 use mathlib.Core.Path.{refl, _∙_, sym, ap}
 use borrow.Author.Needs.{needs}
 use Rattle.tlv.specs.Walk.{passValue}
-use Rattle.tlv.specs.Passing.{fieldAs}
+use Rattle.tlv.specs.Views.Passing.{fieldAs}
 use Rattle.tlv.proofs.Steps.{field-placed, passed-moved}
 use Rattle.tlv.proofs.walk.Walk.pass_other.Statement.{statement}
 use Rattle.tlv.proofs.walk.Walk.pass_other.Tie as tie

@@ -1,7 +1,7 @@
 -- `Walk::pass_value` meets its contract: past the value is past its last byte. Assumes nothing.
 use native.Mathlib.Omega.{arith}
 use borrow.Author.Needs.{needs}
-use Rattle.tlv.specs.Views.{ahead}
+use Rattle.tlv.specs.Views.Walks.{ahead}
 use Rattle.tlv.proofs.Measured.{passed-none, passed-short, passed-past}
 use Rattle.tlv.proofs.walk.Walk.pass_value.Statement.{statement}
 use Rattle.tlv.proofs.walk.Walk.pass_value.Tie as tie

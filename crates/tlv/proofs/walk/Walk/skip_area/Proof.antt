@@ -2,7 +2,7 @@
 use mathlib.Core.Path.{refl}
 use native.Mathlib.Omega.{arith}
 use borrow.Author.Needs.{needs}
-use Rattle.tlv.specs.Marks.{areaAs}
+use Rattle.tlv.specs.Views.Marks.{areaAs}
 use Rattle.tlv.proofs.Marking.{area-marked}
 use Rattle.tlv.proofs.walk.Walk.skip_area.Statement.{statement}
 use Rattle.tlv.proofs.walk.Walk.skip_area.Tie as tie

@@ -7,7 +7,7 @@ use borrow.Author.Needs.{needs}
 use borrow.Author.Tests.{eq-eqb}
 use lib.ListN.{getD}
 use Rattle.tlv.specs.Walk.{takeByte}
-use Rattle.tlv.specs.Table.{unskipped}
+use Rattle.tlv.specs.Views.Table.{unskipped}
 use Rattle.tlv.proofs.Skipping.{unskipped-take, unskipped-end}
 use Rattle.tlv.proofs.Steps.{stay, moved}
 use Rattle.tlv.proofs.walk.Walk.take_byte.Statement.{statement}

@@ -5,9 +5,9 @@ use mathlib.Core.List.{List}
 use Prim.Native.Nat.{ℕ}
 use lib.ListN.{length}
 use Rattle.tag.specs.Bytes.{isSet}
-use Rattle.tlv.specs.Table.{usableIn}
+use Rattle.tlv.specs.Views.Table.{usableIn}
 use Rattle.tlv_tag.specs.declared.kept.Extent.{Extent}
-use Rattle.tlv_tag.specs.Kept.{Bounded}
+use Rattle.tlv_tag.specs.Views.Kept.{Bounded}
 use Rattle.type2.specs.Type2.{type2}
 
 -- the usable addresses of the extent are just those that the plan sets

@@ -9,7 +9,7 @@ use Rattle.tag.specs.Bytes.{byte}
 use Rattle.tag.specs.Refusals.{positioned, malformed-command}
 use Rattle.tag.specs.Stores.{Store}
 use Rattle.type3.specs.Codec.{Decoded, undecoded, decode, storesOf}
-use Rattle.type3.specs.InPlace.{numbers}
+use Rattle.type3.specs.Views.InPlace.{numbers}
 
 -- what the blocks from place k on store, of a command that names b blocks
 abbrev pub storesFrom : List ℕ → ℕ → ℕ → List Store

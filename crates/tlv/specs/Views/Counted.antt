@@ -4,7 +4,7 @@ use mathlib.Core.Path.{_≡_}
 use mathlib.Core.List.{List}
 use Prim.Native.Nat.{ℕ, zero, suc, _≤_}
 use lib.ListN.{length, replicate}
-use Rattle.tlv.specs.Marks.{Marked}
+use Rattle.tlv.specs.Views.Marks.{Marked}
 
 -- u is t with one more area marked, as far as it lies from first up to end
 pub record OneMore (first end : ℕ) (t u : List ℕ) : Type 0 where

@@ -8,7 +8,7 @@ use lib.ListN.{length, set, take, drop}
 use Rattle.tag.specs.Stores.{Store}
 use Rattle.tag.specs.Plan.{picks, counted}
 use Rattle.tag.specs.TagType.{Output, fitted}
-use Rattle.tlv_tag.specs.UpdateViews.{marked}
+use Rattle.tlv_tag.specs.Views.Update.{marked}
 use Rattle.type2.specs.Codec.{commandBytes, encoded}
 
 -- the command of block b, with the image's bytes

@@ -13,9 +13,9 @@ use Rattle.tlv.specs.declared.area.Area as code-area
 use Rattle.tag.specs.Refusals.{bad-length}
 use Rattle.tlv.specs.Areas.{Control, anyArea}
 use Rattle.tlv.specs.Walk.{takeByte, onByte, Length, bad, len, Passed, more, stop, areaBy}
-use Rattle.tlv.specs.Views.{ahead, Within, Onward, Along}
-use Rattle.tlv.specs.Marks.{SmallArea}
-use Rattle.tlv.specs.Counted.{OneMore}
+use Rattle.tlv.specs.Views.Walks.{ahead, Within, Onward, Along}
+use Rattle.tlv.specs.Views.Marks.{SmallArea}
+use Rattle.tlv.specs.Views.Counted.{OneMore}
 
 -- ---- length fields
 

@@ -12,7 +12,7 @@ use Rattle.tag.specs.Plan.{newImage, between}
 use Rattle.tlv_tag.specs.declared.prepare.Preparation as code
 use Rattle.tlv_tag.specs.declared.prepare.Preparation.the-variants as answer
 use Rattle.tlv_tag.specs.Update.{lengthField, lengthAt, planBy}
-use Rattle.tlv_tag.specs.Space.{Space, no-space, space}
+use Rattle.tlv_tag.specs.Views.Space.{Space, no-space, space}
 
 -- how many bytes there are to set for a message of n bytes
 abbrev pub contentLength : ℕ → ℕ

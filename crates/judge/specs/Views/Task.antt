@@ -8,7 +8,7 @@ use Rattle.tag.specs.Answers.{oldHeld}
 use Rattle.tag.specs.Reading.{broken}
 use Rattle.tag.specs.TagType.{held}
 use Rattle.kinds.specs.declared.Kind.{Kind}
-use Rattle.kinds.specs.Types.{typeOf, Attested, Protects}
+use Rattle.kinds.specs.Views.Types.{typeOf, Attested, Protects}
 
 -- a tag that reads, with what its kind knows of it
 pub record Writable (k : Kind) (idm i m table : List ℕ) : Type 0 where

@@ -11,8 +11,8 @@ use Rattle.tlv.specs.declared.find.Stepped.the-variants as stepped
 use Rattle.tlv.specs.declared.find.Found as code-found
 use Rattle.tlv.specs.declared.find.Found.the-variants as code-at
 use Rattle.tlv.specs.Walk.{Step, on, hit, more, stop, Found, lost, found}
-use Rattle.tlv.specs.Counted.{Declared}
-use Rattle.tlv.specs.Views.{ahead, Walked}
+use Rattle.tlv.specs.Views.Counted.{Declared}
+use Rattle.tlv.specs.Views.Walks.{ahead, Walked}
 
 -- ---- a step
 

@@ -1,15 +1,14 @@
--- The code's answer of `decode` as the definition has it, and the contracts of the codec as relations; what framed bytes are, and what
--- writing a command asks.
+-- The code's command and its answer of `decode` as the definitions have them, and the contracts of the codec as relations.
 -- Assumes nothing.
-use mathlib.Core.Bool.{Bool, true, false, cond}
+use mathlib.Core.Bool.{cond}
 use mathlib.Core.Path.{_≡_}
 use mathlib.Core.List.{List, map}
-use Prim.Native.Nat.{ℕ, _+_, _*_, _<_, _≤_}
+use Prim.Native.Nat.{ℕ, _*_}
 use lib.Dec.{eqb}
-use lib.ListN.{length, take, replicate, getD}
+use lib.ListN.{length, take, replicate}
 use Rattle.tag.specs.declared.Block.{Block}
 use Rattle.tag.specs.declared.CountAnswer.{CountAnswer}
-use Rattle.tag.specs.Bytes.{byte, overwrite}
+use Rattle.tag.specs.Bytes.{overwrite}
 use Rattle.tag.specs.Refusals.{refusalAt}
 use Rattle.tag.specs.Contracts.{PutOut}
 use Rattle.type3.specs.declared.Command.{Command}
@@ -40,11 +39,6 @@ commandAs (decoded bs bytes) =
       bytes = overwrite bytes (replicate 128 0);
     }
 
--- was a command read
-abbrev pub isCommand : Decoded → Bool
-isCommand (undecoded r) = false
-isCommand (decoded bs bytes) = true
-
 -- `encode`, given our number, Nbw, Nmaxb, a command and a buffer, answers r and leaves the buffer as out
 abbrev pub EncodedTo : List ℕ → ℕ → ℕ → Command → List ℕ → CountAnswer → List ℕ → Type 0
 EncodedTo number nbw nmaxb c buffer r out = PutOut (encode number nbw nmaxb (c .count) (blockNumbers (c .blocks)) (c .bytes)) buffer r out
@@ -52,15 +46,3 @@ EncodedTo number nbw nmaxb c buffer r out = PutOut (encode number nbw nmaxb (c .
 -- `decode`, given our number, Nbw, Nmaxb and bytes, answers d
 abbrev pub DecodedTo : List ℕ → ℕ → ℕ → List ℕ → code.Decoded → Type 0
 DecodedTo number nbw nmaxb bytes d = (decodedAs d ≡ decode number nbw nmaxb bytes) × (d .command ≡ commandAs (decode number nbw nmaxb bytes))
-
--- a command's bytes have the length that their count says, for at most eight blocks
-pub record Framed (bytes : List ℕ) : Type 0 where
-  pub few : byte bytes 12 ≤ 8
-  pub whole : length bytes ≡ 13 + 18 * byte bytes 12
-
--- what writing a command's bytes asks: sixteen bytes for each block, block numbers that are bytes, and room
-pub record PutAsked (blocks carried bytes : List ℕ) : Type 0 where
-  pub few : length blocks ≤ 8
-  pub each-byte : (i : ℕ) → i < length blocks → getD blocks i 0 ≤ 255
-  pub sixteens : length carried ≡ 16 * length blocks
-  pub room : 13 + 18 * length blocks ≤ length bytes

@@ -4,7 +4,7 @@ use mathlib.Core.Path.{_≡_}
 use mathlib.Core.List.{List}
 use Prim.Native.Nat.{ℕ}
 use lib.ListN.{length, replicate}
-use Rattle.type2.specs.Table.{Clear}
+use Rattle.type2.specs.Views.Table.{Clear}
 
 -- a mark for each block of the longest image, and none marked
 pub record Unmarked (marks : List ℕ) : Type 0 where

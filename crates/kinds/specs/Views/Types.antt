@@ -7,7 +7,7 @@ use lib.ListN.{length}
 use Rattle.tag.specs.Bytes.{byte}
 use Rattle.tag.specs.TagType.{TagType}
 use Rattle.type2.specs.Type2.{type2}
-use Rattle.type2.specs.Kept.{Covered}
+use Rattle.type2.specs.Views.Kept.{Covered}
 use Rattle.type3.specs.Attributes.{nmaxbOf}
 use Rattle.type3.specs.Type3.{type3}
 use Rattle.kinds.specs.declared.Kind.{Kind}

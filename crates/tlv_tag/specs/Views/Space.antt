@@ -1,14 +1,34 @@
--- The code's answer about where a message goes as the definitions have it, and the numbers that callers go by.
+-- Where a message goes: what writing and judging have worked out before they look at the message's bytes or at a list, and the code's
+-- answer about it, with the numbers that callers go by.
 -- Assumes nothing.
 use mathlib.Core.Path.{_≡_}
+use mathlib.Core.Bool.{Bool, cond}
 use mathlib.Core.List.{List}
 use Prim.Native.Nat.{ℕ, _<_, _≤_}
+use lib.Dec.{eqb}
 use lib.ListN.{length}
+use Rattle.tag.specs.Refusals.{empty-message, not-writable, message-too-long}
 use Rattle.tlv.specs.declared.walk.Walk.{Walk}
-use Rattle.tlv.specs.Views.{ahead, Placed}
+use Rattle.tlv.specs.Views.Walks.{ahead, Placed}
 use Rattle.tlv_tag.specs.declared.space.Space as code
 use Rattle.tlv_tag.specs.declared.space.Space.the-variants as answer
-use Rattle.tlv_tag.specs.Space.{Space, no-space, space}
+use Rattle.tlv_tag.specs.Message.{View, refuse, view}
+use Rattle.tlv_tag.specs.Update.{fitsIn}
+
+-- a refusal; or the usable addresses after the message TLV's type byte, which have room
+pub data Space : Type 0 where
+  no-space : ℕ → Space
+  space : List ℕ → Space
+
+-- for a message of n bytes, by the view of the tag and whether it is writable: reading's refusals, then 9, 10, 11
+abbrev pub spaceOf : Bool → ℕ → View → Space
+spaceOf w n (refuse r) = no-space r
+spaceOf w n (view us ms) =
+    cond (eqb n 0) (no-space empty-message)
+    (cond w (cond (fitsIn n (length us)) (space us) (no-space message-too-long))
+    (no-space not-writable))
+
+-- ---- the code
 
 abbrev pub spaceAs : List ℕ → code.Space → Space
 spaceAs table (answer.Refused r) = no-space r

@@ -1,0 +1,2 @@
+-- Views of a type of tag by value.
+pub mod Types

@@ -1,0 +1,4 @@
+-- Views of the code that every type of tag shares: what its functions promise each other.
+pub mod Judging
+pub mod Numbers
+pub mod Flags
