@@ -13,8 +13,8 @@ pub record Area : Type 0 where
   pub start : ℕ
   pub size : ℕ
 
--- which areas may be declared, by the data area's first address and the image's length. Today any: 01 has areas outside the
--- image too. A stricter rule goes here, and nothing else looks inside.
+-- which areas may be declared, by the data area's first address and the image's length. Any may, also one outside the image.
+-- A stricter rule goes here: only `allowed` of the code and the specimens look inside.
 unfoldable pub allowedArea : ℕ → ℕ → Area → Bool
 allowedArea first n r = true
 

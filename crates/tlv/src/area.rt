@@ -18,8 +18,7 @@ pub struct Area {
     pub size: usize,
 }
 
-// Whether an area may be declared, by the data area's first address and the image's length. Today any may, also one outside the
-// image.
+// Whether an area may be declared, by the data area's first address and the image's length. Any may, also one outside the image.
 pub(crate) fn allowed(first: Address, len: usize, area: Area) -> bool
     ensures { λ r. ⌜ r ≡ allowedArea (first .0) len (areaAs area) ⌝ }
 {
