@@ -1,6 +1,7 @@
 -- The code's steps to the message TLV against the definitions' steps.
 -- Assumes nothing.
 use mathlib.Core.Path.{_≡_, refl, ap, _∙_}
+use mathlib.Core.Bool.{Bool}
 use mathlib.Core.List.{List}
 use Prim.Native.Nat.{ℕ, _+_, _-_, _<_, _≤_}
 use native.Mathlib.Omega.{arith}
@@ -13,7 +14,7 @@ use Rattle.tlv.specs.declared.find.Stepped as code-stepped
 use Rattle.tlv.specs.declared.find.Stepped.the-variants as stepped
 use Rattle.tlv.specs.declared.find.Found as code-found
 use Rattle.tlv.specs.declared.find.Found.the-variants as code-at
-use Rattle.tlv.specs.Areas.{anyArea}
+use Rattle.tlv.specs.Areas.{Area}
 use Rattle.tlv.specs.Views.Counted.{Declared}
 use Rattle.tlv.specs.Walk.{Passed, Kind, kindOf, Step, on, stepAt, find}
 use Rattle.tlv.specs.Views.Walks.{ahead, Onward, Along, Walked}
@@ -41,8 +42,8 @@ step-placed i t u n v a p r e q = rw e (step-of-placed i t u n v a p q)
 
 -- ---- a step by its type byte
 
-pub by-kind : (k : Kind) (b : ℕ) (i : List ℕ) (a : ℕ) (us : List ℕ) {r : Step} → r ≡ stepAt anyArea k i a us → k ≡ kindOf b → r ≡ stepAt anyArea (kindOf b) i a us
-by-kind k b i a us e q = e ∙ ap (λ j. stepAt anyArea j i a us) q
+pub by-kind : (allowed : Area → Bool) (k : Kind) (b : ℕ) (i : List ℕ) (a : ℕ) (us : List ℕ) {r : Step} → r ≡ stepAt allowed k i a us → k ≡ kindOf b → r ≡ stepAt allowed (kindOf b) i a us
+by-kind allowed k b i a us e q = e ∙ ap (λ j. stepAt allowed j i a us) q
 
 pub typed-placed : {i s : List ℕ} {v w : Walk} (t : List ℕ) (a : ℕ) (r : code-stepped.Stepped) → Along i s v w → v .at .0 ≤ a → a < w .at .0
     → TypePlaced i s t w a r → SteppedPlaced i s t v r
@@ -74,8 +75,8 @@ fuel-enough {i} {s} {t} {n} {v} {w} p = omega (arith, unskipped-few t (w .at .0)
 ahead-all : (m : ℕ) (w : Walk) → w .at .0 ≤ w .end .0 → w .end .0 ≤ m → ahead (replicate m 0) w ≡ run (w .at .0) (w .end .0 - w .at .0)
 ahead-all m w l h = unskipped-all m (w .at .0) (w .end .0 - w .at .0) (omega arith)
 
-pub find-all : (m : ℕ) (i : List ℕ) (w : Walk) (first size : ℕ) → w .at .0 ≡ first → w .end .0 ≡ first + size → first + size ≤ m
-    → find anyArea (w .end .0 - w .at .0) i (ahead (replicate m 0) w) ≡ find anyArea size i (run first size)
-find-all m i w first size e f h =
+pub find-all : (allowed : Area → Bool) (m : ℕ) (i : List ℕ) (w : Walk) (first size : ℕ) → w .at .0 ≡ first → w .end .0 ≡ first + size → first + size ≤ m
+    → find allowed (w .end .0 - w .at .0) i (ahead (replicate m 0) w) ≡ find allowed size i (run first size)
+find-all allowed m i w first size e f h =
     let n : w .end .0 - w .at .0 ≡ size = omega arith in
     rw (ahead-all m w (omega arith) (omega arith), n, e)

@@ -13,9 +13,10 @@ pub record Area : Type 0 where
   pub start : ℕ
   pub size : ℕ
 
--- which areas may be declared: any, also one outside the image
-abbrev pub anyArea : Area → Bool
-anyArea r = true
+-- which areas may be declared, by the data area's first address and the image's length. Any may, also one outside the image.
+-- A stricter rule goes here: only `allowed` of the code and the specimens look inside.
+unfoldable pub allowedArea : ℕ → ℕ → Area → Bool
+allowedArea first n r = true
 
 abbrev pub covers : Area → ℕ → Bool
 covers r a = leb (r .start) a && ltb a (r .start + r .size)

@@ -3,7 +3,7 @@
 use tag::Address;
 ghost use mathlib.Core.Path.{_≡_};
 ghost use Prim.Native.Nat.{_≤_};
-ghost use Rattle.tlv.specs.Areas.{reserved, fullSize, areaSize, areaOf};
+ghost use Rattle.tlv.specs.Areas.{allowedArea, reserved, fullSize, areaSize, areaOf};
 ghost use Rattle.tlv.specs.Views.Marks.{controlAs, areaAs, SmallArea};
 
 // Which control TLV: 01h lock control, 02h memory control.
@@ -16,6 +16,13 @@ pub enum Control {
 pub struct Area {
     pub start: Address,
     pub size: usize,
+}
+
+// Whether an area may be declared, by the data area's first address and the image's length. Any may, also one outside the image.
+pub(crate) fn allowed(first: Address, len: usize, area: Area) -> bool
+    ensures { λ r. ⌜ r ≡ allowedArea (first .0) len (areaAs area) ⌝ }
+{
+    true
 }
 
 // Whether a nibble of the value's last byte is reserved.

@@ -11,9 +11,9 @@ use tag::Address;
 use tag::refusals;
 ghost use mathlib.Core.Path.{_≡_};
 ghost use Prim.Native.Nat.{min, max};
-ghost use Rattle.tlv.specs.Areas.{without, anyArea};
+ghost use Rattle.tlv.specs.Areas.{without};
 ghost use Rattle.tlv.specs.Walk.{controlValue, passControl};
-ghost use Rattle.tlv.specs.Views.Walks.{ahead, Placed};
+ghost use Rattle.tlv.specs.Views.Walks.{ahead, ruleOf, Placed};
 ghost use Rattle.tlv.specs.Views.Marks.{controlAs, areaAs};
 ghost use Rattle.tlv.specs.Views.Passing.{passedAs, PassedPlaced, Skips, Skipped, lastOf};
 
@@ -45,9 +45,15 @@ impl Walk {
         let to = earlier(Address(stop), self.end);
         table::mark(table, from, to);
         let at = self.at;
+        let first = self.first;
         let end = self.end;
         let areas = self.areas + 1;
-        Walk { at, end, areas }
+        Walk {
+            at,
+            first,
+            end,
+            areas,
+        }
     }
 
     // The last of a control TLV's three value bytes, with the area that they declare.
@@ -60,9 +66,10 @@ impl Walk {
         table: &mut [u16],
     ) -> Passed
         requires { ⌜ Placed (now image) (now table) self ⌝ }
-        ensures is { λ r. ⌜ passedAs (now (table .exit)) r ≡ lastOf (controlAs kind) place size (now (image .entry)) (ahead (now (table .entry)) self) ⌝ }
+        ensures is { λ r. ⌜ passedAs (now (table .exit)) r ≡ lastOf (ruleOf (now (image .entry)) self) (controlAs kind) place size (now (image .entry)) (ahead (now (table .entry)) self) ⌝ }
         ensures placed { λ r. ⌜ PassedPlaced (now (image .entry)) (now (table .entry)) (now (table .exit)) 1 self r ⌝ }
     {
+        let first = self.first;
         match self.take_byte(image, table) {
             Taken::Nothing => Passed::Refused(refusals::BAD_LENGTH),
             Taken::Byte(last, _, w) => {
@@ -70,6 +77,9 @@ impl Walk {
                     return Passed::Refused(refusals::BAD_CONTROL_TLV);
                 }
                 let declared = area::area_of(kind, place, size, last);
+                if !area::allowed(first, image.len(), declared) {
+                    return Passed::Refused(refusals::BAD_CONTROL_TLV);
+                }
                 Passed::More(w.skip_area(declared, table))
             }
         }
@@ -78,7 +88,7 @@ impl Walk {
     // A control TLV's value.
     fn pass_control_value(self, kind: Control, image: &[u8], table: &mut [u16]) -> Passed
         requires { ⌜ Placed (now image) (now table) self ⌝ }
-        ensures is { λ r. ⌜ passedAs (now (table .exit)) r ≡ controlValue anyArea (controlAs kind) (now (image .entry)) (ahead (now (table .entry)) self) ⌝ }
+        ensures is { λ r. ⌜ passedAs (now (table .exit)) r ≡ controlValue (ruleOf (now (image .entry)) self) (controlAs kind) (now (image .entry)) (ahead (now (table .entry)) self) ⌝ }
         ensures placed { λ r. ⌜ PassedPlaced (now (image .entry)) (now (table .entry)) (now (table .exit)) 1 self r ⌝ }
     {
         match self.take_byte(image, table) {
@@ -93,7 +103,7 @@ impl Walk {
     // A control TLV, after its type byte.
     pub(crate) fn pass_control(self, kind: Control, image: &[u8], table: &mut [u16]) -> Passed
         requires { ⌜ Placed (now image) (now table) self ⌝ }
-        ensures is { λ r. ⌜ passedAs (now (table .exit)) r ≡ passControl anyArea (controlAs kind) (now (image .entry)) (ahead (now (table .entry)) self) ⌝ }
+        ensures is { λ r. ⌜ passedAs (now (table .exit)) r ≡ passControl (ruleOf (now (image .entry)) self) (controlAs kind) (now (image .entry)) (ahead (now (table .entry)) self) ⌝ }
         ensures placed { λ r. ⌜ PassedPlaced (now (image .entry)) (now (table .entry)) (now (table .exit)) 1 self r ⌝ }
     {
         match self.take_byte(image, table) {

@@ -8,9 +8,8 @@ use tag::Address;
 use tag::refusals;
 ghost use mathlib.Core.Path.{_≡_};
 ghost use Prim.Native.Nat.{_-_};
-ghost use Rattle.tlv.specs.Areas.{anyArea};
 ghost use Rattle.tlv.specs.Walk.{kindOf, stepAt, step, find};
-ghost use Rattle.tlv.specs.Views.Walks.{ahead, Placed};
+ghost use Rattle.tlv.specs.Views.Walks.{ahead, ruleOf, Placed};
 ghost use Rattle.tlv.specs.Views.Finding.{stepOf, steppedAs, TypePlaced, SteppedPlaced, foundAs, FoundPlaced};
 
 // A step of the walk: a refusal, a TLV passed, or the message TLV, by its type byte's address and the walk past that byte.
@@ -40,7 +39,7 @@ impl Walk {
     // A TLV whose type byte `byte`, just taken, stands at `place`.
     fn pass_by_type(self, byte: u8, place: Address, image: &[u8], table: &mut [u16]) -> Stepped
         requires { ⌜ Placed (now image) (now table) self ⌝ }
-        ensures is { λ r. ⌜ steppedAs (now (table .exit)) r ≡ stepAt anyArea (kindOf byte) (now (image .entry)) (place .0) (ahead (now (table .entry)) self) ⌝ }
+        ensures is { λ r. ⌜ steppedAs (now (table .exit)) r ≡ stepAt (ruleOf (now (image .entry)) self) (kindOf byte) (now (image .entry)) (place .0) (ahead (now (table .entry)) self) ⌝ }
         ensures placed { λ r. ⌜ TypePlaced (now (image .entry)) (now (table .entry)) (now (table .exit)) self (place .0) r ⌝ }
     {
         if byte == 0x00 {
@@ -64,7 +63,7 @@ impl Walk {
     // The next TLV passed, unless it is the message TLV.
     pub(crate) fn pass_tlv(self, image: &[u8], table: &mut [u16]) -> Stepped
         requires { ⌜ Placed (now image) (now table) self ⌝ }
-        ensures is { λ r. ⌜ steppedAs (now (table .exit)) r ≡ step anyArea (now (image .entry)) (ahead (now (table .entry)) self) ⌝ }
+        ensures is { λ r. ⌜ steppedAs (now (table .exit)) r ≡ step (ruleOf (now (image .entry)) self) (now (image .entry)) (ahead (now (table .entry)) self) ⌝ }
         ensures placed { λ r. ⌜ SteppedPlaced (now (image .entry)) (now (table .entry)) (now (table .exit)) self r ⌝ }
     {
         match self.take_byte(image, table) {
@@ -76,7 +75,7 @@ impl Walk {
     // The walk to the message TLV.
     pub fn find_message(self, image: &[u8], table: &mut [u16]) -> Found
         requires { ⌜ Placed (now image) (now table) self ⌝ }
-        ensures is { λ r. ⌜ foundAs (now (table .exit)) r ≡ find anyArea (self .end .0 - self .at .0) (now (image .entry)) (ahead (now (table .entry)) self) ⌝ }
+        ensures is { λ r. ⌜ foundAs (now (table .exit)) r ≡ find (ruleOf (now (image .entry)) self) (self .end .0 - self .at .0) (now (image .entry)) (ahead (now (table .entry)) self) ⌝ }
         ensures placed { λ r. ⌜ FoundPlaced (now (image .entry)) (now (table .entry)) (now (table .exit)) self r ⌝ }
     {
         let mut w = self;

@@ -21,9 +21,8 @@ use Rattle.tag.specs.Answers.{readAs}
 use Rattle.tlv.specs.declared.walk.Walk.{Walk}
 use Rattle.tlv.specs.declared.find.Found as code-found
 use Rattle.tlv.specs.declared.find.Found.the-variants as code-at
-use Rattle.tlv.specs.Areas.{anyArea}
 use Rattle.tlv.specs.Walk.{Length, bad, len, lengthOf, Passed, more, stop, passValue, find}
-use Rattle.tlv.specs.Views.Walks.{ahead}
+use Rattle.tlv.specs.Views.Walks.{ahead, ruleOf}
 use Rattle.tlv.specs.Views.Finding.{foundAs}
 use Rattle.tlv.specs.Views.Values.{at, measured}
 use Rattle.tlv_tag.specs.Message.{TlvTag, View, refuse, view, viewBy, viewOf, viewed, reportOf, readingOf, reading}
@@ -124,11 +123,9 @@ module _ (i us : List ℕ) where
 -- ---- the data area by what the walk over it found: t is the table before, u the table afterwards
 
 module _ (i t u : List ℕ) (first end : ℕ) (w : Walk) (f : code-found.Found) (blank : Blank i t first end) (start : Begins first end w)
-    (walked : foundAs u f ≡ find anyArea (w .end .0 - w .at .0) i (ahead t w)) where
+    (walked : foundAs u f ≡ find (ruleOf i w) (w .end .0 - w .at .0) i (ahead t w)) where
   area-is : areaView i first end ≡ viewOf i (foundAs u f)
-  area-is =
-      ap (viewOf i)
-      (sym (walked ∙ found-all i t w first end blank (start .0) (start .1)))
+  area-is = ap (viewOf i) (sym (walked ∙ found-all i t w first end blank start))
 
   pub area-lost : (r : ℕ) → f ≡ code-at.Refused r → areaView i first end ≡ refuse r
   area-lost r e = area-is ∙ ap (λ g. viewOf i (foundAs u g)) e

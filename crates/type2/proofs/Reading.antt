@@ -5,11 +5,12 @@ use mathlib.Core.Bool.{Bool}
 use mathlib.Core.List.{List}
 use Prim.Native.Nat.{ℕ, _-_, _*_}
 use native.Mathlib.Omega.{arith}
+use lib.ListN.{length}
 use Rattle.tag.specs.declared.Address.{Address}
 use Rattle.tag.specs.Bytes.{byte, run}
 use Rattle.tag.specs.Checks.{firstOf}
 use Rattle.tag.specs.Reading.{unreadable, refusalNumber}
-use Rattle.tlv.specs.Areas.{anyArea}
+use Rattle.tlv.specs.Areas.{allowedArea}
 use Rattle.tlv.specs.Walk.{find}
 use Rattle.tlv_tag.specs.Message.{viewOf, viewAfter, viewed, readingOf, reading}
 use Rattle.tlv_tag.specs.Views.Blank.{Blank}
@@ -47,7 +48,7 @@ module _ (i : List ℕ) (end : ℕ) (w : Bool) (h : Inside i end w) where
   unfolding viewed
   inside-view =
       let e : 8 * byte i 14 ≡ end - 16 = omega (arith, h .area .ends) in
-      ap (viewAfter memory i) (h .sound) ∙ ap (λ n. viewOf i (find anyArea n i (run 16 n))) e
+      ap (viewAfter memory i) (h .sound) ∙ ap (λ n. viewOf i (find (allowedArea 16 (length i)) n i (run 16 n))) e
 
   pub by-area : (type2 .reading) i ≡ readingOf w i (areaView i 16 end)
   unfolding reading

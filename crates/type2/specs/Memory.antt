@@ -10,7 +10,7 @@ use Rattle.tag.specs.Bytes.{byte}
 use Rattle.tag.specs.Refusals.{image-size, not-ndef, unknown-version, bad-access, bad-data-area}
 use Rattle.tag.specs.Checks.{Check, check}
 use Rattle.tag.specs.Version.{knownVersion}
-use Rattle.tlv.specs.Areas.{anyArea}
+use Rattle.tlv.specs.Areas.{allowedArea}
 use Rattle.tlv.specs.Walk.{Layout}
 use Rattle.tlv_tag.specs.Message.{TlvTag}
 
@@ -28,9 +28,9 @@ containerChecks n mark version size access =
     ∷ check (leb (16 + 8 * size) n) bad-data-area
     ∷ []
 
--- an area may lie outside the image
+-- areas are allowed by the rule for a data area from 16 on
 abbrev pub layout : Layout
-layout = record { first = 16; size = λ i. 8 * byte i 14; allowed = λ n. anyArea }
+layout = record { first = 16; size = λ i. 8 * byte i 14; allowed = allowedArea 16 }
 
 -- access 00h is writable, 0Fh read-only
 abbrev pub memory : TlvTag

@@ -1,6 +1,7 @@
 -- The answers of the walk's steps as the definitions have them, and the numbers that callers go by.
 -- Assumes nothing.
 use mathlib.Core.Path.{_≡_}
+use mathlib.Core.Bool.{Bool}
 use mathlib.Core.List.{List}
 use Prim.Native.Nat.{ℕ, suc, _≤_}
 use lib.ListN.{length}
@@ -11,7 +12,7 @@ use Rattle.tlv.specs.declared.length.Passed as code-passed
 use Rattle.tlv.specs.declared.length.Passed.the-variants as passed
 use Rattle.tlv.specs.declared.area.Area as code-area
 use Rattle.tag.specs.Refusals.{bad-length}
-use Rattle.tlv.specs.Areas.{Control, anyArea}
+use Rattle.tlv.specs.Areas.{Control, Area}
 use Rattle.tlv.specs.Walk.{takeByte, onByte, Length, bad, len, Passed, more, stop, areaBy}
 use Rattle.tlv.specs.Views.Walks.{ahead, Within, Onward, Along}
 use Rattle.tlv.specs.Views.Marks.{SmallArea}
@@ -37,6 +38,7 @@ passedAs table (passed.More w) = more (ahead table w)
 pub record Moved (v w : Walk) : Type 0 where
   pub farther : v .at .0 ≤ w .at .0
   pub ordered : w .at .0 ≤ w .end .0
+  pub same-first : w .first .0 ≡ v .first .0
   pub same-end : w .end .0 ≡ v .end .0
   pub same-areas : w .areas ≡ v .areas
 
@@ -61,8 +63,9 @@ pub record Skipped (t u : List ℕ) (v w : Walk) : Type 0 where
   pub one-more : OneMore (v .at .0) (v .end .0) t u
   pub counted : w .areas ≡ suc (v .areas)
   pub same-at : w .at .0 ≡ v .at .0
+  pub same-first : w .first .0 ≡ v .first .0
   pub same-end : w .end .0 ≡ v .end .0
 
 -- a control TLV's value, once its first two bytes are taken
-abbrev pub lastOf : Control → ℕ → ℕ → List ℕ → List ℕ → Passed
-lastOf c b0 b1 i us = onByte (takeByte i us) (stop bad-length) (λ b2 _ xs. areaBy anyArea c b0 b1 b2 xs)
+abbrev pub lastOf : (Area → Bool) → Control → ℕ → ℕ → List ℕ → List ℕ → Passed
+lastOf allowed c b0 b1 i us = onByte (takeByte i us) (stop bad-length) (λ b2 _ xs. areaBy allowed c b0 b1 b2 xs)

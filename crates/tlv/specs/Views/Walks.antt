@@ -1,12 +1,14 @@
 -- The code's walk as the definitions have it: its state is the list of the usable addresses still to come.
 -- Assumes nothing.
 use mathlib.Core.Path.{_≡_}
+use mathlib.Core.Bool.{Bool}
 use mathlib.Core.List.{List}
 use Prim.Native.Nat.{ℕ, _+_, _-_, _<_, _≤_}
 use lib.ListN.{length}
 use Rattle.tlv.specs.declared.walk.Walk.{Walk}
 use Rattle.tlv.specs.declared.walk.Taken as code
 use Rattle.tlv.specs.declared.walk.Taken.the-variants as taken
+use Rattle.tlv.specs.Areas.{Area, allowedArea}
 use Rattle.tlv.specs.Walk.{Taken, none, took}
 use Rattle.tlv.specs.Views.Table.{unskipped}
 use Rattle.tlv.specs.Views.Counted.{Added, TableOf}
@@ -14,6 +16,10 @@ use Rattle.tlv.specs.Views.Counted.{Added, TableOf}
 -- the usable addresses still to come
 abbrev pub ahead : List ℕ → Walk → List ℕ
 ahead table w = unskipped table (w .at .0) (w .end .0 - w .at .0)
+
+-- which areas may be declared on the way
+abbrev pub ruleOf : List ℕ → Walk → Area → Bool
+ruleOf image w = allowedArea (w .first .0) (length image)
 
 -- the walk lies inside the table, which is that of as many areas as the walk counts
 pub record Within (table : List ℕ) (w : Walk) : Type 0 where
@@ -33,6 +39,7 @@ pub record Placed (image table : List ℕ) (w : Walk) : Type 0 where
 pub record Onward (image t u : List ℕ) (n : ℕ) (v w : Walk) : Type 0 where
   pub placed : Placed image u w
   pub farther : v .at .0 ≤ w .at .0
+  pub same-first : w .first .0 ≡ v .first .0
   pub same-end : w .end .0 ≡ v .end .0
   pub counted : w .areas ≡ v .areas + n
   pub added : Added (v .at .0) (v .end .0) n t u

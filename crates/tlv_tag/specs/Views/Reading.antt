@@ -11,13 +11,13 @@ use Rattle.tag.specs.Bytes.{byte, run}
 use Rattle.tag.specs.Refusals.{bad-length}
 use Rattle.tag.specs.Reading.{Report, Reading, unreadable, reads}
 use Rattle.tag.specs.Answers.{whatOf}
-use Rattle.tlv.specs.Areas.{anyArea}
+use Rattle.tlv.specs.Areas.{allowedArea}
 use Rattle.tlv.specs.Walk.{lengthOf, find}
 use Rattle.tlv_tag.specs.Message.{View, refuse, view, viewBy, viewOf, reportOf}
 
 -- the data area from first up to end
 abbrev pub areaView : List ℕ → ℕ → ℕ → View
-areaView i first end = viewOf i (find anyArea (end - first) i (run first (end - first)))
+areaView i first end = viewOf i (find (allowedArea first (length i)) (end - first) i (run first (end - first)))
 
 -- a message TLV with the usable addresses us after its type byte
 abbrev pub tlvView : List ℕ → List ℕ → View

@@ -32,7 +32,7 @@ returns c =
     let n = at-new .new in
     let f = at-find-message .find-message in
     let e = sym (ap (foundAs (f .last .1 .1 .0)) (at-r .r .given .1)) ∙ f .ensures .0
-    ∙ found-all (a .image .now) (a .table .now) (n .result) (a .first .0) (a .end .0) (at-start .pre) (n .ensures .0) (n .ensures .1) in (
+    ∙ found-all (a .image .now) (a .table .now) (n .result) (a .first .0) (a .end .0) (at-start .pre) (n .ensures) in (
       ap (λ x. spaceOf (a .writable) (a .n) (viewOf (a .image .now) x)) e,
       (tt, area-declared (a .image .now) (a .table .now) (f .last .1 .1 .0) (n .result) (a .first .0) (a .end .0) (f .result) (n .ensures) (f .ensures .1)),
     )
@@ -48,7 +48,7 @@ returns-2 c =
     let f = at-find-message .find-message in
     let g = at-w .w .given in
     let e = sym (ap (foundAs (f .last .1 .1 .0)) (g .1)) ∙ f .ensures .0
-    ∙ found-all (a .image .now) (a .table .now) (n .result) (a .first .0) (a .end .0) (at-start .pre) (n .ensures .0) (n .ensures .1) in
+    ∙ found-all (a .image .now) (a .table .now) (n .result) (a .first .0) (a .end .0) (at-start .pre) (n .ensures) in
     let p = found-at (f .ensures .1) (g .1) in (
       c .space-after .ensures .0 ∙ ap (λ x. spaceOf (a .writable) (a .n) (viewOf (a .image .now) x)) e,
       (

@@ -4,19 +4,18 @@ use Prim.Native.Nat.{_-_}
 use native.Mathlib.Omega.{arith}
 use borrow.Author.Needs.{needs}
 use lib.ListN.{length}
-use Rattle.tlv.specs.Areas.{anyArea}
 use Rattle.tlv.specs.Walk.{find}
-use Rattle.tlv.specs.Views.Walks.{ahead, Walked}
+use Rattle.tlv.specs.Views.Walks.{ahead, ruleOf, Walked}
 use Rattle.tlv.specs.Views.Finding.{steppedAs, SteppedPlaced}
 use Rattle.tlv.proofs.Fuel.{walk-more, walk-stop, walk-hit}
-use Rattle.tlv.proofs.Steps.{stay}
+use Rattle.tlv.proofs.Steps.{stay, same-rule}
 use Rattle.tlv.proofs.Finding.{fuel-enough, walked-on, declared-until}
 use Rattle.tlv.proofs.walk.Walk.find_message.Statement.{statement}
 use Rattle.tlv.proofs.walk.Walk.find_message.Tie as tie
 
 abbrev Inv-loop : tie.InvT-loop
 Inv-loop image table₀ w₀ table w =
-    (find anyArea (w₀ .end .0 - w₀ .at .0) image (ahead table₀ w₀) ≡ find anyArea (w₀ .end .0 - w₀ .at .0) image (ahead table w))
+    (find (ruleOf image w₀) (w₀ .end .0 - w₀ .at .0) image (ahead table₀ w₀) ≡ find (ruleOf image w₀) (w₀ .end .0 - w₀ .at .0) image (ahead table w))
     × Walked image table₀ table w₀ w
     × (length table ≡ length table₀)
 
@@ -45,8 +44,8 @@ returns c =
     let s = at-pass-tlv .pass-tlv in
     let g = at-r .r .given in
     let a = at-start .args in
-    let e = sym (s .ensures .0) ∙ ap (steppedAs (s .last .1 .1 .0)) (g .1) in
-    (sym (l .inv .0 ∙ walk-stop anyArea (a .self .end .0 - a .self .at .0) (a .image .now) (ahead (l .table) (l .w)) (g .0 .0) (fuel-enough (l .inv .1 .1)) e), declared-until (l .inv .1) (subst (SteppedPlaced (a .image .now) (l .table) (s .last .1 .1 .0) (l .w)) (g .1) (s .ensures .1)))
+    let e = rw (same-rule (l .inv .1 .1)) at (sym (s .ensures .0) ∙ ap (steppedAs (s .last .1 .1 .0)) (g .1)) in
+    (sym (l .inv .0 ∙ walk-stop (ruleOf (a .image .now) (a .self)) (a .self .end .0 - a .self .at .0) (a .image .now) (ahead (l .table) (l .w)) (g .0 .0) (fuel-enough (l .inv .1 .1)) e), declared-until (l .inv .1) (subst (SteppedPlaced (a .image .now) (l .table) (s .last .1 .1 .0) (l .w)) (g .1) (s .ensures .1)))
 
 loop-less : tie.Need-loop-less Inv-loop μ-loop
 loop-less c =
@@ -71,9 +70,9 @@ loop-again c =
     let s = at-pass-tlv .pass-tlv in
     let g = at-v .v .given in
     let a = at-start .args in
-    let e = sym (s .ensures .0) ∙ ap (steppedAs (s .last .1 .1 .0)) (g .1) in
+    let e = rw (same-rule (l .inv .1 .1)) at (sym (s .ensures .0) ∙ ap (steppedAs (s .last .1 .1 .0)) (g .1)) in
     let p = subst (SteppedPlaced (a .image .now) (l .table) (s .last .1 .1 .0) (l .w)) (g .1) (s .ensures .1) in (
-      l .inv .0 ∙ walk-more anyArea (a .self .end .0 - a .self .at .0) (a .image .now) (ahead (l .table) (l .w)) (ahead (s .last .1 .1 .0) (g .0 .0)) (fuel-enough (l .inv .1 .1)) e,
+      l .inv .0 ∙ walk-more (ruleOf (a .image .now) (a .self)) (a .self .end .0 - a .self .at .0) (a .image .now) (ahead (l .table) (l .w)) (ahead (s .last .1 .1 .0) (g .0 .0)) (fuel-enough (l .inv .1 .1)) e,
       walked-on (l .inv .1) (p .0),
       search needs,
     )
@@ -88,9 +87,9 @@ returns-2 c =
     let s = at-pass-tlv .pass-tlv in
     let g = at-a .a .given in
     let a = at-start .args in
-    let e = sym (s .ensures .0) ∙ ap (steppedAs (s .last .1 .1 .0)) (g .1) in
+    let e = rw (same-rule (l .inv .1 .1)) at (sym (s .ensures .0) ∙ ap (steppedAs (s .last .1 .1 .0)) (g .1)) in
     let p = subst (SteppedPlaced (a .image .now) (l .table) (s .last .1 .1 .0) (l .w)) (g .1) (s .ensures .1) in (
-      sym (l .inv .0 ∙ walk-hit anyArea (a .self .end .0 - a .self .at .0) (a .image .now) (ahead (l .table) (l .w)) (g .0 .0 .0) (ahead (s .last .1 .1 .0) (g .0 .1 .0)) (fuel-enough (l .inv .1 .1)) e),
+      sym (l .inv .0 ∙ walk-hit (ruleOf (a .image .now) (a .self)) (a .self .end .0 - a .self .at .0) (a .image .now) (ahead (l .table) (l .w)) (g .0 .0 .0) (ahead (s .last .1 .1 .0) (g .0 .1 .0)) (fuel-enough (l .inv .1 .1)) e),
       (walked-on (l .inv .1) (p .0), omega (arith, p .1, l .inv .1 .1 .farther), p .2),
     )
 
