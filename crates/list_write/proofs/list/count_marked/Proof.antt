@@ -7,10 +7,9 @@ use native.Mathlib.Omega.{arith}
 use borrow.Author.Needs.{needs}
 use borrow.Author.Tests.{eq-eqb, ne-eqb}
 use Rattle.tag.proofs.Counts.{counted-yes, counted-no}
-use Rattle.tlv_tag.specs.Views.Update.{marked}
-use Rattle.type2_write.specs.Views.Listing.{markedCount}
-use Rattle.type2_write.proofs.list.count_marked.Statement.{statement}
-use Rattle.type2_write.proofs.list.count_marked.Tie as tie
+use Rattle.list_write.specs.Views.Listing.{marked, markedCount}
+use Rattle.list_write.proofs.list.count_marked.Statement.{statement}
+use Rattle.list_write.proofs.list.count_marked.Tie as tie
 
 abbrev Inv-loop : tie.InvT-loop
 Inv-loop marks blocks count₀ b₀ count b = (b ≤ blocks) × (count ≤ b) × (count ≡ markedCount marks b)
