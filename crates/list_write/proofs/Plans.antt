@@ -2,10 +2,13 @@
 -- command has the frame's bytes.
 -- Assumes nothing.
 use mathlib.Core.Path.{_≡_, refl, sym, ap, _∙_}
+use mathlib.Core.Bool.{Bool, true, false, cond}
 use mathlib.Core.List.{List, [], _∷_, _++_, map}
 use Prim.Native.Nat.{ℕ, _+_, _-_, _*_, _/_, _<_}
 use native.Mathlib.Omega.{arith}
+use lib.Dec.{eqb}
 use lib.ListN.{length, take, drop}
+use Rattle.tag.specs.Bytes.{byte}
 use Rattle.tag.specs.Stores.{Store}
 use Rattle.tag.specs.Plan.{Plan, newImage, blockOf, between, picks, chunk, chunks, middle, list}
 use Rattle.tag.specs.TagType.{TagType, written, joined, listBytes, fitted, writeBy}
@@ -21,8 +24,16 @@ module _ (T : TagType) (front : List ℕ) (p : Plan) (i new marks shut : List �
     (one : p .width ≡ 1)
     (new-is : new ≡ newImage p i)
     (as-long : length new ≡ length i)
-    (agree : (b : ℕ) → b < length i / p .size → between p b ≡ marked marks b)
+    (marks-are : (b : ℕ) → b < length i / p .size → byte marks b ≡ cond (between p b) 1 0)
     (shut-is : shut ≡ take (p .size) (drop (p .size * p .guard) (p .closed))) where
+  -- the marked blocks are those between
+  agree : (b : ℕ) → b < length i / p .size → between p b ≡ marked marks b
+  agree b l = rw (marks-are b l) (go (between p b))
+    where
+      go : (c : Bool) → c ≡ eqb (cond c 1 0) 1
+      go true = refl
+      go false = refl
+
   -- a command for each store
   chunk-one : (ss : List Store) → joined (map (T .encoded) (chunk 1 (length ss) ss)) ≡ oneEach front (p .size) ss
   unfolding oneEach

@@ -35,7 +35,7 @@ fn put_block(front: &[u8], size: usize, image: &[u8], block: Block, out: &mut [u
     put_command(front, block, &image[at..at + size], out);
 }
 
-// How many of the first `blocks` blocks are marked.
+// How many of the first `blocks` blocks are marked. A mark is 1.
 fn count_marked(marks: &[u8], blocks: usize) -> usize
     requires { ⌜ (blocks ≤ length (now marks)) × (blocks ≤ 256) ⌝ }
     ensures { λ r. ⌜ (r ≡ markedCount (now (marks .entry)) blocks) × (r ≤ blocks) ⌝ }
@@ -43,7 +43,7 @@ fn count_marked(marks: &[u8], blocks: usize) -> usize
     let mut count = 0usize;
     let mut b = 0usize;
     while b < blocks {
-        if marks[b] != 0 {
+        if marks[b] == 1 {
             count += 1;
         }
         b += 1;
@@ -66,7 +66,7 @@ fn put_if_marked(
     ensures puts { λ _. ⌜ now (out .exit) ≡ cond (marked (now (marks .entry)) (block .0)) (take at (now (out .entry)) ++ (blockBytes (now (front .entry)) size (now (image .entry)) (block .0) ++ drop (at + commandLength (now (front .entry)) size) (now (out .entry)))) (now (out .entry)) ⌝ }
 {
     let b = block.0;
-    if marks[b] == 0 {
+    if marks[b] != 1 {
         return at;
     }
     put_block(front, size, image, block, &mut out[at..]);

@@ -3,18 +3,17 @@
 use mathlib.Core.Path.{_≡_, refl, sym, ap, _∙_, subst}
 use mathlib.Core.Bool.{Bool}
 use mathlib.Core.List.{List}
-use Prim.Native.Nat.{ℕ, _/_, _<_, _≤_}
+use Prim.Native.Nat.{ℕ, _/_, _≤_}
 use native.Mathlib.Omega.{arith}
 use lib.ListN.{length}
 use Rattle.tag.specs.declared.Address.{Address}
-use Rattle.tag.specs.Plan.{between}
 use Rattle.tag.specs.TagType.{unwritten, written, writing, writeBy}
 use Rattle.tlv_tag.specs.declared.prepare.Preparation as code
 use Rattle.tlv_tag.specs.declared.prepare.Preparation.the-variants as answer
 use Rattle.tlv_tag.specs.Update.{lengthAt, planBy}
 use Rattle.tlv_tag.specs.Views.Space.{space, spaceOf}
 use Rattle.tlv_tag.specs.Views.Reading.{areaView}
-use Rattle.tlv_tag.specs.Views.Update.{marked, Spare, Prepared, PreparedIn}
+use Rattle.tlv_tag.specs.Views.Update.{Spare, Prepared, PreparedIn}
 use Rattle.type2.specs.Type2.{type2}
 use Rattle.type2.specs.Views.Container.{Inside}
 use Rattle.type2.proofs.Memory.{whole-blocks}
@@ -28,14 +27,11 @@ use Rattle.type2_write.proofs.Shutting.{length-shut}
 -- ---- the list
 
 module _ (us i m new marks : List ℕ) (first : ℕ) (p : Prepared 4 us i m new marks first) (as-long : length new ≡ length i) (long : length i / 4 ≤ length marks) where
-  agree : (b : ℕ) → b < length i / 4 → between (planBy 4 us i m) b ≡ marked marks b
-  agree b l = sym (p .marks-are b (omega arith))
-
   -- the list is the plan's
   prepared-output : (room : ℕ) → guardedOutput room front 4 new marks (first / 4) (shutBytes i first) ≡ writeBy type2 room i (written (planBy 4 us i m))
   prepared-output room =
       ap (λ f. guardedOutput room front 4 new marks (f / 4) (shutBytes i f)) (p .first-is)
-      ∙ plan-output type2 front (planBy 4 us i m) i new marks (shutBytes i (lengthAt us)) (λ s. refl) (omega arith) refl (p .new-is) as-long agree refl room
+      ∙ plan-output type2 front (planBy 4 us i m) i new marks (shutBytes i (lengthAt us)) (λ s. refl) (omega arith) refl (p .new-is) as-long (λ b l. p .marks-are b (omega arith)) refl room
 
 -- ---- by the answer
 

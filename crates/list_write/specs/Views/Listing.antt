@@ -3,7 +3,7 @@
 -- that it is shut with.
 -- Assumes nothing.
 use mathlib.Core.Path.{_≡_}
-use mathlib.Core.Bool.{Bool, not}
+use mathlib.Core.Bool.{Bool}
 use mathlib.Core.List.{List, [], _∷_, _++_}
 use Prim.Native.Nat.{ℕ, _+_, _*_, _/_, _<_, _≤_}
 use lib.Dec.{eqb}
@@ -33,9 +33,9 @@ unfoldable pub oneEach : List ℕ → ℕ → List Store → List ℕ
 oneEach front z [] = []
 oneEach front z (s ∷ ss) = storeBytes front z s ++ oneEach front z ss
 
--- is block b marked
+-- is block b marked: its mark is 1
 abbrev pub marked : List ℕ → ℕ → Bool
-marked marks b = not (eqb (byte marks b) 0)
+marked marks b = eqb (byte marks b) 1
 
 -- of the first k blocks, how many are marked, and the commands of those
 abbrev pub markedCount : List ℕ → ℕ → ℕ

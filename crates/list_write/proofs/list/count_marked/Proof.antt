@@ -1,6 +1,5 @@
 -- `list::count_marked` meets its contract. Assumes nothing.
 use mathlib.Core.Path.{_≡_, refl, sym, ap, _∙_}
-use mathlib.Core.Bool.{not}
 use mathlib.Core.Logic.{⊎-elim}
 use Prim.Native.Nat.{_+_, _-_, _≤_}
 use native.Mathlib.Omega.{arith}
@@ -22,8 +21,8 @@ loop-again c =
     let l = c .before .before .before .loop in
     let t = marked (c .before .before .before .before .args .marks .now) in
     ⊎-elim
-    (λ w. (search needs, omega arith, w .1 ∙ ap (λ n. n + 1) (l .inv .2) ∙ sym (counted-yes t (l .b) (ap not (ne-eqb _ _ (w .0 .taken))))))
-    (λ w. (search needs, omega arith, w .1 ∙ l .inv .2 ∙ sym (counted-no t (l .b) (ap not (eq-eqb _ _ (w .0 .left))))))
+    (λ w. (search needs, omega arith, w .1 ∙ ap (λ n. n + 1) (l .inv .2) ∙ sym (counted-yes t (l .b) (eq-eqb _ _ (w .0 .taken)))))
+    (λ w. (search needs, omega arith, w .1 ∙ l .inv .2 ∙ sym (counted-no t (l .b) (ne-eqb _ _ (w .0 .left)))))
     (c .if1 .came)
 
 returns : tie.Need-returns Inv-loop μ-loop

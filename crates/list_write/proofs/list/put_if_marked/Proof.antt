@@ -1,6 +1,6 @@
 -- `list::put_if_marked` meets its contract. Assumes nothing.
 use mathlib.Core.Path.{_≡_, refl, sym, ap, _∙_}
-use mathlib.Core.Bool.{true, false, not, cond}
+use mathlib.Core.Bool.{true, false, cond}
 use Prim.Native.Nat.{_+_, _≤_}
 use native.Mathlib.Omega.{arith}
 use borrow.Author.Needs.{needs}
@@ -18,7 +18,7 @@ returns c =
     let at-slices = c .before .before in
     let s = at-slices .before .before .before .before in
     let a = s .args in
-    let q : marked (a .marks .now) (a .block .0) ≡ false = ap not (eq-eqb _ _ (c .if1 .taken)) in
+    let q : marked (a .marks .now) (a .block .0) ≡ false = ne-eqb _ _ (c .if1 .taken) in
     let e : a .at ≡ a .at + 0 = omega arith in
     (e ∙ ap (λ t. a .at + cond t (commandLength (a .front .now) (a .size)) 0) (sym q), no-case _ _ _ _ q refl)
 
@@ -28,7 +28,7 @@ put-block-requires c κs =
     let at-slices = at-if .before .before in
     let s = at-slices .before .before .before .before in
     let a = s .args in
-    let q : marked (a .marks .now) (a .block .0) ≡ true = ap not (ne-eqb _ _ (at-if .if1 .left)) in
+    let q : marked (a .marks .now) (a .block .0) ≡ true = eq-eqb _ _ (at-if .if1 .left) in
     let room = room-yes _ (a .at) (commandLength (a .front .now) (a .size)) (length (a .out .now)) q (s .pre .4) in
     (search needs, omega arith, search needs, search (needs, room))
 
@@ -40,7 +40,7 @@ returns-2 c =
     let s = at-slices .before .before .before .before in
     let a = s .args in
     let step = commandLength (a .front .now) (a .size) in
-    let q : marked (a .marks .now) (a .block .0) ≡ true = ap not (ne-eqb _ _ (at-if .if1 .left)) in
+    let q : marked (a .marks .now) (a .block .0) ≡ true = eq-eqb _ _ (at-if .if1 .left) in
     let room : a .at + step ≤ length (a .out .now) = room-yes _ (a .at) step (length (a .out .now)) q (s .pre .4) in (
       ap (λ t. a .at + cond t step 0) (sym q),
       yes-case _ _ _ _ q
