@@ -2,7 +2,7 @@
 -- blocks between the guard block's two commands.
 -- Assumes nothing.
 use mathlib.Core.Path.{_≡_, refl, sym, ap, _∙_}
-use mathlib.Core.Bool.{not, _&&_, Bool·not-not}
+use mathlib.Core.Bool.{not, _&&_, cond}
 use mathlib.Core.List.{List}
 use Prim.Native.Nat.{ℕ, _/_, _<_}
 use native.Mathlib.Omega.{arith}
@@ -18,7 +18,7 @@ use Rattle.tlv.specs.Views.Walks.{ahead}
 use Rattle.tlv.specs.Views.Values.{BlocksMarked}
 use Rattle.tlv.proofs.Usable.{from, At, from-first, from-end}
 use Rattle.tlv_tag.specs.Update.{content, lengthAt, planBy}
-use Rattle.tlv_tag.specs.Views.Update.{contentLength, marked}
+use Rattle.tlv_tag.specs.Views.Update.{contentLength}
 use Rattle.tlv_tag.proofs.Content.{length-content}
 
 -- ---- the first length byte
@@ -39,15 +39,15 @@ first-usable t w f p e l =
 module _ (z : ℕ) (us i m before after : List ℕ) (g : ℕ) (zeros : before ≡ replicate (length before) 0) (same : length after ≡ length before)
     (is : BlocksMarked z (contentLength (length m)) us before after) (guard : g ≡ lengthAt us / z) where
   -- the blocks that hold a byte to set
-  marked-touches : (b : ℕ) → b < length before → marked after b ≡ touches z us (content m) b
+  marked-touches : (b : ℕ) → b < length before → byte after b ≡ cond (touches z us (content m) b) 1 0
   marked-touches b l =
       let e : byte before b ≡ 0 = ap (λ k. byte k b) zeros ∙ getD-replicate (length before) b 0 0 l in
-      ap not (is (content m) b (length-content m) l) ∙ rw e (Bool·not-not (touches z us (content m) b))
+      is (content m) b (length-content m) l ∙ rw e
 
   -- and with the guard block's mark taken away
-  pub marked-between : (b : ℕ) → b < length before → marked (set after g 0) b ≡ between (planBy z us i m) b
+  pub marked-between : (b : ℕ) → b < length before → byte (set after g 0) b ≡ cond (between (planBy z us i m) b) 1 0
   marked-between b l = rw (← guard) (go (ℕ-discrete b g))
     where
-      go : Dec (b ≡ g) → marked (set after g 0) b ≡ not (eqb b g) && touches z us (content m) b
+      go : Dec (b ≡ g) → byte (set after g 0) b ≡ cond (not (eqb b g) && touches z us (content m) b) 1 0
       go (yes e) = rw (e, getD-set-same after g 0 0 (omega arith), eq-eqb g g refl)
       go (no n) = rw (getD-set-other after g b 0 0 n, ne-eqb b g n) (marked-touches b l)

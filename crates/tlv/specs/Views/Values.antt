@@ -1,10 +1,10 @@
 -- What the code does with the usable bytes from a walk's place on, as the definitions have it.
 -- Assumes nothing.
 use mathlib.Core.Path.{_≡_}
-use mathlib.Core.Bool.{Bool, not, _&&_, cond}
+use mathlib.Core.Bool.{Bool, not, cond}
 use mathlib.Core.List.{List}
 use Prim.Native.Nat.{ℕ, _<_, _≤_}
-use lib.Dec.{leb, eqb}
+use lib.Dec.{leb}
 use lib.ListN.{length, getD, take}
 use Rattle.tag.specs.Bytes.{byte, consecutive}
 use Rattle.tag.specs.Plan.{touches}
@@ -28,8 +28,8 @@ abbrev pub ValueRoom : ℕ → List ℕ → code.Value → Type 0
 ValueRoom n us value.Short = length us < n
 ValueRoom n us (value.At a b) = n ≤ length us
 
--- besides the blocks of z bytes marked before, just those are marked that hold one of the first k of us
+-- the mark 1 is set for the blocks of z bytes that hold one of the first k of us, and all other marks stay
 abbrev pub BlocksMarked : ℕ → ℕ → List ℕ → List ℕ → List ℕ → Type 0
 BlocksMarked z k us before after =
     (vs : List ℕ) (b : ℕ) → length vs ≡ k → b < length before
-    → eqb (byte after b) 0 ≡ eqb (byte before b) 0 && not (touches z us vs b)
+    → byte after b ≡ cond (touches z us vs b) 1 (byte before b)

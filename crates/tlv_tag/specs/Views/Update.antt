@@ -2,10 +2,9 @@
 -- blocks and the address of the first length byte.
 -- Assumes nothing.
 use mathlib.Core.Path.{_≡_}
-use mathlib.Core.Bool.{Bool, not}
+use mathlib.Core.Bool.{cond}
 use mathlib.Core.List.{List}
 use Prim.Native.Nat.{ℕ, _+_, _*_, _<_, _≤_}
-use lib.Dec.{eqb}
 use lib.ListN.{length, replicate}
 use Rattle.tag.specs.Bytes.{byte}
 use Rattle.tag.specs.Plan.{newImage, between}
@@ -18,10 +17,6 @@ use Rattle.tlv_tag.specs.Views.Space.{Space, no-space, space}
 abbrev pub contentLength : ℕ → ℕ
 contentLength n = length (lengthField n) + (n + 1)
 
--- is block b marked
-abbrev pub marked : List ℕ → ℕ → Bool
-marked marks b = not (eqb (byte marks b) 0)
-
 -- room for the new image, and for each block of z bytes a mark, none of them set
 pub record Spare (z : ℕ) (i new marks : List ℕ) : Type 0 where
   pub some-size : 0 < z
@@ -29,10 +24,11 @@ pub record Spare (z : ℕ) (i new marks : List ℕ) : Type 0 where
   pub each-marked : length i ≤ z * length marks
   pub unmarked : marks ≡ replicate (length marks) 0
 
--- the new image, the marks of the blocks between the guard block's two commands, and the address of the first length byte
+-- the new image, the marks, which are 1 for the blocks between the guard block's two commands and 0 else, and the address of the
+-- first length byte
 pub record Prepared (z : ℕ) (us i m new marks : List ℕ) (first : ℕ) : Type 0 where
   pub new-is : new ≡ newImage (planBy z us i m) i
-  pub marks-are : (b : ℕ) → b < length marks → marked marks b ≡ between (planBy z us i m) b
+  pub marks-are : (b : ℕ) → b < length marks → byte marks b ≡ cond (between (planBy z us i m) b) 1 0
   pub first-is : first ≡ lengthAt us
   pub inside : first < length i
 

@@ -1,17 +1,16 @@
 -- `value::mark_blocks` meets its contract. Assumes nothing.
 use mathlib.Core.Path.{_≡_, refl, sym, ap, _∙_}
-use mathlib.Core.Bool.{not, _&&_}
+use mathlib.Core.Bool.{cond}
 use mathlib.Core.List.{List, [], _∷_}
 use Prim.Native.Nat.{ℕ, _-_, _*_, _/_, _<_, _≤_}
 use native.Mathlib.Nat.{div-lt-iff-lt-mul}
 use native.Mathlib.Omega.{arith}
 use borrow.Author.Needs.{needs}
-use lib.Dec.{eqb}
 use lib.ListN.{length, set, replicate, length-set, length-replicate}
 use Rattle.tag.specs.Bytes.{byte}
 use Rattle.tlv.specs.Views.Walks.{ahead}
 use Rattle.tlv.proofs.Usable.{from, At, from-next, from-end}
-use Rattle.tlv.proofs.Touches.{touches-any, unmarked, mark-none, mark-done, mark-next}
+use Rattle.tlv.proofs.Touches.{touches-any, markOf, mark-none, mark-done, mark-next}
 use Rattle.tlv.proofs.Turns.{replicate-next}
 use Rattle.tlv.proofs.value.mark_blocks.Statement.{statement}
 use Rattle.tlv.proofs.value.mark_blocks.Tie as tie
@@ -19,7 +18,7 @@ use Rattle.tlv.proofs.value.mark_blocks.Tie as tie
 abbrev Inv-loop : tie.InvT-loop
 Inv-loop k size table marks₀ end stop a₀ left₀ marks a left =
     At table a stop × (length marks ≡ length marks₀) × (stop ≤ size * length marks)
-    × ((b : ℕ) → unmarked size marks (from table a stop) (replicate left 0) b ≡ unmarked size marks₀ (from table a₀ stop) (replicate k 0) b)
+    × ((b : ℕ) → markOf size marks (from table a stop) (replicate left 0) b ≡ markOf size marks₀ (from table a₀ stop) (replicate k 0) b)
 
 abbrev μ-loop : tie.MeasureT-loop
 μ-loop k size table marks₀ end stop a₀ left₀ marks a left = stop - a
@@ -38,8 +37,8 @@ returns c =
     let us : ahead t (a .w) ≡ from t (c .before .before .before .next-usable .result .0) e = c .before .before .before .next-usable .ensures .1 .0 in
     λ vs b h _.
     sym (mark-done (a .size) (l .marks) (from t (l .a) e) b) ∙ rw z at (l .inv .3 b)
-    ∙ ap (λ x. eqb (byte (a .marks .now) b) 0 && not x) (touches-any (a .size) (from t (c .before .before .before .next-usable .result .0) e) (replicate (a .k) 0) vs b (length-replicate (a .k) 0 ∙ sym h))
-    ∙ ap (λ us. unmarked (a .size) (a .marks .now) us vs b) (sym us)
+    ∙ ap (λ x. cond x 1 (byte (a .marks .now) b)) (touches-any (a .size) (from t (c .before .before .before .next-usable .result .0) e) (replicate (a .k) 0) vs b (length-replicate (a .k) 0 ∙ sym h))
+    ∙ ap (λ us. markOf (a .size) (a .marks .now) us vs b) (sym us)
 
 slice-write-marks : tie.Need-slice-write-marks Inv-loop μ-loop
 slice-write-marks c =
@@ -62,7 +61,7 @@ loop-again c =
       simp length-set (omega arith),
       simp length-set (omega arith),
       λ b.
-          ap (λ x. unmarked (a .size) (set (l .marks) x 1) (from t f e) (replicate (l .left - 1) 0) b) (c .before .block .ensures)
+          ap (λ x. markOf (a .size) (set (l .marks) x 1) (from t f e) (replicate (l .left - 1) 0) b) (c .before .block .ensures)
           ∙ mark-next (a .size) (l .a) 0 (l .marks) (from t f e) (replicate (l .left - 1) 0) b (c .before .before .before .before .before .before .before .before .before .pre .1) h
           ∙ rw (u, r) at (l .inv .3 b),
     )
@@ -77,8 +76,8 @@ returns-2 c =
     let us : ahead t (a .w) ≡ from t (c .before .before .next-usable .result .0) e = c .before .before .next-usable .ensures .1 .0 in
     λ vs b h _.
     sym (mark-none (a .size) (l .marks) (replicate (l .left) 0) b) ∙ rw u at (l .inv .3 b)
-    ∙ ap (λ x. eqb (byte (a .marks .now) b) 0 && not x) (touches-any (a .size) (from t (c .before .before .next-usable .result .0) e) (replicate (a .k) 0) vs b (length-replicate (a .k) 0 ∙ sym h))
-    ∙ ap (λ us. unmarked (a .size) (a .marks .now) us vs b) (sym us)
+    ∙ ap (λ x. cond x 1 (byte (a .marks .now) b)) (touches-any (a .size) (from t (c .before .before .next-usable .result .0) e) (replicate (a .k) 0) vs b (length-replicate (a .k) 0 ∙ sym h))
+    ∙ ap (λ us. markOf (a .size) (a .marks .now) us vs b) (sym us)
 
 pub mark-blocks-spec : {M : Type 1} → statement M
 mark-blocks-spec =

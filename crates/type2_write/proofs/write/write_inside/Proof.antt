@@ -26,8 +26,11 @@ put-list-requires c κs =
     let a = s .args in
     let p = at-prepare .prepare in
     let g = at-first .first .given in
-    listed (a .image .now) (a .message .now) (a .end .0) (a .writable) (s .pre .0) (p .last .1 .1 .1 .1 .1 .1 .1 .0) (p .last .1 .1 .1 .1 .1 .1 .1 .1 .0) (p .result) (p .ensures) (g .0 .0) (g .1)
-    (p .kept .1 .1 .1 .1 .1 .1 .1 .0 ∙ s .pre .2) (p .kept .1 .1 .1 .1 .1 .1 .1 .1 .0 ∙ s .pre .1 .unmarked .size)
+    let long = p .kept .1 .1 .1 .1 .1 .1 .1 .0 ∙ s .pre .2 in
+    let marks-long = p .kept .1 .1 .1 .1 .1 .1 .1 .1 .0 ∙ s .pre .1 .unmarked .size in (
+      listed (a .image .now) (a .message .now) (a .end .0) (a .writable) (s .pre .0) (p .last .1 .1 .1 .1 .1 .1 .1 .0) (p .last .1 .1 .1 .1 .1 .1 .1 .1 .0) (p .result) (p .ensures) (g .0 .0) (g .1) long marks-long,
+      long,
+    )
 
 returns : tie.Need-returns
 returns c =

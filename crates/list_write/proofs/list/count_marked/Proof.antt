@@ -1,16 +1,14 @@
 -- `list::count_marked` meets its contract. Assumes nothing.
 use mathlib.Core.Path.{_≡_, refl, sym, ap, _∙_}
-use mathlib.Core.Bool.{not}
 use mathlib.Core.Logic.{⊎-elim}
 use Prim.Native.Nat.{_+_, _-_, _≤_}
 use native.Mathlib.Omega.{arith}
 use borrow.Author.Needs.{needs}
 use borrow.Author.Tests.{eq-eqb, ne-eqb}
 use Rattle.tag.proofs.Counts.{counted-yes, counted-no}
-use Rattle.tlv_tag.specs.Views.Update.{marked}
-use Rattle.type2_write.specs.Views.Listing.{markedCount}
-use Rattle.type2_write.proofs.list.count_marked.Statement.{statement}
-use Rattle.type2_write.proofs.list.count_marked.Tie as tie
+use Rattle.list_write.specs.Views.Listing.{marked, markedCount}
+use Rattle.list_write.proofs.list.count_marked.Statement.{statement}
+use Rattle.list_write.proofs.list.count_marked.Tie as tie
 
 abbrev Inv-loop : tie.InvT-loop
 Inv-loop marks blocks count₀ b₀ count b = (b ≤ blocks) × (count ≤ b) × (count ≡ markedCount marks b)
@@ -23,8 +21,8 @@ loop-again c =
     let l = c .before .before .before .loop in
     let t = marked (c .before .before .before .before .args .marks .now) in
     ⊎-elim
-    (λ w. (search needs, omega arith, w .1 ∙ ap (λ n. n + 1) (l .inv .2) ∙ sym (counted-yes t (l .b) (ap not (ne-eqb _ _ (w .0 .taken))))))
-    (λ w. (search needs, omega arith, w .1 ∙ l .inv .2 ∙ sym (counted-no t (l .b) (ap not (eq-eqb _ _ (w .0 .left))))))
+    (λ w. (search needs, omega arith, w .1 ∙ ap (λ n. n + 1) (l .inv .2) ∙ sym (counted-yes t (l .b) (eq-eqb _ _ (w .0 .taken)))))
+    (λ w. (search needs, omega arith, w .1 ∙ l .inv .2 ∙ sym (counted-no t (l .b) (ne-eqb _ _ (w .0 .left)))))
     (c .if1 .came)
 
 returns : tie.Need-returns Inv-loop μ-loop

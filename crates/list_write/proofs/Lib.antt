@@ -1,0 +1,4 @@
+-- Laws of the writer of lists.
+pub mod Laying
+pub mod Guarding
+pub mod Plans

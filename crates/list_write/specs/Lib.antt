@@ -1,0 +1,2 @@
+-- The writer of lists whose commands store one block each: what it lays.
+pub mod Views

@@ -1,0 +1,2 @@
+-- Views of the writer of lists.
+pub mod Listing

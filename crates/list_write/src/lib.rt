@@ -1,0 +1,3 @@
+// The writer of lists whose commands store one block each, for every type of tag with such commands.
+
+pub mod list;
