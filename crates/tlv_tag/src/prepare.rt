@@ -9,11 +9,12 @@ use tlv::table;
 use tlv::walk::Walk;
 ghost use mathlib.Core.Path.{_≡_};
 ghost use lib.ListN.{length};
+ghost use Rattle.tlv.specs.Views.Counted.{Declared};
 ghost use Rattle.tlv.specs.Views.Walks.{ahead};
 ghost use Rattle.tlv_tag.specs.Views.Space.{spaceOf, Room};
 ghost use Rattle.tlv_tag.specs.Views.Blank.{Blank};
 ghost use Rattle.tlv_tag.specs.Views.Reading.{areaView};
-ghost use Rattle.tlv_tag.specs.Views.Update.{Spare, Prepared, PreparedIn};
+ghost use Rattle.tlv_tag.specs.Views.Update.{Spare, Prepared, PreparedIn, LeftAlone};
 
 // A refusal; or the address of the first length byte.
 pub enum Preparation {
@@ -66,7 +67,9 @@ pub fn prepare(
     marks: &mut [u8],
 ) -> Preparation
     requires { ⌜ Blank (now image) (now table) (first .0) (end .0) × Spare size (now image) (now new) (now marks) ⌝ }
-    ensures { λ r. ⌜ PreparedIn size (spaceOf writable (length (now (message .entry))) (areaView (now (image .entry)) (first .0) (end .0))) (now (image .entry)) (now (message .entry)) (now (new .exit)) (now (marks .exit)) r ⌝ }
+    ensures prepared { λ r. ⌜ PreparedIn size (spaceOf writable (length (now (message .entry))) (areaView (now (image .entry)) (first .0) (end .0))) (now (image .entry)) (now (message .entry)) (now (new .exit)) (now (marks .exit)) r ⌝ }
+    ensures refused { λ r. ⌜ LeftAlone (now (new .entry)) (now (marks .entry)) (now (new .exit)) (now (marks .exit)) r ⌝ }
+    ensures table { λ _. ⌜ Declared (first .0) (end .0) (now (table .entry)) (now (table .exit)) ⌝ }
 {
     match space::find_space(image, message.len(), table, first, end, writable) {
         Space::Refused(r) => Preparation::Refused(r),

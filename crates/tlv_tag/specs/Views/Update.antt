@@ -36,3 +36,8 @@ pub record Prepared (z : ℕ) (us i m new marks : List ℕ) (first : ℕ) : Type
 abbrev pub PreparedIn : ℕ → Space → List ℕ → List ℕ → List ℕ → List ℕ → code.Preparation → Type 0
 PreparedIn z s i m new marks (answer.Refused r) = no-space r ≡ s
 PreparedIn z s i m new marks (answer.At a) = (us : List ℕ) × (space us ≡ s) × Prepared z us i m new marks (a .0)
+
+-- a refusal leaves the room for the new image and the marks as they were
+abbrev pub LeftAlone : List ℕ → List ℕ → List ℕ → List ℕ → code.Preparation → Type 0
+LeftAlone room marks room′ marks′ (answer.Refused r) = (room′ ≡ room) × (marks′ ≡ marks)
+LeftAlone room marks room′ marks′ (answer.At a) = Unit {0}

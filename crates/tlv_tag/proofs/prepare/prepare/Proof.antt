@@ -1,5 +1,5 @@
 -- `prepare::prepare` meets its contract. Assumes nothing.
-use mathlib.Core.Path.{sym, ap, _∙_}
+use mathlib.Core.Path.{refl, sym, ap, _∙_}
 use borrow.Author.Needs.{needs}
 use Rattle.tlv.specs.Views.Walks.{ahead}
 use Rattle.tlv_tag.specs.Views.Space.{spaceAs}
@@ -18,7 +18,7 @@ returns : tie.Need-returns
 returns c =
     let at-r = c .before in
     let f = at-r .before .before .before .before .find-space in
-    sym (ap (spaceAs (f .last .1 .1 .0)) (at-r .r .given .1)) ∙ f .ensures .0
+    (sym (ap (spaceAs (f .last .1 .1 .0)) (at-r .r .given .1)) ∙ f .ensures .0, ((refl, refl), f .ensures .1 .1))
 
 returns-2 : tie.Need-returns-2
 returns-2 c =
@@ -26,7 +26,7 @@ returns-2 c =
     let at-w = at-prepare-at .before .before .before .before .before in
     let f = at-w .before .before .before .before .find-space in
     let g = at-w .w .given in
-    (ahead (f .last .1 .1 .0) (g .0 .0), sym (ap (spaceAs (f .last .1 .1 .0)) (g .1)) ∙ f .ensures .0, at-prepare-at .prepare-at .ensures)
+    ((ahead (f .last .1 .1 .0) (g .0 .0), sym (ap (spaceAs (f .last .1 .1 .0)) (g .1)) ∙ f .ensures .0, at-prepare-at .prepare-at .ensures), (tt, f .ensures .1 .1))
 
 pub prepare-spec : {M : Type 1} → statement M
 prepare-spec =

@@ -28,7 +28,7 @@ put-list-requires c κs =
     let g = at-first .first .given in
     let long = p .kept .1 .1 .1 .1 .1 .1 .1 .0 ∙ s .pre .2 in
     let marks-long = p .kept .1 .1 .1 .1 .1 .1 .1 .1 .0 ∙ s .pre .1 .unmarked .size in (
-      listed (a .image .now) (a .message .now) (a .end .0) (a .writable) (s .pre .0) (p .last .1 .1 .1 .1 .1 .1 .1 .0) (p .last .1 .1 .1 .1 .1 .1 .1 .1 .0) (p .result) (p .ensures) (g .0 .0) (g .1) long marks-long,
+      listed (a .image .now) (a .message .now) (a .end .0) (a .writable) (s .pre .0) (p .last .1 .1 .1 .1 .1 .1 .1 .0) (p .last .1 .1 .1 .1 .1 .1 .1 .1 .0) (p .result) (p .ensures .0) (g .0 .0) (g .1) long marks-long,
       long,
     )
 
@@ -40,7 +40,7 @@ returns c =
     let a = s .args in
     let p = at-prepare .prepare in
     let g = at-r .r .given in
-    let e = refused (a .image .now) (a .message .now) (a .end .0) (a .writable) (s .pre .0) (p .last .1 .1 .1 .1 .1 .1 .1 .0) (p .last .1 .1 .1 .1 .1 .1 .1 .1 .0) (p .result) (p .ensures) (g .0 .0) (g .1) in
+    let e = refused (a .image .now) (a .message .now) (a .end .0) (a .writable) (s .pre .0) (p .last .1 .1 .1 .1 .1 .1 .1 .0) (p .last .1 .1 .1 .1 .1 .1 .1 .1 .0) (p .result) (p .ensures .0) (g .0 .0) (g .1) in
     (sym (ap (λ v. countOf (writeBy type2 (length (a .list .now)) (a .image .now) v)) e), sym (ap (λ v. outputInto (a .list .now) (writeBy type2 (length (a .list .now)) (a .image .now) v)) e))
 
 returns-2 : tie.Need-returns-2
@@ -52,7 +52,7 @@ returns-2 c =
     let a = s .args in
     let p = at-prepare .prepare in
     let g = at-first .first .given in
-    let e = listed-output (a .image .now) (a .message .now) (a .end .0) (a .writable) (s .pre .0) (p .last .1 .1 .1 .1 .1 .1 .1 .0) (p .last .1 .1 .1 .1 .1 .1 .1 .1 .0) (p .result) (p .ensures) (g .0 .0) (g .1)
+    let e = listed-output (a .image .now) (a .message .now) (a .end .0) (a .writable) (s .pre .0) (p .last .1 .1 .1 .1 .1 .1 .1 .0) (p .last .1 .1 .1 .1 .1 .1 .1 .1 .0) (p .result) (p .ensures .0) (g .0 .0) (g .1)
     (p .kept .1 .1 .1 .1 .1 .1 .1 .0 ∙ s .pre .2) (p .kept .1 .1 .1 .1 .1 .1 .1 .1 .0 ∙ s .pre .1 .unmarked .size) (length (a .list .now)) in
     (l .ensures .0 ∙ ap countOf e, l .ensures .1 ∙ ap (outputInto (a .list .now)) e)
 
