@@ -10,9 +10,11 @@ use native.Mathlib.Omega.{arith}
 use borrow.Rule.Slice.PartMut.{putMid}
 use lib.ListN.{length, getD, set, take, drop, length-append, length-drop}
 use lib.Seq.{take-length, drop-cons, drop-at, set-at, length-take-le}
+use Rattle.tag.specs.Bytes.{byte}
 use Rattle.tag.specs.Stores.{Store}
 use Rattle.tag.specs.Plan.{blockOf, picks, counted}
 use Rattle.tag.proofs.Each.{Each}
+use Rattle.tag.proofs.Runs.{bytes-of}
 use Rattle.tag.proofs.Blocks.{block-length}
 use Rattle.tag.proofs.Filling.{lent, lay-more}
 use Rattle.tag.proofs.Picks.{length-picks, picked, picks-next}
@@ -27,6 +29,15 @@ product-short a b h l = let m : a * b ≤ a * 258 = mul-le-mul-left a l in omega
 -- a block below n of n blocks
 pub block-inside : (z b n m : ℕ) → b < n → z * n ≤ m → z * b + z ≤ m
 block-inside z b n m l h = let k : z * suc b ≤ z * n = mul-le-mul-left z l in omega arith
+
+-- a command of six bytes, laid as one array
+pub six-laid : (front held out laid : List ℕ) (b : ℕ) → length front ≡ 1 → length held ≡ 4
+    → laid ≡ (byte front 0 ∷ b ∷ byte held 0 ∷ byte held 1 ∷ byte held 2 ∷ byte held 3 ∷ []) ++ drop 6 out
+    → laid ≡ commandBytes front b held ++ drop 6 out
+six-laid front held out laid b e f p =
+    p
+    ∙ ap (λ xs. (xs ++ b ∷ byte held 0 ∷ byte held 1 ∷ byte held 2 ∷ byte held 3 ∷ []) ++ drop 6 out) (bytes-of front 1 e)
+    ∙ ap (λ ys. commandBytes front b ys ++ drop 6 out) (bytes-of held 4 f)
 
 -- room that a test asks for
 pub room-yes : (c : Bool) (a n room : ℕ) → c ≡ true → a + cond c n 0 ≤ room → a + n ≤ room

@@ -8,17 +8,33 @@ use tag::CountAnswer;
 use tag::refusals;
 ghost use mathlib.Core.Path.{_≡_};
 ghost use mathlib.Core.Bool.{cond};
-ghost use mathlib.Core.List.{_∷_, _++_};
-ghost use Prim.Native.Nat.{_+_, _*_, _/_, _<_, _≤_};
+ghost use mathlib.Core.List.{_++_};
+ghost use Prim.Native.Nat.{_+_, _*_, _<_, _≤_};
 ghost use lib.ListN.{length, take, drop};
 ghost use Rattle.tag.specs.Contracts.{PutOut};
 ghost use Rattle.list_write.specs.Views.Listing.{commandLength, commandBytes, blockBytes, marked, markedCount, markedBytes, guardedOutput, Listed};
 
-// Writes a command to the front of `out`: the block, and the bytes that it is to hold.
+// Writes a command of six bytes, with one before the block's number and four behind it.
+fn put_six(front: &[u8], block: Block, held: &[u8], out: &mut [u8])
+    requires { ⌜ (block .0 < 256) × (length (now front) ≡ 1) × (length (now held) ≡ 4) × (6 ≤ length (now out)) ⌝ }
+    ensures { λ _. ⌜ now (out .exit) ≡ commandBytes (now (front .entry)) (block .0) (now (held .entry)) ++ drop 6 (now (out .entry)) ⌝ }
+{
+    let six = [front[0], block.0 as u8, held[0], held[1], held[2], held[3]];
+    bytes::copy(&six, out);
+}
+
+// Writes a command to the front of `out`: the block, and the bytes that it is to hold. Type 2's commands have no loop: with several
+// callers the compiler knows neither length, and two loops for six bytes took a third more time.
 fn put_command(front: &[u8], block: Block, held: &[u8], out: &mut [u8])
     requires { ⌜ (block .0 < 256) × (commandLength (now front) (length (now held)) ≤ length (now out)) ⌝ }
     ensures { λ _. ⌜ now (out .exit) ≡ commandBytes (now (front .entry)) (block .0) (now (held .entry)) ++ drop (commandLength (now (front .entry)) (length (now (held .entry)))) (now (out .entry)) ⌝ }
 {
+    if front.len() == 1 {
+        if held.len() == 4 {
+            put_six(front, block, held, out);
+            return;
+        }
+    }
     let at = front.len();
     bytes::copy(held, &mut out[at + 1..]);
     bytes::copy(front, out);

@@ -15,7 +15,7 @@ ghost use Rattle.type2.specs.Codec.{nameable, commandBytes, wellFormed, 
 ghost use Rattle.type2.specs.CodecContracts.{commandAs, EncodedTo, DecodedTo};
 
 // Where a command has its four bytes.
-pub const DATA: usize = 2;
+pub(crate) const DATA: usize = 2;
 
 // The bytes of a command.
 pub const LENGTH: usize = DATA + container::BLOCK_SIZE;
@@ -43,7 +43,7 @@ fn nameable(block: usize, blocks: usize) -> bool
 }
 
 // The six bytes of a command, whether or not its block may be named.
-pub fn command_bytes(block: u8, four: [u8; container::BLOCK_SIZE]) -> [u8; LENGTH]
+fn command_bytes(block: u8, four: [u8; container::BLOCK_SIZE]) -> [u8; LENGTH]
     ensures { λ r. ⌜ r ≡ commandBytes block four ⌝ }
 {
     [0xA2, block, four[0], four[1], four[2], four[3]]

@@ -1,35 +1,50 @@
 -- `list::put_command` meets its contract. Assumes nothing.
-use mathlib.Core.Path.{ap, _∙_}
+use mathlib.Core.Path.{_≡_, ap, _∙_}
+use mathlib.Core.List.{_++_}
+use native.Mathlib.Omega.{arith}
 use borrow.Author.Needs.{needs}
-use lib.ListN.{length}
+use lib.ListN.{length, drop}
+use Rattle.list_write.specs.Views.Listing.{commandLength, commandBytes}
 use Rattle.list_write.proofs.Laying.{command-laid, command-kept}
 use Rattle.list_write.proofs.list.put_command.Statement.{statement}
 use Rattle.list_write.proofs.list.put_command.Tie as tie
 
 returns : tie.Need-returns
 returns c =
+    let at-put = c .before .before in
+    let at-test = at-put .before .before in
+    let at-slices = at-test .before .before in
+    let a = at-slices .before .before .before .args in
+    let six : 6 ≡ commandLength (a .front .now) (length (a .held .now)) = omega (arith, at-test .if2 .taken, at-test .before .if1 .taken) in
+    at-put .put-six .ensures ∙ ap (λ n. commandBytes (a .front .now) (a .block .0) (a .held .now) ++ drop n (a .out .now)) six
+
+returns-2 : tie.Need-returns-2
+returns-2 c =
     let at-front = c .before .before .before in
     let at-held = at-front .before .before .before .before in
-    let at-slices = at-held .before .before in
+    let at-slices = at-held .before .before .before in
     let s = at-slices .before .before .before in
     let a = s .args in
     let held = at-held .copy in
     let front = at-front .copy2 in
     command-laid (a .front .now) (a .out .now) (held .last .1 .0) (front .last .1 .0) (a .held .now) (a .block .0) (s .pre .1) (held .ensures .1) (front .ensures .1)
 
-same-length : tie.Need-same-length
-same-length c =
+same-length-2 : tie.Need-same-length-2
+same-length-2 c =
     let at-front = c .before .before .before in
     let at-held = at-front .before .before .before .before in
-    let at-slices = at-held .before .before in
+    let at-slices = at-held .before .before .before in
     let s = at-slices .before .before .before in
     let a = s .args in
-    ap length (returns c) ∙ command-kept (a .front .now) (a .out .now) (a .held .now) (a .block .0) (s .pre .1)
+    ap length (returns-2 c) ∙ command-kept (a .front .now) (a .out .now) (a .held .now) (a .block .0) (s .pre .1)
 
 pub put-command-spec : {M : Type 1} → statement M
 put-command-spec =
     tie.close
     (tie.spec
+    (λ c κs. search needs)
+    (λ c. search needs)
+    returns
     (λ c. search needs)
     (λ c. search needs)
     (λ c. search needs)
@@ -38,5 +53,5 @@ put-command-spec =
     (λ c κs. search needs)
     (λ c. search needs)
     (λ c. search needs)
-    same-length
-    returns)
+    same-length-2
+    returns-2)
