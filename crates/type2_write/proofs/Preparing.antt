@@ -18,8 +18,8 @@ use Rattle.type2.specs.Type2.{type2}
 use Rattle.type2.specs.Views.Container.{Inside}
 use Rattle.type2.proofs.Memory.{whole-blocks}
 use Rattle.type2.proofs.Deciding.{no-space-writing, space-writing}
-use Rattle.list_write.specs.Views.Listing.{guardedOutput, Listed}
-use Rattle.list_write.proofs.Plans.{plan-output}
+use Rattle.one_block_write.specs.Views.Listing.{guardedOutput, Listed}
+use Rattle.one_block_write.proofs.Plans.{plan-output}
 use Rattle.type2_write.specs.Views.Listing.{front, shutBytes}
 use Rattle.type2_write.specs.Views.Writing.{Unmarked}
 use Rattle.type2_write.proofs.Shutting.{length-shut}

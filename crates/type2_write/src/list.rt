@@ -8,7 +8,7 @@ ghost use mathlib.Core.Path.{_≡_};
 ghost use Prim.Native.Nat.{_+_, _*_, _/_, _<_, _≤_};
 ghost use lib.ListN.{length};
 ghost use Rattle.tag.specs.Contracts.{PutOut};
-ghost use Rattle.list_write.specs.Views.Listing.{guardedOutput, Listed};
+ghost use Rattle.one_block_write.specs.Views.Listing.{guardedOutput, Listed};
 ghost use Rattle.type2_write.specs.Views.Listing.{front, shutBytes};
 
 // The bytes of the block of `first`, with the byte there 00h.
@@ -40,5 +40,5 @@ pub(crate) fn put_list(
     let guard = first.block(container::BLOCK_SIZE);
     let shut = shut_bytes(image, first);
     let code = [0xA2u8];
-    list_write::list::put_list(&code, container::BLOCK_SIZE, new, marks, guard, &shut, list)
+    one_block_write::list::put_list(&code, container::BLOCK_SIZE, new, marks, guard, &shut, list)
 }

@@ -6,7 +6,7 @@ use borrow.Author.Needs.{needs}
 use lib.ListN.{length}
 use Rattle.tag.specs.TagType.{Output, outputInto}
 use Rattle.tag.specs.Answers.{countOf}
-use Rattle.list_write.specs.Views.Listing.{guardedOutput}
+use Rattle.one_block_write.specs.Views.Listing.{guardedOutput}
 use Rattle.type2_write.specs.Views.Listing.{front}
 use Rattle.type2_write.proofs.list.put_list.Statement.{statement}
 use Rattle.type2_write.proofs.list.put_list.Tie as tie

@@ -1,8 +1,8 @@
 -- `list::put_six` meets its contract. Assumes nothing.
 use borrow.Author.Needs.{needs}
-use Rattle.list_write.proofs.Laying.{six-laid}
-use Rattle.list_write.proofs.list.put_six.Statement.{statement}
-use Rattle.list_write.proofs.list.put_six.Tie as tie
+use Rattle.one_block_write.proofs.Laying.{six-laid}
+use Rattle.one_block_write.proofs.list.put_six.Statement.{statement}
+use Rattle.one_block_write.proofs.list.put_six.Tie as tie
 
 returns : tie.Need-returns
 returns c =

@@ -12,7 +12,7 @@ ghost use mathlib.Core.List.{_++_};
 ghost use Prim.Native.Nat.{_+_, _*_, _<_, _≤_};
 ghost use lib.ListN.{length, take, drop};
 ghost use Rattle.tag.specs.Contracts.{PutOut};
-ghost use Rattle.list_write.specs.Views.Listing.{commandLength, commandBytes, blockBytes, marked, markedCount, markedBytes, guardedOutput, Listed};
+ghost use Rattle.one_block_write.specs.Views.Listing.{commandLength, commandBytes, blockBytes, marked, markedCount, markedBytes, guardedOutput, Listed};
 
 // Writes a command of six bytes, with one before the block's number and four behind it.
 fn put_six(front: &[u8], block: Block, held: &[u8], out: &mut [u8])

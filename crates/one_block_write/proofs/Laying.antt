@@ -20,7 +20,7 @@ use Rattle.tag.proofs.Filling.{lent, lay-more}
 use Rattle.tag.proofs.Picks.{length-picks, picked, picks-next}
 use Rattle.tag.proofs.Counts.{counted-yes, counted-no, counted-more}
 use Rattle.tag.proofs.Sending.{Named, picks-named}
-use Rattle.list_write.specs.Views.Listing.{commandLength, commandBytes, blockBytes, storeBytes, oneEach}
+use Rattle.one_block_write.specs.Views.Listing.{commandLength, commandBytes, blockBytes, storeBytes, oneEach}
 
 -- a product of two small numbers is small
 pub product-short : (a b : ℕ) → a ≤ 256 → b ≤ 258 → a * b ≤ 66048

@@ -1,9 +1,9 @@
 -- `list::put_block` meets its contract. Assumes nothing.
 use native.Mathlib.Omega.{arith}
 use borrow.Author.Needs.{needs}
-use Rattle.list_write.proofs.Laying.{product-short, block-laid}
-use Rattle.list_write.proofs.list.put_block.Statement.{statement}
-use Rattle.list_write.proofs.list.put_block.Tie as tie
+use Rattle.one_block_write.proofs.Laying.{product-short, block-laid}
+use Rattle.one_block_write.proofs.list.put_block.Statement.{statement}
+use Rattle.one_block_write.proofs.list.put_block.Tie as tie
 
 address-requires : tie.Need-address-requires
 address-requires c κs =

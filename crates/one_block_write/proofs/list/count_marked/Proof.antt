@@ -6,9 +6,9 @@ use native.Mathlib.Omega.{arith}
 use borrow.Author.Needs.{needs}
 use borrow.Author.Tests.{eq-eqb, ne-eqb}
 use Rattle.tag.proofs.Counts.{counted-yes, counted-no}
-use Rattle.list_write.specs.Views.Listing.{marked, markedCount}
-use Rattle.list_write.proofs.list.count_marked.Statement.{statement}
-use Rattle.list_write.proofs.list.count_marked.Tie as tie
+use Rattle.one_block_write.specs.Views.Listing.{marked, markedCount}
+use Rattle.one_block_write.proofs.list.count_marked.Statement.{statement}
+use Rattle.one_block_write.proofs.list.count_marked.Tie as tie
 
 abbrev Inv-loop : tie.InvT-loop
 Inv-loop marks blocks count₀ b₀ count b = (b ≤ blocks) × (count ≤ b) × (count ≡ markedCount marks b)

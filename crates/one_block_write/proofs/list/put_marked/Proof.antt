@@ -7,10 +7,10 @@ use native.Mathlib.Omega.{arith}
 use borrow.Author.Needs.{needs}
 use lib.ListN.{length, take, drop}
 use Rattle.tag.specs.Plan.{picks}
-use Rattle.list_write.specs.Views.Listing.{commandLength, blockBytes, oneEach, marked, markedCount, markedBytes}
-use Rattle.list_write.proofs.Laying.{block-inside, further, room-next, picked-out}
-use Rattle.list_write.proofs.list.put_marked.Statement.{statement}
-use Rattle.list_write.proofs.list.put_marked.Tie as tie
+use Rattle.one_block_write.specs.Views.Listing.{commandLength, blockBytes, oneEach, marked, markedCount, markedBytes}
+use Rattle.one_block_write.proofs.Laying.{block-inside, further, room-next, picked-out}
+use Rattle.one_block_write.proofs.list.put_marked.Statement.{statement}
+use Rattle.one_block_write.proofs.list.put_marked.Tie as tie
 
 abbrev Inv-loop : tie.InvT-loop
 Inv-loop front size image marks blocks out₀ at₀ b₀ out at b =

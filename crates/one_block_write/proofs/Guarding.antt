@@ -11,8 +11,8 @@ use lib.ListN.{length, take, drop, length-append, length-take, length-drop}
 use Rattle.tag.specs.Bytes.{overwrite}
 use Rattle.tag.specs.TagType.{withheld, output}
 use Rattle.tag.proofs.Filling.{lay-part}
-use Rattle.list_write.specs.Views.Listing.{commandLength, commandBytes, blockBytes, marked, markedCount, markedBytes, guardedBytes, guardedOutput, Listed}
-use Rattle.list_write.proofs.Laying.{block-inside, length-command, length-block, length-picked}
+use Rattle.one_block_write.specs.Views.Listing.{commandLength, commandBytes, blockBytes, marked, markedCount, markedBytes, guardedBytes, guardedOutput, Listed}
+use Rattle.one_block_write.proofs.Laying.{block-inside, length-command, length-block, length-picked}
 
 module _ (front : List ℕ) (z : ℕ) (new marks : List ℕ) (g : ℕ) (shut : List ℕ) (h : Listed front z new marks g shut) where
   pub guard-inside : z * g + z ≤ length new

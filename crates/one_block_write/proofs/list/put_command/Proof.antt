@@ -4,10 +4,10 @@ use mathlib.Core.List.{_++_}
 use native.Mathlib.Omega.{arith}
 use borrow.Author.Needs.{needs}
 use lib.ListN.{length, drop}
-use Rattle.list_write.specs.Views.Listing.{commandLength, commandBytes}
-use Rattle.list_write.proofs.Laying.{command-laid, command-kept}
-use Rattle.list_write.proofs.list.put_command.Statement.{statement}
-use Rattle.list_write.proofs.list.put_command.Tie as tie
+use Rattle.one_block_write.specs.Views.Listing.{commandLength, commandBytes}
+use Rattle.one_block_write.proofs.Laying.{command-laid, command-kept}
+use Rattle.one_block_write.proofs.list.put_command.Statement.{statement}
+use Rattle.one_block_write.proofs.list.put_command.Tie as tie
 
 returns : tie.Need-returns
 returns c =

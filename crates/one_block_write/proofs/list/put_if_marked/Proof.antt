@@ -8,10 +8,10 @@ use borrow.Author.Tests.{eq-eqb, ne-eqb}
 use lib.ListN.{length}
 use Rattle.tag.proofs.Cases.{yes-case, no-case}
 use Rattle.tag.proofs.Filling.{lent}
-use Rattle.list_write.specs.Views.Listing.{commandLength, blockBytes, marked}
-use Rattle.list_write.proofs.Laying.{room-yes}
-use Rattle.list_write.proofs.list.put_if_marked.Statement.{statement}
-use Rattle.list_write.proofs.list.put_if_marked.Tie as tie
+use Rattle.one_block_write.specs.Views.Listing.{commandLength, blockBytes, marked}
+use Rattle.one_block_write.proofs.Laying.{room-yes}
+use Rattle.one_block_write.proofs.list.put_if_marked.Statement.{statement}
+use Rattle.one_block_write.proofs.list.put_if_marked.Tie as tie
 
 returns : tie.Need-returns
 returns c =

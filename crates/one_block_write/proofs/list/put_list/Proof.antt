@@ -6,11 +6,11 @@ use borrow.Author.Needs.{needs}
 use lib.ListN.{length}
 use Rattle.tag.specs.TagType.{outputInto}
 use Rattle.tag.specs.Answers.{gives, countOf}
-use Rattle.list_write.specs.Views.Listing.{commandLength}
-use Rattle.list_write.proofs.Laying.{product-short}
-use Rattle.list_write.proofs.Guarding.{guard-inside, guarded-short, guarded-count, guarded-length, guarded-fits, whole-blocks, middle-room, open-room, guarded-parts}
-use Rattle.list_write.proofs.list.put_list.Statement.{statement}
-use Rattle.list_write.proofs.list.put_list.Tie as tie
+use Rattle.one_block_write.specs.Views.Listing.{commandLength}
+use Rattle.one_block_write.proofs.Laying.{product-short}
+use Rattle.one_block_write.proofs.Guarding.{guard-inside, guarded-short, guarded-count, guarded-length, guarded-fits, whole-blocks, middle-room, open-room, guarded-parts}
+use Rattle.one_block_write.proofs.list.put_list.Statement.{statement}
+use Rattle.one_block_write.proofs.list.put_list.Tie as tie
 
 mul-if1 : tie.Need-mul-if1
 mul-if1 c =

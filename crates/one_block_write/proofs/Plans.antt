@@ -15,8 +15,8 @@ use Rattle.tag.specs.TagType.{TagType, written, joined, listBytes, fitted, writ
 use Rattle.tag.proofs.Picks.{picks-same}
 use Rattle.tag.proofs.Chunks.{joined-append}
 use Rattle.tag.proofs.Counts.{length-list, counted-same}
-use Rattle.list_write.specs.Views.Listing.{commandBytes, blockBytes, storeBytes, oneEach, marked, markedCount, markedBytes, guardedBytes, guardedOutput}
-use Rattle.list_write.proofs.Laying.{block-one}
+use Rattle.one_block_write.specs.Views.Listing.{commandBytes, blockBytes, storeBytes, oneEach, marked, markedCount, markedBytes, guardedBytes, guardedOutput}
+use Rattle.one_block_write.proofs.Laying.{block-one}
 
 module _ (T : TagType) (front : List ℕ) (p : Plan) (i new marks shut : List ℕ)
     (each : (s : Store) → (T .encoded) (s ∷ []) ≡ storeBytes front (p .size) s)
