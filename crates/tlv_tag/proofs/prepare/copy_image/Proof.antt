@@ -7,8 +7,9 @@ use Rattle.tlv_tag.proofs.prepare.copy_image.Tie as tie
 
 returns : tie.Need-returns
 returns c =
-    let s = c .before .before .before .before .before .before in
-    c .before .before .copy .ensures .1 ∙ copied (s .args .image .now) (s .args .new .now) (s .pre)
+    let at-copy = c .before .before in
+    let at-start = at-copy .before .before .before .before in
+    at-copy .copy .ensures .1 ∙ copied (at-start .args .image .now) (at-start .args .new .now) (at-start .pre)
 
 pub copy-image-spec : {M : Type 1} → statement M
 copy-image-spec = tie.close (tie.spec (λ c κs. search needs) (λ c. search needs) returns)

@@ -11,20 +11,24 @@ prepare-at-requires : tie.Need-prepare-at-requires
 prepare-at-requires c κs =
     let at-w = c .before .before .before .before in
     let at-find-space = at-w .before .before .before .before in
-    let s = at-find-space .before .before .before .before .before .before .before in
-    (space-room (s .args .first .0) (s .args .end .0) (at-find-space .find-space .ensures .1 .0) (at-w .w .given .1), s .pre .1)
+    let at-slice-known2 = at-find-space .before .before .before in
+    let at-start = at-slice-known2 .before .before .before .before in
+    (space-room (at-start .args .first .0) (at-start .args .end .0) (at-find-space .find-space .ensures .1 .0) (at-w .w .given .1), at-start .pre .1)
 
 returns : tie.Need-returns
 returns c =
     let at-r = c .before in
-    let f = at-r .before .before .before .before .find-space in
+    let at-find-space = at-r .before .before .before .before in
+    let f = at-find-space .find-space in
     (sym (ap (spaceAs (f .last .1 .1 .0)) (at-r .r .given .1)) ∙ f .ensures .0, ((refl, refl), f .ensures .1 .1))
 
 returns-2 : tie.Need-returns-2
 returns-2 c =
     let at-prepare-at = c .before .before .before .before in
-    let at-w = at-prepare-at .before .before .before .before .before in
-    let f = at-w .before .before .before .before .find-space in
+    let at-known-told2 = at-prepare-at .before .before .before .before in
+    let at-w = at-known-told2 .before in
+    let at-find-space = at-w .before .before .before .before in
+    let f = at-find-space .find-space in
     let g = at-w .w .given in
     ((ahead (f .last .1 .1 .0) (g .0 .0), sym (ap (spaceAs (f .last .1 .1 .0)) (g .1)) ∙ f .ensures .0, at-prepare-at .prepare-at .ensures), (tt, f .ensures .1 .1))
 

@@ -13,36 +13,59 @@ use Rattle.tlv_tag.proofs.prepare.prepare_at.Statement.{statement}
 use Rattle.tlv_tag.proofs.prepare.prepare_at.Tie as tie
 
 -- the address handed back is that of the first length byte
-found : (c : tie.After-block) → (c .before .next-usable .result .0 ≡ lengthAt (ahead (c .before .before .before .before .before .before .before .before .before .before .before .before .before .before .before .before .before .before .before .args .table .now) (c .before .before .before .before .before .before .before .before .before .before .before .before .before .before .before .before .before .before .before .args .w)))
-    × (c .before .next-usable .result .0 < c .before .before .before .before .before .before .before .before .before .before .before .before .before .before .before .before .before .before .before .args .w .end .0)
+found : (c : tie.After-block) →
+    let at-next-usable = c .before in
+    let at-mark-content = at-next-usable .before .before .before in
+    let at-set-content = at-mark-content .before .before .before .before in
+    let at-copy-image = at-set-content .before .before .before .before in
+    let at-slice-known = at-copy-image .before .before .before in
+    let at-start = at-slice-known .before .before .before .before in
+    (at-next-usable .next-usable .result .0 ≡ lengthAt (ahead (at-start .args .table .now) (at-start .args .w)))
+    × (at-next-usable .next-usable .result .0 < at-start .args .w .end .0)
 found c =
-    let s = c .before .before .before .before .before .before .before .before .before .before .before .before .before .before .before .before .before .before .before in
-    let n = c .before .next-usable in
-    first-usable (s .args .table .now) (s .args .w) (n .result .0)
-    (record { within = n .ensures .0 .1; in-table = s .pre .0 .placed .within .in-table; free = n .ensures .1 .1 }) (n .ensures .1 .0) (omega (arith, s .pre .0 .enough))
+    let at-next-usable = c .before in
+    let at-mark-content = at-next-usable .before .before .before in
+    let at-set-content = at-mark-content .before .before .before .before in
+    let at-copy-image = at-set-content .before .before .before .before in
+    let at-slice-known = at-copy-image .before .before .before in
+    let at-start = at-slice-known .before .before .before .before in
+    let n = at-next-usable .next-usable in
+    first-usable (at-start .args .table .now) (at-start .args .w) (n .result .0)
+    (record { within = n .ensures .0 .1; in-table = at-start .pre .0 .placed .within .in-table; free = n .ensures .1 .1 }) (n .ensures .1 .0)
+    (omega (arith, at-start .pre .0 .enough))
 
 slice-write-marks : tie.Need-slice-write-marks
 slice-write-marks c =
-    let s = c .before .before .before .before .before .before .before .before .before .before .before .before .before .before .before .before .before .before .before in
-    let a = s .args in
-    let inside : c .before .next-usable .result .0 / a .size < length (a .marks .now)
-    = div-lt-iff-lt-mul (s .pre .1 .some-size) .1 (omega (arith, found c .1, s .pre .0 .placed .in-image, s .pre .1 .each-marked)) in
-    omega (arith, inside, c .block .ensures, c .before .before .before .before .mark-content .kept)
+    let at-next-usable = c .before in
+    let at-mark-content = at-next-usable .before .before .before in
+    let at-set-content = at-mark-content .before .before .before .before in
+    let at-copy-image = at-set-content .before .before .before .before in
+    let at-slice-known = at-copy-image .before .before .before in
+    let at-start = at-slice-known .before .before .before .before in
+    let a = at-start .args in
+    let inside : at-next-usable .next-usable .result .0 / a .size < length (a .marks .now)
+    = div-lt-iff-lt-mul (at-start .pre .1 .some-size) .1 (omega (arith, found c .1, at-start .pre .0 .placed .in-image, at-start .pre .1 .each-marked)) in
+    omega (arith, inside, c .block .ensures, at-mark-content .mark-content .kept)
 
 returns : tie.Need-returns
 returns c =
-    let s = c .before .before .before .before .before .before .before .before .before .before .before .before .before .before .before .before .before .before .before in
-    let a = s .args in
+    let at-mark-content = c .before .before .before .before in
+    let at-set-content = at-mark-content .before .before .before .before in
+    let at-copy-image = at-set-content .before .before .before .before in
+    let at-slice-known = at-copy-image .before .before .before in
+    let at-start = at-slice-known .before .before .before .before in
+    let a = at-start .args in
     let us = ahead (a .table .now) (a .w) in
-    let k = c .before .before .before .before .mark-content in
+    let k = at-mark-content .mark-content in
     record {
-      new-is = c .before .before .before .before .before .before .before .before .set-content .ensures ∙ ap (overlay us (content (a .message .now))) (c .before .before .before .before .before .before .before .before .before .before .before .before .copy-image .ensures);
+      new-is = at-set-content .set-content .ensures ∙ ap (overlay us (content (a .message .now))) (at-copy-image .copy-image .ensures);
       marks-are = λ b l.
-          marked-between (a .size) us (a .image .now) (a .message .now) (a .marks .now) (k .last .1 .1 .1 .1 .0) (c .block .result .0) (s .pre .1 .unmarked) (k .kept .1 .1 .1 .1 .0) (k .ensures)
+          marked-between (a .size) us (a .image .now) (a .message .now) (a .marks .now) (k .last .1 .1 .1 .1 .0) (c .block .result .0)
+          (at-start .pre .1 .unmarked) (k .kept .1 .1 .1 .1 .0) (k .ensures)
           (c .block .ensures ∙ ap (λ f. f / a .size) (found c .0)) b
           (omega (arith, length-set (k .last .1 .1 .1 .1 .0) (c .block .result .0) 0, k .kept .1 .1 .1 .1 .0));
       first-is = found c .0;
-      inside = omega (arith, found c .1, s .pre .0 .placed .in-image);
+      inside = omega (arith, found c .1, at-start .pre .0 .placed .in-image);
     }
 
 pub prepare-at-spec : {M : Type 1} → statement M

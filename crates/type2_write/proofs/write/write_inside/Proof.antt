@@ -12,48 +12,65 @@ use Rattle.type2_write.proofs.write.write_inside.Tie as tie
 
 prepare-requires : tie.Need-prepare-requires
 prepare-requires c κs =
-    let s = c .before .before .before .before .before .before .before .before .before in
-    let a = s .args in (
-      blank (a .image .now) (a .table .now) (a .end .0) (a .writable) (s .pre .0 .area) (s .pre .1 .clear),
-      spare (a .image .now) (a .message .now) (a .end .0) (a .writable) (s .pre .0) (a .new .now) (a .marks .now) (s .pre .2) (s .pre .1 .unmarked),
+    let at-prepare-arg2 = c .before in
+    let at-slice-known2 = at-prepare-arg2 .before .before .before .before in
+    let at-start = at-slice-known2 .before .before .before .before in
+    let a = at-start .args in (
+      blank (a .image .now) (a .table .now) (a .end .0) (a .writable) (at-start .pre .0 .area) (at-start .pre .1 .clear),
+      spare (a .image .now) (a .message .now) (a .end .0) (a .writable) (at-start .pre .0) (a .new .now) (a .marks .now) (at-start .pre .2)
+          (at-start .pre .1 .unmarked),
     )
 
 put-list-requires : tie.Need-put-list-requires
 put-list-requires c κs =
     let at-first = c .before .before .before .before in
-    let at-prepare = at-first .before .before .before .before .before .before .before .before in
-    let s = at-prepare .before .before .before .before .before .before .before .before .before .before in
-    let a = s .args in
+    let at-slice-known6 = at-first .before .before .before .before in
+    let at-prepare = at-slice-known6 .before .before .before .before in
+    let at-prepare-arg2 = at-prepare .before .before in
+    let at-slice-known2 = at-prepare-arg2 .before .before .before .before in
+    let at-start = at-slice-known2 .before .before .before .before in
+    let a = at-start .args in
     let p = at-prepare .prepare in
     let g = at-first .first .given in
-    let long = p .kept .1 .1 .1 .1 .1 .1 .1 .0 ∙ s .pre .2 in
-    let marks-long = p .kept .1 .1 .1 .1 .1 .1 .1 .1 .0 ∙ s .pre .1 .unmarked .size in (
-      listed (a .image .now) (a .message .now) (a .end .0) (a .writable) (s .pre .0) (p .last .1 .1 .1 .1 .1 .1 .1 .0) (p .last .1 .1 .1 .1 .1 .1 .1 .1 .0) (p .result) (p .ensures .0) (g .0 .0) (g .1) long marks-long,
+    let long = p .kept .1 .1 .1 .1 .1 .1 .1 .0 ∙ at-start .pre .2 in
+    let marks-long = p .kept .1 .1 .1 .1 .1 .1 .1 .1 .0 ∙ at-start .pre .1 .unmarked .size in (
+      listed (a .image .now) (a .message .now) (a .end .0) (a .writable) (at-start .pre .0) (p .last .1 .1 .1 .1 .1 .1 .1 .0)
+          (p .last .1 .1 .1 .1 .1 .1 .1 .1 .0) (p .result) (p .ensures .0) (g .0 .0) (g .1) long marks-long,
       long,
     )
 
 returns : tie.Need-returns
 returns c =
     let at-r = c .before in
-    let at-prepare = at-r .before .before .before .before .before .before .before .before in
-    let s = at-prepare .before .before .before .before .before .before .before .before .before .before in
-    let a = s .args in
+    let at-slice-known6 = at-r .before .before .before .before in
+    let at-prepare = at-slice-known6 .before .before .before .before in
+    let at-prepare-arg2 = at-prepare .before .before in
+    let at-slice-known2 = at-prepare-arg2 .before .before .before .before in
+    let at-start = at-slice-known2 .before .before .before .before in
+    let a = at-start .args in
     let p = at-prepare .prepare in
     let g = at-r .r .given in
-    let e = refused (a .image .now) (a .message .now) (a .end .0) (a .writable) (s .pre .0) (p .last .1 .1 .1 .1 .1 .1 .1 .0) (p .last .1 .1 .1 .1 .1 .1 .1 .1 .0) (p .result) (p .ensures .0) (g .0 .0) (g .1) in
+    let e = refused (a .image .now) (a .message .now) (a .end .0) (a .writable) (at-start .pre .0) (p .last .1 .1 .1 .1 .1 .1 .1 .0)
+    (p .last .1 .1 .1 .1 .1 .1 .1 .1 .0) (p .result) (p .ensures .0) (g .0 .0) (g .1) in
     (sym (ap (λ v. countOf (writeBy type2 (length (a .list .now)) (a .image .now) v)) e), sym (ap (λ v. outputInto (a .list .now) (writeBy type2 (length (a .list .now)) (a .image .now) v)) e))
 
 returns-2 : tie.Need-returns-2
 returns-2 c =
-    let l = c .before .before .put-list in
-    let at-first = c .before .before .before .before .before .before .before in
-    let at-prepare = at-first .before .before .before .before .before .before .before .before in
-    let s = at-prepare .before .before .before .before .before .before .before .before .before .before in
-    let a = s .args in
+    let at-put-list = c .before .before in
+    let at-known-told2 = at-put-list .before .before .before .before in
+    let at-first = at-known-told2 .before in
+    let at-slice-known6 = at-first .before .before .before .before in
+    let at-prepare = at-slice-known6 .before .before .before .before in
+    let at-prepare-arg2 = at-prepare .before .before in
+    let at-slice-known2 = at-prepare-arg2 .before .before .before .before in
+    let at-start = at-slice-known2 .before .before .before .before in
+    let l = at-put-list .put-list in
+    let a = at-start .args in
     let p = at-prepare .prepare in
     let g = at-first .first .given in
-    let e = listed-output (a .image .now) (a .message .now) (a .end .0) (a .writable) (s .pre .0) (p .last .1 .1 .1 .1 .1 .1 .1 .0) (p .last .1 .1 .1 .1 .1 .1 .1 .1 .0) (p .result) (p .ensures .0) (g .0 .0) (g .1)
-    (p .kept .1 .1 .1 .1 .1 .1 .1 .0 ∙ s .pre .2) (p .kept .1 .1 .1 .1 .1 .1 .1 .1 .0 ∙ s .pre .1 .unmarked .size) (length (a .list .now)) in
+    let e = listed-output (a .image .now) (a .message .now) (a .end .0) (a .writable) (at-start .pre .0) (p .last .1 .1 .1 .1 .1 .1 .1 .0)
+    (p .last .1 .1 .1 .1 .1 .1 .1 .1 .0) (p .result) (p .ensures .0) (g .0 .0) (g .1)
+    (p .kept .1 .1 .1 .1 .1 .1 .1 .0 ∙ at-start .pre .2) (p .kept .1 .1 .1 .1 .1 .1 .1 .1 .0 ∙ at-start .pre .1 .unmarked .size) (length (a .list .now)) in
     (l .ensures .0 ∙ ap countOf e, l .ensures .1 ∙ ap (outputInto (a .list .now)) e)
 
 pub write-inside-spec : {M : Type 1} → statement M
