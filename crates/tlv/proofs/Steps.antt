@@ -15,9 +15,8 @@ use Rattle.tlv.specs.declared.length.Field.the-variants as field
 use Rattle.tlv.specs.declared.length.Passed as code-passed
 use Rattle.tlv.specs.declared.length.Passed.the-variants as passed
 use Rattle.tlv.specs.Views.Passing.{FieldPlaced, Moved, PassedWithin, PassedPlaced, Skipped}
-use Rattle.tlv.specs.Areas.{allowedArea}
 use Rattle.tlv.specs.Walk.{Taken, takeByte, onByte}
-use Rattle.tlv.specs.Views.Walks.{ahead, ruleOf, takenAs, Placed, Onward, Along, TakenPlaced}
+use Rattle.tlv.specs.Views.Walks.{ahead, takenAs, Placed, Onward, Along, TakenPlaced}
 use Rattle.tlv.proofs.Counted.{none-added, one-added, one-from, added-from, added-more}
 
 -- ---- a byte taken
@@ -36,22 +35,17 @@ module _ {i tb : List ℕ} {v : Walk} {t : code.Taken} {b : ℕ} {a : Address} {
 
 -- no step
 pub stay : {i t : List ℕ} {w : Walk} → Placed i t w → Along i t w w
-stay {i} {t} {w} p = record { placed = p; farther = omega arith; same-first = refl; same-end = refl; counted = omega arith; added = none-added (w .at .0) (w .end .0) t }
+stay {i} {t} {w} p = record { placed = p; farther = omega arith; same-end = refl; counted = omega arith; added = none-added (w .at .0) (w .end .0) t }
 
 -- two steps
 pub onward : {i s t x : List ℕ} {n m : ℕ} {u v w : Walk} → Onward i s t n u v → Onward i t x m v w → Onward i s x (n + m) u w
 onward {i} {s} {t} {x} {n} {m} {u} {v} p q = record {
   placed = q .placed;
   farther = omega (arith, p .farther, q .farther);
-  same-first = q .same-first ∙ p .same-first;
   same-end = q .same-end ∙ p .same-end;
   counted = omega (arith, p .counted, q .counted);
   added = added-more (u .at .0) (u .end .0) n m s t x (p .added) (added-from (u .end .0) m t x (p .farther) (rw (p .same-end) at (q .added)));
 }
-
--- the rule by which areas are allowed stays on the way
-pub same-rule : {i t u : List ℕ} {n : ℕ} {v w : Walk} → Onward i t u n v w → ruleOf i w ≡ ruleOf i v
-same-rule {i} p = ap (λ f. allowedArea f (length i)) (p .same-first)
 
 -- ---- a case that a callee's answer picks
 
@@ -84,7 +78,6 @@ moved p q = record {
     in-image = omega (arith, p .placed .in-image, q .same-end);
   };
   farther = omega (arith, p .farther, q .farther);
-  same-first = q .same-first ∙ p .same-first;
   same-end = q .same-end ∙ p .same-end;
   counted = q .same-areas ∙ p .counted;
   added = p .added;
@@ -114,7 +107,6 @@ skipped {i} {s} {t} {u} {v} few l p q = record {
     in-image = omega (arith, p .placed .in-image, q .same-end);
   };
   farther = omega (arith, p .farther, q .same-at);
-  same-first = q .same-first ∙ p .same-first;
   same-end = q .same-end ∙ p .same-end;
   counted = omega (arith, p .counted, q .counted);
   added = one-added 0 s (none-added (u .at .0) (u .end .0) s) (one-from (p .farther) (rw (p .same-end) at (q .one-more)));

@@ -45,20 +45,15 @@ impl Walk {
         let to = earlier(Address(stop), self.end);
         table::mark(table, from, to);
         let at = self.at;
-        let first = self.first;
         let end = self.end;
         let areas = self.areas + 1;
-        Walk {
-            at,
-            first,
-            end,
-            areas,
-        }
+        Walk { at, end, areas }
     }
 
     // The last of a control TLV's three value bytes, with the area that they declare.
     fn pass_last(
         self,
+        first: Address,
         kind: Control,
         place: u8,
         size: u8,
@@ -66,10 +61,9 @@ impl Walk {
         table: &mut [u16],
     ) -> Passed
         requires { ⌜ Placed (now image) (now table) self ⌝ }
-        ensures is { λ r. ⌜ passedAs (now (table .exit)) r ≡ lastOf (ruleOf (now (image .entry)) self) (controlAs kind) place size (now (image .entry)) (ahead (now (table .entry)) self) ⌝ }
+        ensures is { λ r. ⌜ passedAs (now (table .exit)) r ≡ lastOf (ruleOf (now (image .entry)) first) (controlAs kind) place size (now (image .entry)) (ahead (now (table .entry)) self) ⌝ }
         ensures placed { λ r. ⌜ PassedPlaced (now (image .entry)) (now (table .entry)) (now (table .exit)) 1 self r ⌝ }
     {
-        let first = self.first;
         match self.take_byte(image, table) {
             Taken::Nothing => Passed::Refused(refusals::BAD_LENGTH),
             Taken::Byte(last, _, w) => {
@@ -86,31 +80,43 @@ impl Walk {
     }
 
     // A control TLV's value.
-    fn pass_control_value(self, kind: Control, image: &[u8], table: &mut [u16]) -> Passed
+    fn pass_control_value(
+        self,
+        first: Address,
+        kind: Control,
+        image: &[u8],
+        table: &mut [u16],
+    ) -> Passed
         requires { ⌜ Placed (now image) (now table) self ⌝ }
-        ensures is { λ r. ⌜ passedAs (now (table .exit)) r ≡ controlValue (ruleOf (now (image .entry)) self) (controlAs kind) (now (image .entry)) (ahead (now (table .entry)) self) ⌝ }
+        ensures is { λ r. ⌜ passedAs (now (table .exit)) r ≡ controlValue (ruleOf (now (image .entry)) first) (controlAs kind) (now (image .entry)) (ahead (now (table .entry)) self) ⌝ }
         ensures placed { λ r. ⌜ PassedPlaced (now (image .entry)) (now (table .entry)) (now (table .exit)) 1 self r ⌝ }
     {
         match self.take_byte(image, table) {
             Taken::Nothing => Passed::Refused(refusals::BAD_LENGTH),
             Taken::Byte(place, _, v) => match v.take_byte(image, table) {
                 Taken::Nothing => Passed::Refused(refusals::BAD_LENGTH),
-                Taken::Byte(size, _, w) => w.pass_last(kind, place, size, image, table),
+                Taken::Byte(size, _, w) => w.pass_last(first, kind, place, size, image, table),
             },
         }
     }
 
     // A control TLV, after its type byte.
-    pub(crate) fn pass_control(self, kind: Control, image: &[u8], table: &mut [u16]) -> Passed
+    pub(crate) fn pass_control(
+        self,
+        first: Address,
+        kind: Control,
+        image: &[u8],
+        table: &mut [u16],
+    ) -> Passed
         requires { ⌜ Placed (now image) (now table) self ⌝ }
-        ensures is { λ r. ⌜ passedAs (now (table .exit)) r ≡ passControl (ruleOf (now (image .entry)) self) (controlAs kind) (now (image .entry)) (ahead (now (table .entry)) self) ⌝ }
+        ensures is { λ r. ⌜ passedAs (now (table .exit)) r ≡ passControl (ruleOf (now (image .entry)) first) (controlAs kind) (now (image .entry)) (ahead (now (table .entry)) self) ⌝ }
         ensures placed { λ r. ⌜ PassedPlaced (now (image .entry)) (now (table .entry)) (now (table .exit)) 1 self r ⌝ }
     {
         match self.take_byte(image, table) {
             Taken::Nothing => Passed::Refused(refusals::BAD_LENGTH),
             Taken::Byte(length, _, w) => {
                 if length == 3 {
-                    return w.pass_control_value(kind, image, table);
+                    return w.pass_control_value(first, kind, image, table);
                 }
                 Passed::Refused(refusals::BAD_CONTROL_TLV)
             }

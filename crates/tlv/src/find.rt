@@ -37,19 +37,26 @@ fn step_of(passed: Passed) -> Stepped
 
 impl Walk {
     // A TLV whose type byte `byte`, just taken, stands at `place`.
-    fn pass_by_type(self, byte: u8, place: Address, image: &[u8], table: &mut [u16]) -> Stepped
+    fn pass_by_type(
+        self,
+        first: Address,
+        byte: u8,
+        place: Address,
+        image: &[u8],
+        table: &mut [u16],
+    ) -> Stepped
         requires { ⌜ Placed (now image) (now table) self ⌝ }
-        ensures is { λ r. ⌜ steppedAs (now (table .exit)) r ≡ stepAt (ruleOf (now (image .entry)) self) (kindOf byte) (now (image .entry)) (place .0) (ahead (now (table .entry)) self) ⌝ }
+        ensures is { λ r. ⌜ steppedAs (now (table .exit)) r ≡ stepAt (ruleOf (now (image .entry)) first) (kindOf byte) (now (image .entry)) (place .0) (ahead (now (table .entry)) self) ⌝ }
         ensures placed { λ r. ⌜ TypePlaced (now (image .entry)) (now (table .entry)) (now (table .exit)) self (place .0) r ⌝ }
     {
         if byte == 0x00 {
             return Stepped::On(self);
         }
         if byte == 0x01 {
-            return step_of(self.pass_control(Control::Lock, image, table));
+            return step_of(self.pass_control(first, Control::Lock, image, table));
         }
         if byte == 0x02 {
-            return step_of(self.pass_control(Control::Memory, image, table));
+            return step_of(self.pass_control(first, Control::Memory, image, table));
         }
         if byte == 0x03 {
             return Stepped::Message(place, self);
@@ -61,26 +68,28 @@ impl Walk {
     }
 
     // The next TLV passed, unless it is the message TLV.
-    pub(crate) fn pass_tlv(self, image: &[u8], table: &mut [u16]) -> Stepped
+    pub(crate) fn pass_tlv(self, first: Address, image: &[u8], table: &mut [u16]) -> Stepped
         requires { ⌜ Placed (now image) (now table) self ⌝ }
-        ensures is { λ r. ⌜ steppedAs (now (table .exit)) r ≡ step (ruleOf (now (image .entry)) self) (now (image .entry)) (ahead (now (table .entry)) self) ⌝ }
+        ensures is { λ r. ⌜ steppedAs (now (table .exit)) r ≡ step (ruleOf (now (image .entry)) first) (now (image .entry)) (ahead (now (table .entry)) self) ⌝ }
         ensures placed { λ r. ⌜ SteppedPlaced (now (image .entry)) (now (table .entry)) (now (table .exit)) self r ⌝ }
     {
         match self.take_byte(image, table) {
             Taken::Nothing => Stepped::Refused(refusals::NO_MESSAGE_TLV),
-            Taken::Byte(byte, place, w) => w.pass_by_type(byte, place, image, table),
+            Taken::Byte(byte, place, w) => w.pass_by_type(first, byte, place, image, table),
         }
     }
 
     // The walk to the message TLV.
-    pub fn find_message(self, image: &[u8], table: &mut [u16]) -> Found
+    // `first`, the data area's first address, is for the rule by which areas are allowed. It is an argument: as a field of `Walk`
+    // every step would hand it back, and that took a third more time on a tag of NULL TLVs.
+    pub fn find_message(self, first: Address, image: &[u8], table: &mut [u16]) -> Found
         requires { ⌜ Placed (now image) (now table) self ⌝ }
-        ensures is { λ r. ⌜ foundAs (now (table .exit)) r ≡ find (ruleOf (now (image .entry)) self) (self .end .0 - self .at .0) (now (image .entry)) (ahead (now (table .entry)) self) ⌝ }
+        ensures is { λ r. ⌜ foundAs (now (table .exit)) r ≡ find (ruleOf (now (image .entry)) first) (self .end .0 - self .at .0) (now (image .entry)) (ahead (now (table .entry)) self) ⌝ }
         ensures placed { λ r. ⌜ FoundPlaced (now (image .entry)) (now (table .entry)) (now (table .exit)) self r ⌝ }
     {
         let mut w = self;
         loop {
-            match w.pass_tlv(image, table) {
+            match w.pass_tlv(first, image, table) {
                 Stepped::Refused(r) => return Found::Refused(r),
                 Stepped::On(v) => w = v,
                 Stepped::Message(a, v) => return Found::At(a, v),

@@ -74,7 +74,6 @@ impl Walk {
         if n == 0 {
             return Passed::More(self);
         }
-        let first = self.first;
         let end = self.end;
         let areas = self.areas;
         let last = value::nth(self, n - 1, table);
@@ -83,12 +82,7 @@ impl Walk {
             return Passed::Refused(refusals::BAD_LENGTH);
         }
         let at = Address(z + 1);
-        Passed::More(Walk {
-            at,
-            first,
-            end,
-            areas,
-        })
+        Passed::More(Walk { at, end, areas })
     }
 
     // A TLV of another type, after its type byte: length and value are passed over.

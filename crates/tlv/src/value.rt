@@ -104,18 +104,16 @@ pub fn set_bytes(w: Walk, bytes: &[u8], table: &[u16], image: &mut [u8]) -> Walk
     ensures past { λ r. ⌜ ahead (now (table .entry)) r ≡ drop (length (now (bytes .entry))) (ahead (now (table .entry)) w) ⌝ }
     ensures placed { λ r. ⌜ Along (now (image .exit)) (now (table .entry)) w r ⌝ }
 {
-    let first = w.first;
     let end = w.end;
     let areas = w.areas;
     let stop = end.0;
-    let here = table::next_usable(table, w.at, end);
-    let mut a = here.0;
+    let first = table::next_usable(table, w.at, end);
+    let mut a = first.0;
     let mut k = 0usize;
     while a < stop {
         if k == bytes.len() {
             return Walk {
                 at: Address(a),
-                first,
                 end,
                 areas,
             };
@@ -127,7 +125,6 @@ pub fn set_bytes(w: Walk, bytes: &[u8], table: &[u16], image: &mut [u8]) -> Walk
     }
     Walk {
         at: Address(a),
-        first,
         end,
         areas,
     }

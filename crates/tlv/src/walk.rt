@@ -6,11 +6,9 @@ ghost use mathlib.Core.Path.{_≡_};
 ghost use Rattle.tlv.specs.Walk.{takeByte};
 ghost use Rattle.tlv.specs.Views.Walks.{ahead, Placed, takenAs, TakenPlaced};
 
-// The place reached: the next address to look at, the data area's first address and its end, and how many areas were declared on
-// the way. The first address is there for the rule by which areas are allowed.
+// The place reached: the next address to look at, the data area's end, and how many areas were declared on the way.
 pub struct Walk {
     pub at: Address,
-    pub first: Address,
     pub end: Address,
     pub areas: usize,
 }
@@ -24,11 +22,10 @@ pub enum Taken {
 impl Walk {
     // The walk over the data area from `first` up to `end`, before its first byte.
     pub fn new(first: Address, end: Address) -> Walk
-        ensures { λ r. ⌜ (r .at .0 ≡ first .0) × (r .end .0 ≡ end .0) × (r .areas ≡ 0) × (r .first .0 ≡ first .0) ⌝ }
+        ensures { λ r. ⌜ (r .at .0 ≡ first .0) × (r .end .0 ≡ end .0) × (r .areas ≡ 0) ⌝ }
     {
         Walk {
             at: first,
-            first,
             end,
             areas: 0,
         }
@@ -40,7 +37,6 @@ impl Walk {
         ensures is { λ r. ⌜ takenAs (now (table .entry)) r ≡ takeByte (now (image .entry)) (ahead (now (table .entry)) self) ⌝ }
         ensures placed { λ r. ⌜ TakenPlaced (now (image .entry)) (now (table .entry)) self r ⌝ }
     {
-        let first = self.first;
         let end = self.end;
         let areas = self.areas;
         let found = table::next_usable(table, self.at, end);
@@ -52,7 +48,6 @@ impl Walk {
                 found,
                 Walk {
                     at: next,
-                    first,
                     end,
                     areas,
                 },

@@ -18,7 +18,7 @@ use Rattle.tlv.specs.declared.find.Found.the-variants as found
 use Rattle.tlv.specs.Areas.{allowedArea}
 use Rattle.tlv.specs.Walk.{Length, bad, len, find}
 use Rattle.tlv.specs.Views.Counted.{Added, Declared}
-use Rattle.tlv.specs.Views.Walks.{ahead, ruleOf, Placed, Walked}
+use Rattle.tlv.specs.Views.Walks.{ahead, Placed, Walked}
 use Rattle.tlv.specs.Views.Finding.{FoundPlaced}
 use Rattle.tlv.proofs.Finding.{find-all, found-declared}
 use Rattle.tlv_tag.specs.declared.space.Space as code
@@ -62,7 +62,7 @@ module _ (w : Bool) (n : ℕ) where
 
 -- a walk that has not begun
 abbrev pub Begins : ℕ → ℕ → Walk → Type 0
-Begins first end w = (w .at .0 ≡ first) × (w .end .0 ≡ end) × (w .areas ≡ 0) × (w .first .0 ≡ first)
+Begins first end w = (w .at .0 ≡ first) × (w .end .0 ≡ end) × (w .areas ≡ 0)
 
 pub begin-placed : (i t : List ℕ) (w : Walk) (first end : ℕ) → Blank i t first end → Begins first end w → Placed i t w
 unfolding Added
@@ -81,11 +81,11 @@ pub area-declared : (i t u : List ℕ) (w : Walk) (first end : ℕ) (r : code-fo
 area-declared i t u w first end r s p = rw (s .0, s .1) at (found-declared i t u w r p)
 
 pub found-all : (i t : List ℕ) (w : Walk) (first end : ℕ) → Blank i t first end → Begins first end w
-    → find (ruleOf i w) (w .end .0 - w .at .0) i (ahead t w) ≡ find (allowedArea first (length i)) (end - first) i (run first (end - first))
+    → find (allowedArea first (length i)) (w .end .0 - w .at .0) i (ahead t w) ≡ find (allowedArea first (length i)) (end - first) i (run first (end - first))
 found-all i t w first end b s =
-    ap (λ u. find (ruleOf i w) (w .end .0 - w .at .0) i (ahead u w)) (b .clear)
-    ∙ find-all (ruleOf i w) (length t) i w first (end - first) (s .0) (omega (arith, s .1, b .ordered)) (omega (arith, b .ordered, b .in-table))
-    ∙ ap (λ f. find (allowedArea f (length i)) (end - first) i (run first (end - first))) (s .3)
+    let allowed = allowedArea first (length i) in
+    ap (λ u. find allowed (w .end .0 - w .at .0) i (ahead u w)) (b .clear)
+    ∙ find-all allowed (length t) i w first (end - first) (s .0) (omega (arith, s .1, b .ordered)) (omega (arith, b .ordered, b .in-table))
 
 pub found-at : {i s t : List ℕ} {v w : Walk} {a : Address} {r : code-found.Found} → FoundPlaced i s t v r → r ≡ found.At a w
     → Walked i s t v w × (v .at .0 ≤ a .0) × (a .0 < w .at .0)

@@ -21,8 +21,9 @@ use Rattle.tag.specs.Answers.{readAs}
 use Rattle.tlv.specs.declared.walk.Walk.{Walk}
 use Rattle.tlv.specs.declared.find.Found as code-found
 use Rattle.tlv.specs.declared.find.Found.the-variants as code-at
+use Rattle.tlv.specs.Areas.{allowedArea}
 use Rattle.tlv.specs.Walk.{Length, bad, len, lengthOf, Passed, more, stop, passValue, find}
-use Rattle.tlv.specs.Views.Walks.{ahead, ruleOf}
+use Rattle.tlv.specs.Views.Walks.{ahead}
 use Rattle.tlv.specs.Views.Finding.{foundAs}
 use Rattle.tlv.specs.Views.Values.{at, measured}
 use Rattle.tlv_tag.specs.Message.{TlvTag, View, refuse, view, viewBy, viewOf, viewed, reportOf, readingOf, reading}
@@ -123,7 +124,7 @@ module _ (i us : List ℕ) where
 -- ---- the data area by what the walk over it found: t is the table before, u the table afterwards
 
 module _ (i t u : List ℕ) (first end : ℕ) (w : Walk) (f : code-found.Found) (blank : Blank i t first end) (start : Begins first end w)
-    (walked : foundAs u f ≡ find (ruleOf i w) (w .end .0 - w .at .0) i (ahead t w)) where
+    (walked : foundAs u f ≡ find (allowedArea first (length i)) (w .end .0 - w .at .0) i (ahead t w)) where
   area-is : areaView i first end ≡ viewOf i (foundAs u f)
   area-is = ap (viewOf i) (sym (walked ∙ found-all i t w first end blank start))
 

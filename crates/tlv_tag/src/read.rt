@@ -107,7 +107,7 @@ pub fn read_area(
     ensures table { λ _. ⌜ Declared (first .0) (end .0) (now (table .entry)) (now (table .exit)) ⌝ }
 {
     let w = Walk::new(first, end);
-    match w.find_message(image, table) {
+    match w.find_message(first, image, table) {
         Found::Refused(r) => ReadAnswer::Refused(r),
         Found::At(_, v) => read_message(image, gathered, table, v, writable),
     }
@@ -131,7 +131,7 @@ pub fn area_refusal(image: &[u8], table: &mut [u16], first: Address, end: Addres
     ensures table { λ _. ⌜ Declared (first .0) (end .0) (now (table .entry)) (now (table .exit)) ⌝ }
 {
     let w = Walk::new(first, end);
-    match w.find_message(image, table) {
+    match w.find_message(first, image, table) {
         Found::Refused(r) => r,
         Found::At(_, v) => message_refusal(image, table, v),
     }

@@ -82,7 +82,7 @@ pub fn find_space(
     ensures placed { λ r. ⌜ SpacePlaced (now (image .entry)) (now (table .exit)) n (first .0) (end .0) r ⌝ }
     ensures table { λ _. ⌜ Declared (first .0) (end .0) (now (table .entry)) (now (table .exit)) ⌝ }
 {
-    match Walk::new(first, end).find_message(image, table) {
+    match Walk::new(first, end).find_message(first, image, table) {
         Found::Refused(r) => Space::Refused(r),
         Found::At(_, w) => space_after(w, n, image, table, writable),
     }

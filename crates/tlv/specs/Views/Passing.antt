@@ -38,7 +38,6 @@ passedAs table (passed.More w) = more (ahead table w)
 pub record Moved (v w : Walk) : Type 0 where
   pub farther : v .at .0 ≤ w .at .0
   pub ordered : w .at .0 ≤ w .end .0
-  pub same-first : w .first .0 ≡ v .first .0
   pub same-end : w .end .0 ≡ v .end .0
   pub same-areas : w .areas ≡ v .areas
 
@@ -63,7 +62,6 @@ pub record Skipped (t u : List ℕ) (v w : Walk) : Type 0 where
   pub one-more : OneMore (v .at .0) (v .end .0) t u
   pub counted : w .areas ≡ suc (v .areas)
   pub same-at : w .at .0 ≡ v .at .0
-  pub same-first : w .first .0 ≡ v .first .0
   pub same-end : w .end .0 ≡ v .end .0
 
 -- a control TLV's value, once its first two bytes are taken

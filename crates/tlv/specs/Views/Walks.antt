@@ -5,6 +5,7 @@ use mathlib.Core.Bool.{Bool}
 use mathlib.Core.List.{List}
 use Prim.Native.Nat.{ℕ, _+_, _-_, _<_, _≤_}
 use lib.ListN.{length}
+use Rattle.tag.specs.declared.Address.{Address}
 use Rattle.tlv.specs.declared.walk.Walk.{Walk}
 use Rattle.tlv.specs.declared.walk.Taken as code
 use Rattle.tlv.specs.declared.walk.Taken.the-variants as taken
@@ -17,9 +18,9 @@ use Rattle.tlv.specs.Views.Counted.{Added, TableOf}
 abbrev pub ahead : List ℕ → Walk → List ℕ
 ahead table w = unskipped table (w .at .0) (w .end .0 - w .at .0)
 
--- which areas may be declared on the way
-abbrev pub ruleOf : List ℕ → Walk → Area → Bool
-ruleOf image w = allowedArea (w .first .0) (length image)
+-- which areas may be declared on the way through a data area from first on
+abbrev pub ruleOf : List ℕ → Address → Area → Bool
+ruleOf image first = allowedArea (first .0) (length image)
 
 -- the walk lies inside the table, which is that of as many areas as the walk counts
 pub record Within (table : List ℕ) (w : Walk) : Type 0 where
@@ -39,7 +40,6 @@ pub record Placed (image table : List ℕ) (w : Walk) : Type 0 where
 pub record Onward (image t u : List ℕ) (n : ℕ) (v w : Walk) : Type 0 where
   pub placed : Placed image u w
   pub farther : v .at .0 ≤ w .at .0
-  pub same-first : w .first .0 ≡ v .first .0
   pub same-end : w .end .0 ≡ v .end .0
   pub counted : w .areas ≡ v .areas + n
   pub added : Added (v .at .0) (v .end .0) n t u

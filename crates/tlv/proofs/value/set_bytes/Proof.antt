@@ -16,19 +16,18 @@ use Rattle.tlv.proofs.value.set_bytes.Statement.{statement}
 use Rattle.tlv.proofs.value.set_bytes.Tie as tie
 
 abbrev Inv-loop : tie.InvT-loop
-Inv-loop bytes table image₀ first end areas stop a₀ k₀ image a k =
+Inv-loop bytes table image₀ end areas stop a₀ k₀ image a k =
     At table a stop × (stop ≤ length image) × (length image ≡ length image₀) × (a₀ ≤ a) × (k ≤ length bytes)
     × (overlay (from table a stop) (drop k bytes) image ≡ overlay (from table a₀ stop) bytes image₀)
     × (drop (length bytes - k) (from table a stop) ≡ drop (length bytes) (from table a₀ stop))
 
 abbrev μ-loop : tie.MeasureT-loop
-μ-loop bytes table image₀ first end areas stop a₀ k₀ image a k = stop - a
+μ-loop bytes table image₀ end areas stop a₀ k₀ image a k = stop - a
 
 loop-holds : tie.Need-loop-holds Inv-loop μ-loop
 loop-holds c =
     let at-end = c .before in
-    let at-first = at-end .before in
-    let at-start = at-first .before .before .before .before in
+    let at-start = at-end .before .before .before .before in
     let n : length (at-start .args .bytes .now) - 0 ≡ length (at-start .args .bytes .now) = omega arith in
     (record { within = search needs; in-table = search needs; free = c .next-usable .ensures .1 .1 }, search needs, refl, search needs, search needs, refl, rw n)
 
@@ -37,8 +36,7 @@ returns c =
     let at-loop = c .before .before in
     let at-next-usable = at-loop .before in
     let at-end = at-next-usable .before in
-    let at-first = at-end .before in
-    let at-start = at-first .before .before .before .before in
+    let at-start = at-end .before .before .before .before in
     let a = at-start .args in
     let t = a .table .now in
     let e = a .w .end .0 in
@@ -52,7 +50,7 @@ returns c =
       (
         rw z at (l .inv .6) ∙ ap (drop n) (sym us),
         moved (stay (record { within = at-start .pre .within; in-image = search needs }))
-            (record { farther = search needs; ordered = search needs; same-first = refl; same-end = refl; same-areas = refl }),
+            (record { farther = search needs; ordered = search needs; same-end = refl; same-areas = refl }),
       ),
     )
 
@@ -60,8 +58,7 @@ loop-again : tie.Need-loop-again Inv-loop μ-loop
 loop-again c =
     let at-loop = c .before .before .before .before in
     let at-end = at-loop .before .before in
-    let at-first = at-end .before in
-    let at-start = at-first .before .before .before .before in
+    let at-start = at-end .before .before .before .before in
     let a = at-start .args in
     let t = a .table .now in
     let e = a .w .end .0 in
@@ -85,8 +82,7 @@ returns-2 c =
     let at-loop = c .before in
     let at-next-usable = at-loop .before in
     let at-end = at-next-usable .before in
-    let at-first = at-end .before in
-    let at-start = at-first .before .before .before .before in
+    let at-start = at-end .before .before .before .before in
     let a = at-start .args in
     let t = a .table .now in
     let e = a .w .end .0 in
@@ -98,7 +94,7 @@ returns-2 c =
       (
         u ∙ sym (drop-nil (n - l .k)) ∙ rw u at (l .inv .6) ∙ ap (drop n) (sym us),
         moved (stay (record { within = at-start .pre .within; in-image = search needs }))
-            (record { farther = search needs; ordered = search needs; same-first = refl; same-end = refl; same-areas = refl }),
+            (record { farther = search needs; ordered = search needs; same-end = refl; same-areas = refl }),
       ),
     )
 

@@ -30,8 +30,8 @@ returns c =
     let f = at-find-message .find-message in
     let n = at-new .new in (
       sym (ap refusalOf
-          (area-lost (a .image .now) (a .table .now) (f .last .1 .1 .0) (a .first .0) (a .end .0) (n .result) (f .result) (at-start .pre) (n .ensures) (f .ensures .0) _ (at-r .r .given .1))),
-      area-declared (a .image .now) (a .table .now) (f .last .1 .1 .0) (n .result) (a .first .0) (a .end .0) (f .result) (n .ensures) (f .ensures .1),
+          (area-lost (a .image .now) (a .table .now) (f .last .1 .1 .1 .0) (a .first .0) (a .end .0) (n .result) (f .result) (at-start .pre) (n .ensures) (f .ensures .0) _ (at-r .r .given .1))),
+      area-declared (a .image .now) (a .table .now) (f .last .1 .1 .1 .0) (n .result) (a .first .0) (a .end .0) (f .result) (n .ensures) (f .ensures .1),
     )
 
 returns-2 : tie.Need-returns-2
@@ -45,8 +45,8 @@ returns-2 c =
     let n = at-new .new in (
       c .message-refusal .ensures
           ∙ sym (ap refusalOf
-          (area-at (a .image .now) (a .table .now) (f .last .1 .1 .0) (a .first .0) (a .end .0) (n .result) (f .result) (at-start .pre) (n .ensures) (f .ensures .0) _ _ (at-v .v .given .1))),
-      area-declared (a .image .now) (a .table .now) (f .last .1 .1 .0) (n .result) (a .first .0) (a .end .0) (f .result) (n .ensures) (f .ensures .1),
+          (area-at (a .image .now) (a .table .now) (f .last .1 .1 .1 .0) (a .first .0) (a .end .0) (n .result) (f .result) (at-start .pre) (n .ensures) (f .ensures .0) _ _ (at-v .v .given .1))),
+      area-declared (a .image .now) (a .table .now) (f .last .1 .1 .1 .0) (n .result) (a .first .0) (a .end .0) (f .result) (n .ensures) (f .ensures .1),
     )
 
 pub area-refusal-spec : {M : Type 1} → statement M

@@ -28,8 +28,8 @@ returns c =
     let a = at-start .args in
     let f = at-find-message .find-message in
     let n = at-new .new in
-    rw (area-lost (a .image .now) (a .table .now) (f .last .1 .1 .0) (a .first .0) (a .end .0) (n .result) (f .result) (at-start .pre) (n .ensures) (f .ensures .0) _ (at-r .r .given .1))
-    ((refl, refl), area-declared (a .image .now) (a .table .now) (f .last .1 .1 .0) (n .result) (a .first .0) (a .end .0) (f .result) (n .ensures) (f .ensures .1))
+    rw (area-lost (a .image .now) (a .table .now) (f .last .1 .1 .1 .0) (a .first .0) (a .end .0) (n .result) (f .result) (at-start .pre) (n .ensures) (f .ensures .0) _ (at-r .r .given .1))
+    ((refl, refl), area-declared (a .image .now) (a .table .now) (f .last .1 .1 .1 .0) (n .result) (a .first .0) (a .end .0) (f .result) (n .ensures) (f .ensures .1))
 
 returns-2 : tie.Need-returns-2
 returns-2 c =
@@ -42,8 +42,8 @@ returns-2 c =
     let f = at-find-message .find-message in
     let n = at-new .new in
     let m = at-read-message .read-message .ensures in
-    rw (area-at (a .image .now) (a .table .now) (f .last .1 .1 .0) (a .first .0) (a .end .0) (n .result) (f .result) (at-start .pre) (n .ensures) (f .ensures .0) _ _ (at-v .v .given .1))
-    (m, area-declared (a .image .now) (a .table .now) (f .last .1 .1 .0) (n .result) (a .first .0) (a .end .0) (f .result) (n .ensures) (f .ensures .1))
+    rw (area-at (a .image .now) (a .table .now) (f .last .1 .1 .1 .0) (a .first .0) (a .end .0) (n .result) (f .result) (at-start .pre) (n .ensures) (f .ensures .0) _ _ (at-v .v .given .1))
+    (m, area-declared (a .image .now) (a .table .now) (f .last .1 .1 .1 .0) (n .result) (a .first .0) (a .end .0) (f .result) (n .ensures) (f .ensures .1))
 
 pub read-area-spec : {M : Type 1} → statement M
 read-area-spec =

@@ -31,10 +31,10 @@ returns c =
     let a = at-start .args in
     let n = at-new .new in
     let f = at-find-message .find-message in
-    let e = sym (ap (foundAs (f .last .1 .1 .0)) (at-r .r .given .1)) ∙ f .ensures .0
+    let e = sym (ap (foundAs (f .last .1 .1 .1 .0)) (at-r .r .given .1)) ∙ f .ensures .0
     ∙ found-all (a .image .now) (a .table .now) (n .result) (a .first .0) (a .end .0) (at-start .pre) (n .ensures) in (
       ap (λ x. spaceOf (a .writable) (a .n) (viewOf (a .image .now) x)) e,
-      (tt, area-declared (a .image .now) (a .table .now) (f .last .1 .1 .0) (n .result) (a .first .0) (a .end .0) (f .result) (n .ensures) (f .ensures .1)),
+      (tt, area-declared (a .image .now) (a .table .now) (f .last .1 .1 .1 .0) (n .result) (a .first .0) (a .end .0) (f .result) (n .ensures) (f .ensures .1)),
     )
 
 returns-2 : tie.Need-returns-2
@@ -47,14 +47,14 @@ returns-2 c =
     let n = at-new .new in
     let f = at-find-message .find-message in
     let g = at-w .w .given in
-    let e = sym (ap (foundAs (f .last .1 .1 .0)) (g .1)) ∙ f .ensures .0
+    let e = sym (ap (foundAs (f .last .1 .1 .1 .0)) (g .1)) ∙ f .ensures .0
     ∙ found-all (a .image .now) (a .table .now) (n .result) (a .first .0) (a .end .0) (at-start .pre) (n .ensures) in
     let p = found-at (f .ensures .1) (g .1) in (
       c .space-after .ensures .0 ∙ ap (λ x. spaceOf (a .writable) (a .n) (viewOf (a .image .now) x)) e,
       (
-        here-placed (a .image .now) (f .last .1 .1 .0) (a .n) (a .first .0) (a .end .0) (g .0 .1 .0) (c .space-after .result)
+        here-placed (a .image .now) (f .last .1 .1 .1 .0) (a .n) (a .first .0) (a .end .0) (g .0 .1 .0) (c .space-after .result)
             (omega (arith, p .1, p .2, n .ensures .0)) (p .0 .1 .same-end ∙ n .ensures .1) (c .space-after .ensures .1),
-        area-declared (a .image .now) (a .table .now) (f .last .1 .1 .0) (n .result) (a .first .0) (a .end .0) (f .result) (n .ensures) (f .ensures .1),
+        area-declared (a .image .now) (a .table .now) (f .last .1 .1 .1 .0) (n .result) (a .first .0) (a .end .0) (f .result) (n .ensures) (f .ensures .1),
       ),
     )
 

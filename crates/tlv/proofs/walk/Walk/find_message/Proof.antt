@@ -8,19 +8,19 @@ use Rattle.tlv.specs.Walk.{find}
 use Rattle.tlv.specs.Views.Walks.{ahead, ruleOf, Walked}
 use Rattle.tlv.specs.Views.Finding.{steppedAs, SteppedPlaced}
 use Rattle.tlv.proofs.Fuel.{walk-more, walk-stop, walk-hit}
-use Rattle.tlv.proofs.Steps.{stay, same-rule}
+use Rattle.tlv.proofs.Steps.{stay}
 use Rattle.tlv.proofs.Finding.{fuel-enough, walked-on, declared-until}
 use Rattle.tlv.proofs.walk.Walk.find_message.Statement.{statement}
 use Rattle.tlv.proofs.walk.Walk.find_message.Tie as tie
 
 abbrev Inv-loop : tie.InvT-loop
-Inv-loop image table₀ w₀ table w =
-    (find (ruleOf image w₀) (w₀ .end .0 - w₀ .at .0) image (ahead table₀ w₀) ≡ find (ruleOf image w₀) (w₀ .end .0 - w₀ .at .0) image (ahead table w))
+Inv-loop first image table₀ w₀ table w =
+    (find (ruleOf image first) (w₀ .end .0 - w₀ .at .0) image (ahead table₀ w₀) ≡ find (ruleOf image first) (w₀ .end .0 - w₀ .at .0) image (ahead table w))
     × Walked image table₀ table w₀ w
     × (length table ≡ length table₀)
 
 abbrev μ-loop : tie.MeasureT-loop
-μ-loop image table₀ w₀ table w = w .end .0 - w .at .0
+μ-loop first image table₀ w₀ table w = w .end .0 - w .at .0
 
 loop-holds : tie.Need-loop-holds Inv-loop μ-loop
 loop-holds c = (refl, (0, stay (search needs)), refl)
@@ -44,8 +44,8 @@ returns c =
     let s = at-pass-tlv .pass-tlv in
     let g = at-r .r .given in
     let a = at-start .args in
-    let e = rw (same-rule (l .inv .1 .1)) at (sym (s .ensures .0) ∙ ap (steppedAs (s .last .1 .1 .0)) (g .1)) in
-    (sym (l .inv .0 ∙ walk-stop (ruleOf (a .image .now) (a .self)) (a .self .end .0 - a .self .at .0) (a .image .now) (ahead (l .table) (l .w)) (g .0 .0) (fuel-enough (l .inv .1 .1)) e), declared-until (l .inv .1) (subst (SteppedPlaced (a .image .now) (l .table) (s .last .1 .1 .0) (l .w)) (g .1) (s .ensures .1)))
+    let e = sym (s .ensures .0) ∙ ap (steppedAs (s .last .1 .1 .1 .0)) (g .1) in
+    (sym (l .inv .0 ∙ walk-stop (ruleOf (a .image .now) (a .first)) (a .self .end .0 - a .self .at .0) (a .image .now) (ahead (l .table) (l .w)) (g .0 .0) (fuel-enough (l .inv .1 .1)) e), declared-until (l .inv .1) (subst (SteppedPlaced (a .image .now) (l .table) (s .last .1 .1 .1 .0) (l .w)) (g .1) (s .ensures .1)))
 
 loop-less : tie.Need-loop-less Inv-loop μ-loop
 loop-less c =
@@ -57,7 +57,7 @@ loop-less c =
     let s = at-pass-tlv .pass-tlv in
     let g = at-v .v .given in
     let a = at-start .args in
-    let p = subst (SteppedPlaced (a .image .now) (l .table) (s .last .1 .1 .0) (l .w)) (g .1) (s .ensures .1) in
+    let p = subst (SteppedPlaced (a .image .now) (l .table) (s .last .1 .1 .1 .0) (l .w)) (g .1) (s .ensures .1) in
     omega (arith, p .1, p .0 .1 .placed .within .ordered, p .0 .1 .same-end)
 
 loop-again : tie.Need-loop-again Inv-loop μ-loop
@@ -70,9 +70,9 @@ loop-again c =
     let s = at-pass-tlv .pass-tlv in
     let g = at-v .v .given in
     let a = at-start .args in
-    let e = rw (same-rule (l .inv .1 .1)) at (sym (s .ensures .0) ∙ ap (steppedAs (s .last .1 .1 .0)) (g .1)) in
-    let p = subst (SteppedPlaced (a .image .now) (l .table) (s .last .1 .1 .0) (l .w)) (g .1) (s .ensures .1) in (
-      l .inv .0 ∙ walk-more (ruleOf (a .image .now) (a .self)) (a .self .end .0 - a .self .at .0) (a .image .now) (ahead (l .table) (l .w)) (ahead (s .last .1 .1 .0) (g .0 .0)) (fuel-enough (l .inv .1 .1)) e,
+    let e = sym (s .ensures .0) ∙ ap (steppedAs (s .last .1 .1 .1 .0)) (g .1) in
+    let p = subst (SteppedPlaced (a .image .now) (l .table) (s .last .1 .1 .1 .0) (l .w)) (g .1) (s .ensures .1) in (
+      l .inv .0 ∙ walk-more (ruleOf (a .image .now) (a .first)) (a .self .end .0 - a .self .at .0) (a .image .now) (ahead (l .table) (l .w)) (ahead (s .last .1 .1 .1 .0) (g .0 .0)) (fuel-enough (l .inv .1 .1)) e,
       walked-on (l .inv .1) (p .0),
       search needs,
     )
@@ -87,9 +87,9 @@ returns-2 c =
     let s = at-pass-tlv .pass-tlv in
     let g = at-a .a .given in
     let a = at-start .args in
-    let e = rw (same-rule (l .inv .1 .1)) at (sym (s .ensures .0) ∙ ap (steppedAs (s .last .1 .1 .0)) (g .1)) in
-    let p = subst (SteppedPlaced (a .image .now) (l .table) (s .last .1 .1 .0) (l .w)) (g .1) (s .ensures .1) in (
-      sym (l .inv .0 ∙ walk-hit (ruleOf (a .image .now) (a .self)) (a .self .end .0 - a .self .at .0) (a .image .now) (ahead (l .table) (l .w)) (g .0 .0 .0) (ahead (s .last .1 .1 .0) (g .0 .1 .0)) (fuel-enough (l .inv .1 .1)) e),
+    let e = sym (s .ensures .0) ∙ ap (steppedAs (s .last .1 .1 .1 .0)) (g .1) in
+    let p = subst (SteppedPlaced (a .image .now) (l .table) (s .last .1 .1 .1 .0) (l .w)) (g .1) (s .ensures .1) in (
+      sym (l .inv .0 ∙ walk-hit (ruleOf (a .image .now) (a .first)) (a .self .end .0 - a .self .at .0) (a .image .now) (ahead (l .table) (l .w)) (g .0 .0 .0) (ahead (s .last .1 .1 .1 .0) (g .0 .1 .0)) (fuel-enough (l .inv .1 .1)) e),
       (walked-on (l .inv .1) (p .0), omega (arith, p .1, l .inv .1 .1 .farther), p .2),
     )
 

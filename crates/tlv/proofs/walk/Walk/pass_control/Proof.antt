@@ -3,7 +3,7 @@ use mathlib.Core.Path.{refl}
 use borrow.Author.Needs.{needs}
 use Rattle.tag.proofs.Cases.{cases}
 use Rattle.tlv.specs.Walk.{controlBy}
-use Rattle.tlv.proofs.Steps.{on-none, on-took, took-placed, same-rule, passed-onward}
+use Rattle.tlv.proofs.Steps.{on-none, on-took, took-placed, passed-onward}
 use Rattle.tlv.proofs.walk.Walk.pass_control.Statement.{statement}
 use Rattle.tlv.proofs.walk.Walk.pass_control.Tie as tie
 
@@ -23,8 +23,7 @@ returns c =
     let g = at-length .length .given .1 in
     let t = at-take-byte .take-byte in
     let p = took-placed (t .ensures .1) g .0 in
-    let e = rw (same-rule p) at (r .ensures .0) in
-    (search (cases, on-took, e, t .ensures .0) depth 20, passed-onward (r .last .1 .1 .1 .0) (r .result) p (r .ensures .1))
+    (search (cases, on-took, r .ensures .0, t .ensures .0) depth 20, passed-onward (r .last .1 .1 .1 .1 .0) (r .result) p (r .ensures .1))
 
 returns-2 : tie.Need-returns-2
 returns-2 c = (search (on-none) depth 20, refl)

@@ -1,7 +1,7 @@
 -- `Walk::pass_control_value` meets its contract. Assumes nothing.
 use mathlib.Core.Path.{refl}
 use borrow.Author.Needs.{needs}
-use Rattle.tlv.proofs.Steps.{on-none, on-took, took-placed, onward, same-rule, passed-onward}
+use Rattle.tlv.proofs.Steps.{on-none, on-took, took-placed, onward, passed-onward}
 use Rattle.tlv.proofs.walk.Walk.pass_control_value.Statement.{statement}
 use Rattle.tlv.proofs.walk.Walk.pass_control_value.Tie as tie
 
@@ -30,8 +30,7 @@ returns-3 c =
     let g′ = at-place .place .given .1 in
     let t′ = at-take-byte .take-byte in
     let p = onward (took-placed (t′ .ensures .1) g′ .0) (took-placed (t .ensures .1) g .0) in
-    let e = rw (same-rule p) at (r .ensures .0) in
-    (search (on-took, e, t .ensures .0, g, t′ .ensures .0, g′) depth 20, passed-onward (r .last .1 .1 .1 .1 .1 .0) (r .result) p (r .ensures .1))
+    (search (on-took, r .ensures .0, t .ensures .0, g, t′ .ensures .0, g′) depth 20, passed-onward (r .last .1 .1 .1 .1 .1 .1 .0) (r .result) p (r .ensures .1))
 
 pub pass-control-value-spec : {M : Type 1} → statement M
 pass-control-value-spec =

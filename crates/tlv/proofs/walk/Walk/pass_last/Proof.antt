@@ -24,10 +24,9 @@ returns-2 c =
     let at-is-reserved = at-if1 .before in
     let at-last = at-is-reserved .before .before in
     let at-take-byte = at-last .before .before in
-    let at-first = at-take-byte .before .before in
-    let at-start = at-first .before .before .before in
+    let at-start = at-take-byte .before .before .before .before in
     let d = at-start .args in
-    let e = at-allowed .allowed .ensures ∙ ap (ruleOf (d .image .now) (d .self)) (at-area-of .area-of .ensures .0) in
+    let e = at-allowed .allowed .ensures ∙ ap (ruleOf (d .image .now) (d .first)) (at-area-of .area-of .ensures .0) in
     (search (on-took, no-by, not-true, e, at-is-reserved .is-reserved .ensures) depth 20, refl)
 
 skip-area-requires : tie.Need-skip-area-requires
@@ -52,8 +51,7 @@ returns-4 c =
     let at-is-reserved = at-if1 .before in
     let at-last = at-is-reserved .before .before in
     let at-take-byte = at-last .before .before in
-    let at-first = at-take-byte .before .before in
-    let at-start = at-first .before .before .before in
+    let at-start = at-take-byte .before .before .before .before in
     let s = at-skip-area .skip-area in
     let g = at-last .last .given in
     let t = at-take-byte .take-byte in
@@ -61,7 +59,7 @@ returns-4 c =
     let w = g .0 .1 .1 .0 in
     let us = ahead (d .table .now) (d .self) in
     let k = controlAs (d .kind) in
-    let rule = ruleOf (d .image .now) (d .self) in
+    let rule = ruleOf (d .image .now) (d .first) in
     let r = at-area-of .area-of .ensures .0 in
     let e = s .ensures .0 ∙ ap (λ a. without a (ahead (d .table .now) w)) r in
     let p = took-placed (t .ensures .1) (g .1) in (

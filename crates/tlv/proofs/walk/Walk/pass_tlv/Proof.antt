@@ -1,7 +1,7 @@
 -- `Walk::pass_tlv` meets its contract. Assumes nothing.
 use mathlib.Core.Path.{refl}
 use borrow.Author.Needs.{needs}
-use Rattle.tlv.proofs.Steps.{on-none, on-took, took-placed, same-rule}
+use Rattle.tlv.proofs.Steps.{on-none, on-took, took-placed}
 use Rattle.tlv.proofs.Finding.{typed-placed}
 use Rattle.tlv.proofs.walk.Walk.pass_tlv.Statement.{statement}
 use Rattle.tlv.proofs.walk.Walk.pass_tlv.Tie as tie
@@ -18,8 +18,7 @@ returns-2 c =
     let g = at-byte .byte .given in
     let t = at-take-byte .take-byte in
     let p = took-placed (t .ensures .1) (g .1) in
-    let e = rw (same-rule (p .0)) at (r .ensures .0) in
-    (search (on-took, e, t .ensures .0) depth 20, typed-placed (r .last .1 .1 .1 .1 .0) (g .0 .1 .0 .0) (r .result) (p .0) (p .1) (p .2) (r .ensures .1))
+    (search (on-took, r .ensures .0, t .ensures .0) depth 20, typed-placed (r .last .1 .1 .1 .1 .1 .0) (g .0 .1 .0 .0) (r .result) (p .0) (p .1) (p .2) (r .ensures .1))
 
 pub pass-tlv-spec : {M : Type 1} → statement M
 pass-tlv-spec =

@@ -12,16 +12,14 @@ returns c = (passed-none (ahead (c .before .before .args .table .now) (c .before
 returns-2 : tie.Need-returns-2
 returns-2 c =
     let at-nth = c .before .before in
-    let at-first = at-nth .before .before in
-    let s = at-first .before .before .before in
+    let s = at-nth .before .before .before .before in
     let z = at-nth .nth in
     (passed-short (s .args .table .now) (s .args .self) (s .args .n) (z .result .0) (s .pre) (omega arith) (z .ensures .0) (c .if2 .taken), tt)
 
 returns-3 : tie.Need-returns-3
 returns-3 c =
     let at-nth = c .before .before in
-    let at-first = at-nth .before .before in
-    let s = at-first .before .before .before in
+    let s = at-nth .before .before .before .before in
     let z = at-nth .nth in
     (passed-past (s .args .table .now) (s .args .self) (s .args .n) (z .result .0) (s .pre) (omega arith) (z .ensures .0) (c .if2 .left), search needs)
 

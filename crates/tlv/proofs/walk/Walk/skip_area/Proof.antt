@@ -10,8 +10,7 @@ use Rattle.tlv.proofs.walk.Walk.skip_area.Tie as tie
 returns : tie.Need-returns
 returns c =
     let at-end = c .before in
-    let at-first = at-end .before in
-    let at-mark = at-first .before .before .before .before in
+    let at-mark = at-end .before .before .before .before in
     let at-earlier = at-mark .before .before in
     let at-later = at-earlier .before in
     let at-struct-known2 = at-later .before in
@@ -32,7 +31,6 @@ returns c =
         };
         counted = omega arith;
         same-at = refl;
-        same-first = refl;
         same-end = refl;
       },
     )

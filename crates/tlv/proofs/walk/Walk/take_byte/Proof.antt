@@ -16,8 +16,7 @@ use Rattle.tlv.proofs.walk.Walk.take_byte.Tie as tie
 returns : tie.Need-returns
 returns c =
     let at-next-usable = c .before .before .before in
-    let at-first = at-next-usable .before .before in
-    let at-start = at-first .before .before .before in
+    let at-start = at-next-usable .before .before .before .before in
     let a = at-start .args in
     let f = at-next-usable .next-usable .result .0 in
     let t = a .table .now in
@@ -29,7 +28,7 @@ returns c =
     ∙ ap (λ n. f ∷ unskipped t (f + 1) n) k in (
       sym (ap (takeByte (a .image .now)) u),
       (
-        moved (stay (at-start .pre)) (record { farther = search needs; ordered = search needs; same-first = refl; same-end = refl; same-areas = refl }),
+        moved (stay (at-start .pre)) (record { farther = search needs; ordered = search needs; same-end = refl; same-areas = refl }),
         search needs,
         search needs,
       ),
@@ -38,8 +37,7 @@ returns c =
 returns-2 : tie.Need-returns-2
 returns-2 c =
     let at-next-usable = c .before .before in
-    let at-first = at-next-usable .before .before in
-    let at-start = at-first .before .before .before in
+    let at-start = at-next-usable .before .before .before .before in
     let a = at-start .args in
     let f = at-next-usable .next-usable .result .0 in
     let t = a .table .now in
