@@ -1,34 +1,39 @@
--- A command as the code lays it: its opening and count, the names of a run of blocks, their bytes.
+-- A command as the code lays it: its opening and count, the names of its blocks, their bytes.
 -- Assumes nothing.
 use mathlib.Core.Path.{_≡_, sym, ap, _∙_}
 use mathlib.Core.List.{List, [], _∷_, _++_, append-assoc}
-use Prim.Native.Nat.{ℕ, _+_, _-_, _*_, _≤_}
+use Prim.Native.Nat.{ℕ, _+_, _-_, _*_, _<_, _≤_}
+use native.Mathlib.Numerals.{add-one}
 use native.Mathlib.Omega.{arith}
 use borrow.Rule.Slice.PartMut.{putMid}
-use lib.ListN.{length, take, drop, length-append}
-use Rattle.tag.specs.Bytes.{run}
-use Rattle.tag.proofs.Runs.{run-more}
+use lib.ListN.{length, take, drop, length-append, length-drop}
+use lib.Seq.{take-suc}
+use Rattle.tag.specs.Bytes.{byte}
 use Rattle.tag.proofs.Filling.{lay-part}
 use Rattle.type3.specs.Codec.{namesBytes, opening, commandBytes}
 use Rattle.type3.proofs.Codec.{length-opening, length-names}
 use Rattle.type3.proofs.Naming.{names-append}
 
-pub names-run-more : (s n : ℕ) → namesBytes (run s (n + 1)) ≡ namesBytes (run s n) ++ (0x80 ∷ (s + n) ∷ [])
-names-run-more s n = ap namesBytes (run-more s n) ∙ names-append (run s n) ((s + n) ∷ [])
+-- one name more
+pub names-more : (bs : List ℕ) (j : ℕ) → j < length bs → namesBytes (take (j + 1) bs) ≡ namesBytes (take j bs) ++ (0x80 ∷ byte bs j ∷ [])
+names-more bs j l = rw (add-one j, take-suc bs j 0 l) (names-append (take j bs) (byte bs j ∷ []))
 
 -- a command laid in three parts: its opening and count, the names of its blocks, their bytes
 pub lay-command : (number bs bytes t o z y : List ℕ) (n : ℕ) → length number ≡ 8 → length bs ≡ n → length bytes ≡ 16 * n → 13 + 18 * n ≤ length t
-    → o ≡ (opening number ++ (n ∷ [])) ++ drop 13 t → length o ≡ length t
-    → z ≡ namesBytes bs ++ drop (2 * n) (take (length o - 13) (drop 13 o)) → length (putMid 13 (length o - 13) o z) ≡ length t
+    → o ≡ (opening number ++ (n ∷ [])) ++ drop 13 t
+    → z ≡ namesBytes bs ++ drop (2 * n) (take (length o - 13) (drop 13 o))
     → y ≡ bytes ++ drop (16 * n) (take (length (putMid 13 (length o - 13) o z) - (13 + 2 * n)) (drop (13 + 2 * n) (putMid 13 (length o - 13) o z)))
     → putMid (13 + 2 * n) (length (putMid 13 (length o - 13) o z) - (13 + 2 * n)) (putMid 13 (length o - 13) o z) y
     ≡ commandBytes number bs bytes ++ drop (13 + 18 * n) t
-lay-command number bs bytes t o z y n eight many full fits q lo r lz s =
+lay-command number bs bytes t o z y n eight many full fits q r s =
     let front = opening number ++ (n ∷ []) in
     let thirteen : length front ≡ 13 = omega (arith, length-append (opening number) (n ∷ []), length-opening number) in
     let named : length (front ++ namesBytes bs) ≡ 13 + 2 * n = omega (arith, length-append front (namesBytes bs), length-names bs) in
     let all : 13 + 2 * n + 16 * n ≡ 13 + 18 * n = omega arith in
+    let same : length o ≡ length t = ap length q ∙ omega (arith, length-append front (drop 13 t), length-drop 13 t) in
     let names = lay-part o front t 13 q thirteen (namesBytes bs) z (length o) (2 * n) (omega arith) (omega arith) r in
+    let still : length (putMid 13 (length o - 13) o z) ≡ length t
+    = ap length names ∙ omega (arith, length-append (front ++ namesBytes bs) (drop (13 + 2 * n) t), length-drop (13 + 2 * n) t) in
     lay-part (putMid 13 (length o - 13) o z) (front ++ namesBytes bs) t (13 + 2 * n) names named bytes y (length (putMid 13 (length o - 13) o z)) (16 * n) (omega arith) (omega arith) s
     ∙ ap (λ x. x ++ bytes ++ drop (13 + 2 * n + 16 * n) t) (append-assoc (opening number) (n ∷ []) (namesBytes bs))
     ∙ ap (λ k. opening number ++ k ∷ namesBytes bs ++ bytes ++ drop (13 + 2 * n + 16 * n) t) (sym many)

@@ -1,5 +1,5 @@
 -- Laws that the code of the Type 3 writer needs.
-pub mod Body
+pub mod MessageBlocks
 pub mod Attributes
 pub mod Laying
 pub mod Dealing

@@ -3,7 +3,7 @@
 -- Assumes nothing.
 use mathlib.Core.Path.{_≡_, refl, sym, ap, subst, _∙_}
 use mathlib.Core.List.{List, [], _++_, map, append-nil}
-use Prim.Native.Nat.{ℕ, _+_, _*_, _/_, _%_, _<_, _≤_}
+use Prim.Native.Nat.{ℕ, _+_, _-_, _*_, _/_, _%_, _<_, _≤_}
 use native.Mathlib.Omega.{arith}
 use lib.ListN.{length, take, drop, length-drop, take-append-drop}
 use lib.Seq.{take-all, drop-drop, take-append-le, drop-append-le}
@@ -14,7 +14,9 @@ use Rattle.tag.proofs.Runs.{length-run, map-run}
 use Rattle.type3.specs.Attributes.{steadySum, attributes}
 use Rattle.type3.specs.Update.{blocksFor, addresses, lnSum, body, values, closedSum, closed, plan}
 use Rattle.type3.proofs.Update.{closed-else, closed-length, closed-reads, above-addresses, length-body, new-agrees, new-length, HasRoom, inside}
-use Rattle.type3_write.specs.Views.Listing.{blocksAt, attributeBlock}
+use Rattle.type3_write.specs.Views.Blocks.{messageBlock}
+use Rattle.type3_write.specs.Views.Listing.{attributeBlock}
+use Rattle.type3_write.proofs.MessageBlocks.{block-filled}
 
 -- block 0 of an image is its sixteen bytes
 sixteen : (j : List ℕ) → 16 ≤ length j → take 16 j ≡ map (byte j) (run 0 16)
@@ -88,14 +90,16 @@ module _ (i m : List ℕ) (r : HasRoom i m) where
       ∙ ap (map (byte new)) (sym (take-all (length (body m)) (run 16 (16 * k)) (omega (arith, length-body m, length-run (16 * k) 16))))
       ∙ rest
 
-  -- so that n blocks from block 1 + s on are those of the message past its first s
-  pub new-blocks : (s n : ℕ) → s + n ≤ blocksFor (length m) → take (16 * n) (drop (16 * (1 + s)) (newImage (plan i m) i)) ≡ blocksAt m s n
+  -- so that each block is the message's
+  pub new-at : (b : ℕ) → 0 < b → b ≤ blocksFor (length m) → take 16 (drop (16 * b) (newImage (plan i m) i)) ≡ messageBlock m b
   unfolding new
-  new-blocks s n l =
+  new-at b l h =
       let k = blocksFor (length m) in
-      let place : 16 * (1 + s) ≡ 16 + 16 * s = omega arith in
+      let s = b - 1 in
+      let place : 16 * b ≡ 16 + 16 * s = omega arith in
       let past = drop (16 * k) (drop 16 new) in
       let whole : drop 16 new ≡ body m ++ past = sym (take-append-drop (16 * k) (drop 16 new)) ∙ ap (λ x. x ++ past) new-body in
-      ap (λ a. take (16 * n) (drop a new)) place
-      ∙ ap (take (16 * n)) (sym (drop-drop (16 * s) 16 new) ∙ ap (drop (16 * s)) whole ∙ drop-append-le (16 * s) (body m) past (omega (arith, length-body m)))
-      ∙ take-append-le (16 * n) (drop (16 * s) (body m)) past (omega (arith, length-drop (16 * s) (body m), length-body m))
+      ap (λ a. take 16 (drop a new)) place
+      ∙ ap (take 16) (sym (drop-drop (16 * s) 16 new) ∙ ap (drop (16 * s)) whole ∙ drop-append-le (16 * s) (body m) past (omega (arith, length-body m)))
+      ∙ take-append-le 16 (drop (16 * s) (body m)) past (omega (arith, length-drop (16 * s) (body m), length-body m))
+      ∙ sym (block-filled m s (omega arith))

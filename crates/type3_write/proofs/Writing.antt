@@ -6,12 +6,13 @@ use Prim.Native.Nat.{ℕ, _+_, _-_, _*_, _/_, _<_, _≤_}
 use native.Mathlib.Omega.{arith}
 use borrow.Author.Tests.{le-leb, lt-leb}
 use lib.ListN.{length, drop}
-use Rattle.tag.specs.Bytes.{byte}
+use Rattle.tag.specs.Bytes.{byte, run}
 use Rattle.tag.specs.Refusals.{short-buffer}
 use Rattle.tag.specs.Plan.{list}
 use Rattle.tag.specs.TagType.{unwritten, written, writing, withheld, output, outputInto, writeBy, write, fitted, listBytes}
 use Rattle.tag.specs.Cuts.{Ready}
 use Rattle.tag.proofs.Laws.{written-ready}
+use Rattle.tag.proofs.Runs.{length-run}
 use Rattle.type3.specs.Attributes.{attributes}
 use Rattle.type3.specs.Update.{blocksFor, blocksPerCommand, plan}
 use Rattle.type3.specs.Type3.{type3}
@@ -19,7 +20,7 @@ use Rattle.type3.proofs.Message.{bounds}
 use Rattle.type3.proofs.Update.{few-blocks}
 use Rattle.type3.proofs.Laws.{ready-room, some-width}
 use Rattle.type3.proofs.Counts.{list-count}
-use Rattle.type3_write.specs.Views.Listing.{Dealt, listAs}
+use Rattle.type3_write.specs.Views.Listing.{listAs}
 use Rattle.type3_write.proofs.ListBytes.{list-bytes, length-list-as}
 
 pub write-refused : (number i m : List ℕ) (room r : ℕ) → writing (type3 number) i m ≡ unwritten r → write (type3 number) room i m ≡ withheld r
@@ -38,40 +39,48 @@ pub record Planned (number i m : List ℕ) (w t : ℕ) : Type 0 where
   pub planned : writing (type3 number) i m ≡ written (plan i m)
   pub width-is : w ≡ blocksPerCommand (byte i 2)
   pub turns-is : t ≡ (blocksFor (length m) + (w - 1)) / w
-  pub dealt : Dealt (blocksFor (length m)) w t
+  pub few : blocksFor (length m) ≤ 255
+  pub enough : blocksFor (length m) ≤ w * t
   pub byte-12 : byte i 12 < 256
   pub byte-13 : byte i 13 < 256
 
 module _ (number i m : List ℕ) (room w t : ℕ) (g : Planned number i m w t) where
+  abbrev bs : List ℕ
+  bs = run 1 (blocksFor (length m))
+
   ready : Ready (type3 number) i m
   ready = written-ready (type3 number) i m (plan i m) (g .planned) .0
 
   list-length : length (list (plan i m) i) ≡ 2 + t
   list-length = list-count number i m ready ∙ ap (λ v. 2 + (blocksFor (length m) + (v - 1)) / v) (sym (g .width-is)) ∙ ap (λ c. 2 + c) (sym (g .turns-is))
 
-  written-is : write (type3 number) room i m ≡ fitted room (2 + t) (listAs number i m (attributes i .ln) w t)
+  written-is : write (type3 number) room i m ≡ fitted room (2 + t) (listAs number i m (attributes i .ln) w t bs)
   written-is =
       ap (writeBy (type3 number) room i) (g .planned)
       ∙ ap (λ n. fitted room n (listBytes (type3 number) (plan i m) i)) list-length
-      ∙ ap (fitted room (2 + t)) (list-bytes number i m (ready-room number i m ready) w t (g .width-is) (g .turns-is) (g .dealt) (g .byte-12) (g .byte-13))
+      ∙ ap (fitted room (2 + t)) (list-bytes number i m (ready-room number i m ready) w t (g .width-is) (g .turns-is) (g .few) (g .byte-12) (g .byte-13))
 
-  long : length (listAs number i m (attributes i .ln) w t) ≡ 62 + 13 * t + 18 * blocksFor (length m)
-  long = length-list-as number i m (attributes i .ln) w t (g .eight) (g .dealt)
+  long : length (listAs number i m (attributes i .ln) w t bs) ≡ 62 + 13 * t + 18 * blocksFor (length m)
+  long = let many = length-run (blocksFor (length m)) 1 in length-list-as number i m (attributes i .ln) w t bs (g .eight) (omega (arith, g .enough)) ∙ rw many
 
   pub write-short : room < 62 + 13 * t + 18 * blocksFor (length m) → write (type3 number) room i m ≡ withheld short-buffer
-  write-short l = written-is ∙ rw (lt-leb (length (listAs number i m (attributes i .ln) w t)) room (omega (arith, long)))
+  write-short l = written-is ∙ rw (lt-leb (length (listAs number i m (attributes i .ln) w t bs)) room (omega (arith, long)))
 
   pub write-list : 62 + 13 * t + 18 * blocksFor (length m) ≤ room
-      → write (type3 number) room i m ≡ output (2 + t) (listAs number i m (attributes i .ln) w t)
-  write-list l = written-is ∙ rw (le-leb (length (listAs number i m (attributes i .ln) w t)) room (omega (arith, long)))
+      → write (type3 number) room i m ≡ output (2 + t) (listAs number i m (attributes i .ln) w t bs)
+  write-list l = written-is ∙ rw (le-leb (length (listAs number i m (attributes i .ln) w t bs)) room (omega (arith, long)))
 
 -- the buffer with the list laid over it, as the code lays it
-pub write-laid : (number i m list list′ : List ℕ) (ln w t : ℕ) → Planned number i m w t → ln ≡ attributes i .ln → 62 + 13 * t + 18 * blocksFor (length m) ≤ length list
-    → list′ ≡ listAs number i m ln w t ++ drop (62 + 13 * t + 18 * blocksFor (length m)) list
+pub write-laid : (number i m list list′ bs : List ℕ) (ln w t : ℕ) → Planned number i m w t → ln ≡ attributes i .ln → bs ≡ run 1 (blocksFor (length m))
+    → 62 + 13 * t + 18 * blocksFor (length m) ≤ length list
+    → list′ ≡ listAs number i m ln w t bs ++ drop (62 + 13 * t + 18 * length bs) list
     → list′ ≡ outputInto list (write (type3 number) (length list) i m)
-write-laid number i m list list′ ln w t g e l q =
-    let bytes = listAs number i m (attributes i .ln) w t in
+write-laid number i m list list′ bs ln w t g e f l q =
+    let all = run 1 (blocksFor (length m)) in
+    let bytes = listAs number i m (attributes i .ln) w t all in
     q
-    ∙ ap (λ x. listAs number i m x w t ++ drop (62 + 13 * t + 18 * blocksFor (length m)) list) e
+    ∙ ap (λ x. listAs number i m x w t bs ++ drop (62 + 13 * t + 18 * length bs) list) e
+    ∙ ap (λ x. listAs number i m (attributes i .ln) w t x ++ drop (62 + 13 * t + 18 * length x) list) f
+    ∙ ap (λ k. bytes ++ drop (62 + 13 * t + 18 * k) list) (length-run (blocksFor (length m)) 1)
     ∙ ap (λ n. bytes ++ drop n list) (sym (long number i m (length list) w t g))
     ∙ sym (ap (outputInto list) (write-list number i m (length list) w t g l))

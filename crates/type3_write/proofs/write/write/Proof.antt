@@ -12,17 +12,24 @@ use Rattle.type3_write.proofs.write.write.Tie as tie
 
 write-to-requires : tie.Need-write-to-requires
 write-to-requires c κs =
-    let i = c .before .before .before .before .before .before .before .before .before .args .image .now in
-    let checked = c .before .before .before .checked2 .given in
-    let known = c .before .before .before .before .before .attributes-of .ensures in
+    let at-checked2 = c .before .before .before in
+    let at-attributes-of = at-checked2 .before .before in
+    let at-start = at-attributes-of .before .before .before .before in
+    let i = at-start .args .image .now in
+    let checked = at-checked2 .checked2 .given in
+    let known = at-attributes-of .attributes-of .ensures in
     record { passes = sym (known .0) ∙ ap checkedAs (checked .1); known = subst (Known i) (checked .1) (known .1) }
 
 returns : tie.Need-returns
 returns c =
-    let a = c .before .before .before .before .before .before .before .args in
-    let checked = c .before .checked .given in
+    let at-checked = c .before in
+    let at-attributes-of = at-checked .before .before in
+    let at-start = at-attributes-of .before .before .before .before in
+    let a = at-start .args in
+    let checked = at-checked .checked .given in
     let e = write-refused (a .number .now) (a .image .now) (a .message .now) (length (a .list .now)) (checked .0 .0)
-    (writing-unread (a .number .now) (a .image .now) (a .message .now) (checked .0 .0) (sym (c .before .before .before .attributes-of .ensures .0) ∙ ap checkedAs (checked .1))) in
+    (writing-unread (a .number .now) (a .image .now) (a .message .now) (checked .0 .0)
+    (sym (at-attributes-of .attributes-of .ensures .0) ∙ ap checkedAs (checked .1))) in
     (sym (ap countOf e), sym (ap (outputInto (a .list .now)) e))
 
 pub write-spec : {M : Type 1} → statement M

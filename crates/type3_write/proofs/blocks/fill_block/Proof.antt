@@ -1,9 +1,9 @@
--- `write::fill_block` meets its contract. Assumes nothing.
+-- `blocks::fill_block` meets its contract. Assumes nothing.
 use mathlib.Core.Path.{_∙_}
 use borrow.Author.Needs.{needs}
-use Rattle.type3_write.proofs.Body.{whole-filled}
-use Rattle.type3_write.proofs.write.fill_block.Statement.{statement}
-use Rattle.type3_write.proofs.write.fill_block.Tie as tie
+use Rattle.type3_write.proofs.MessageBlocks.{whole-filled}
+use Rattle.type3_write.proofs.blocks.fill_block.Statement.{statement}
+use Rattle.type3_write.proofs.blocks.fill_block.Tie as tie
 
 returns-2 : tie.Need-returns-2
 returns-2 c = c .whole-block .ensures ∙ whole-filled (c .before .before .before .args .part .now) (c .before .if1 .left)

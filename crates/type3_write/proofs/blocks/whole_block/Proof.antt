@@ -1,11 +1,11 @@
--- `write::whole_block` meets its contract. Assumes nothing.
+-- `blocks::whole_block` meets its contract. Assumes nothing.
 use mathlib.Core.Path.{sym, _∙_}
 use borrow.Author.Needs.{needs}
 use lib.ListN.{take, replicate}
 use lib.Seq.{length-take-le}
 use Rattle.tag.proofs.Storing.{copied}
-use Rattle.type3_write.proofs.write.whole_block.Statement.{statement}
-use Rattle.type3_write.proofs.write.whole_block.Tie as tie
+use Rattle.type3_write.proofs.blocks.whole_block.Statement.{statement}
+use Rattle.type3_write.proofs.blocks.whole_block.Tie as tie
 
 returns : tie.Need-returns
 returns c =

@@ -1,9 +1,9 @@
--- `write::short_block` meets its contract. Assumes nothing.
+-- `blocks::short_block` meets its contract. Assumes nothing.
 use mathlib.Core.Path.{_∙_}
 use borrow.Author.Needs.{needs}
-use Rattle.type3_write.proofs.Body.{short-filled}
-use Rattle.type3_write.proofs.write.short_block.Statement.{statement}
-use Rattle.type3_write.proofs.write.short_block.Tie as tie
+use Rattle.type3_write.proofs.MessageBlocks.{short-filled}
+use Rattle.type3_write.proofs.blocks.short_block.Statement.{statement}
+use Rattle.type3_write.proofs.blocks.short_block.Tie as tie
 
 returns : tie.Need-returns
 returns c =
