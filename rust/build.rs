@@ -14,18 +14,18 @@ fn main() {
         Some(dir) => here.join(dir),
         None => here.join("../target/staticlib"),
     };
-    let archive = dir.join("libcapi.a");
+    let archive = dir.join("libzanfirotta.a");
     println!("cargo:rerun-if-changed={}", archive.display());
 
     if archive.is_file() {
         println!("cargo:rustc-link-search=native={}", dir.display());
-        println!("cargo:rustc-link-lib=static=capi");
+        println!("cargo:rustc-link-lib=static=zanfirotta");
         println!("cargo:rustc-cfg=zanfirotta_archive");
         return;
     }
     let problem = format!(
-        "there is no {}: run `rt staticlib capi` at the repository's top, or set \
-         ZANFIROTTA_LIB_DIR to the directory of libcapi.a",
+        "there is no {}: run `rt staticlib zanfirotta` at the repository's top, or set \
+         ZANFIROTTA_LIB_DIR to the directory of libzanfirotta.a",
         archive.display()
     );
     // A directory that was asked for has to hold the archive. Without one, the tests that need

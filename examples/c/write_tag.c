@@ -16,13 +16,13 @@ static int refused(const char *what, uint64_t answer)
     return 1;
 }
 
-static void print_line(const uint8_t *bytes, size_t len, const uint64_t out[5])
+static void print_line(const uint8_t *bytes, size_t len, const zan_report *report)
 {
-    static const char *const readings[] = {"", "message", "empty", "being written"};
+    static const char *const contents[] = {"", "message", "empty", "being written"};
 
     for (size_t i = 0; i < len; i++)
         printf("%02X ", bytes[i]);
-    printf(" -> %s\n", readings[out[ZAN_OUT_READING]]);
+    printf(" -> %s\n", contents[report->content]);
 }
 
 static int type2(void)
@@ -31,7 +31,8 @@ static int type2(void)
     uint8_t list[ZAN_TYPE2_LIST_MAX];
     uint8_t gathered[ZAN_TYPE2_GATHERED_MAX];
     static const uint8_t start[] = {0xE1, 0x10, 0x06, 0x00, 0x03, 0x00, 0xFE};
-    uint64_t out[5], answer, count;
+    zan_report report;
+    uint64_t answer, count;
 
     for (size_t i = 0; i < sizeof start; i++)
         image[12 + i] = start[i];
@@ -52,13 +53,12 @@ static int type2(void)
         answer = zan_type2_model(image, sizeof image, command, ZAN_TYPE2_COMMAND);
         if (ZAN_REFUSAL(answer))
             return refused("model", answer);
-        answer = zan_type2_read(image, sizeof image, gathered, sizeof gathered, out);
+        answer = zan_type2_read(image, sizeof image, gathered, sizeof gathered, &report);
         if (ZAN_REFUSAL(answer))
             return refused("read", answer);
-        print_line(command, ZAN_TYPE2_COMMAND, out);
+        print_line(command, ZAN_TYPE2_COMMAND, &report);
     }
-    printf("message at %" PRIu64 ", length %" PRIu64 "\n", out[ZAN_OUT_ADDRESS],
-           out[ZAN_OUT_LENGTH]);
+    printf("message at %" PRIu64 ", length %" PRIu64 "\n", report.address, report.length);
     return 0;
 }
 
@@ -67,8 +67,9 @@ static int type3(void)
     uint8_t image[14 * 16] = {0x10, 4, 1, 0, 13, 0, 0, 0, 0, 0, 1, 0, 0, 0, 0, 0x23};
     uint8_t list[ZAN_TYPE3_LIST_MAX];
     static const uint8_t number[8] = {0x01, 0x2E, 0x45, 0x76, 0xBA, 0x12, 0x34, 0x56};
-    const uint8_t *command = list;
-    uint64_t out[5], answer, count;
+    zan_report report;
+    uint64_t answer, count;
+    size_t at = 0;
 
     answer = zan_type3_write(image, sizeof image, message, sizeof message, number, list,
                              sizeof list);
@@ -78,19 +79,22 @@ static int type3(void)
 
     printf("Type 3: %" PRIu64 " commands\n", count);
     for (uint64_t i = 0; i < count; i++) {
-        size_t len = ZAN_TYPE3_COMMAND((size_t)command[12]);
+        size_t len;
 
-        answer = zan_type3_model(image, sizeof image, number, command, len);
+        answer = zan_type3_command_len(list + at, sizeof list - at);
+        if (ZAN_REFUSAL(answer))
+            return refused("length", answer);
+        len = ZAN_COUNT(answer);
+        answer = zan_type3_model(image, sizeof image, number, list + at, len);
         if (ZAN_REFUSAL(answer))
             return refused("model", answer);
-        answer = zan_type3_read(image, sizeof image, out);
+        answer = zan_type3_read(image, sizeof image, &report);
         if (ZAN_REFUSAL(answer))
             return refused("read", answer);
-        print_line(command, len, out);
-        command += len;
+        print_line(list + at, len, &report);
+        at += len;
     }
-    printf("message at %" PRIu64 ", length %" PRIu64 "\n", out[ZAN_OUT_ADDRESS],
-           out[ZAN_OUT_LENGTH]);
+    printf("message at %" PRIu64 ", length %" PRIu64 "\n", report.address, report.length);
     return 0;
 }
 

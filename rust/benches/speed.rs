@@ -4,7 +4,7 @@
 //! written to, then times a number of calls; the table shows the median of all runs.
 
 #[cfg(not(zanfirotta_archive))]
-compile_error!("libcapi.a is missing: run `rt staticlib capi` at the repository's top");
+compile_error!("libzanfirotta.a is missing: run `rt staticlib zanfirotta` at the repository's top");
 
 #[path = "../tests/reference/mod.rs"]
 mod reference;
@@ -146,12 +146,9 @@ fn type2(tag: &str, image: &[u8], message: &[u8]) {
 fn type3(tag: &str, image: &[u8], message: &[u8]) {
     let mut list = vec![0; type3::LIST_MAX];
     let count = type3::write(image, message, &NUMBER, &mut list).expect("the message fits");
-    let mut starts = vec![0];
-    for i in 0..count {
-        starts.push(starts[i] + type3::command_len(list[starts[i] + 12] as usize));
-    }
-    list.truncate(starts[count]);
-    let command = &list[starts[count / 2]..starts[count / 2 + 1]];
+    let size = type3::commands(&list).take(count).map(<[u8]>::len).sum();
+    list.truncate(size);
+    let command = type3::commands(&list).nth(count / 2).expect("a command");
     assert_eq!(type3::judge(image, message, &NUMBER, &list), Ok(count));
 
     compare(

@@ -9,7 +9,7 @@
 //! counts as empty.
 
 #[cfg(not(zanfirotta_archive))]
-compile_error!("libcapi.a is missing: run `rt staticlib capi` at the repository's top");
+compile_error!("libzanfirotta.a is missing: run `rt staticlib zanfirotta` at the repository's top");
 
 use std::{env, fs};
 
@@ -28,7 +28,7 @@ fn main() {
     match type2::write(&image, &message, &mut list) {
         Ok(count) => {
             println!("{count} commands");
-            for command in list.chunks(type2::COMMAND).take(count) {
+            for command in type2::commands(&list).take(count) {
                 let bytes: Vec<String> = command.iter().map(|byte| format!("{byte:02X}")).collect();
                 println!("{}", bytes.join(" "));
             }

@@ -1,5 +1,6 @@
-//! The C interface, and all that is unsafe in this crate: every function below hands on pointers
-//! and lengths of slices and arrays that live through the call, or reads through a reference.
+//! The C interface, and all that is unsafe in this crate. The C functions ask for pointers that are
+//! not null, for lengths that are right, and that a buffer which is written to overlaps no other
+//! argument. Slices and references give all three.
 
 mod c {
     unsafe extern "C" {
@@ -56,6 +57,7 @@ mod c {
             list: *mut u8,
             list_len: usize,
         ) -> u64;
+        pub fn zan_type3_command_len(list: *const u8, list_len: usize) -> u64;
         pub fn zan_type3_judge(
             image: *const u8,
             image_len: usize,
@@ -101,17 +103,20 @@ mod c {
 #[inline]
 pub fn fetched(out: &[u64; 5]) -> [u64; 5] {
     out.each_ref()
-        .map(|number| unsafe { std::ptr::read_volatile(number) })
+        // SAFETY: the pointer comes from a reference.
+        .map(|number| unsafe { core::ptr::read_volatile(number) })
 }
 
 #[inline]
 pub fn type2_read(image: &[u8], gathered: &mut [u8], out: &mut [u64; 5]) -> u64 {
     let (gathered, gathered_len) = (gathered.as_mut_ptr(), gathered.len());
     let out = out.as_mut_ptr();
+    // SAFETY: pointers and lengths come from slices and references that live through the call.
     unsafe { c::zan_type2_read(image.as_ptr(), image.len(), gathered, gathered_len, out) }
 }
 
 pub fn type2_write(image: &[u8], message: &[u8], list: &mut [u8]) -> u64 {
+    // SAFETY: pointers and lengths come from slices and references that live through the call.
     unsafe {
         c::zan_type2_write(
             image.as_ptr(),
@@ -125,6 +130,7 @@ pub fn type2_write(image: &[u8], message: &[u8], list: &mut [u8]) -> u64 {
 }
 
 pub fn type2_judge(image: &[u8], message: &[u8], list: &[u8]) -> u64 {
+    // SAFETY: pointers and lengths come from slices and references that live through the call.
     unsafe {
         c::zan_type2_judge(
             image.as_ptr(),
@@ -140,25 +146,30 @@ pub fn type2_judge(image: &[u8], message: &[u8], list: &[u8]) -> u64 {
 #[inline]
 pub fn type2_model(image: &mut [u8], command: &[u8]) -> u64 {
     let (image, image_len) = (image.as_mut_ptr(), image.len());
+    // SAFETY: pointers and lengths come from slices and references that live through the call.
     unsafe { c::zan_type2_model(image, image_len, command.as_ptr(), command.len()) }
 }
 
 pub fn type2_encode(block: u64, data: &[u8; 4], blocks: u64, bytes: &mut [u8]) -> u64 {
     let (bytes, bytes_len) = (bytes.as_mut_ptr(), bytes.len());
+    // SAFETY: pointers and lengths come from slices and references that live through the call.
     unsafe { c::zan_type2_encode(block, data.as_ptr(), blocks, bytes, bytes_len) }
 }
 
 pub fn type2_decode(bytes: &[u8], blocks: u64, block: &mut u64, data: &mut [u8; 4]) -> u64 {
     let data = data.as_mut_ptr();
+    // SAFETY: pointers and lengths come from slices and references that live through the call.
     unsafe { c::zan_type2_decode(bytes.as_ptr(), bytes.len(), blocks, block, data) }
 }
 
 #[inline]
 pub fn type3_read(image: &[u8], out: &mut [u64; 5]) -> u64 {
+    // SAFETY: pointers and lengths come from slices and references that live through the call.
     unsafe { c::zan_type3_read(image.as_ptr(), image.len(), out.as_mut_ptr()) }
 }
 
 pub fn type3_write(image: &[u8], message: &[u8], number: &[u8; 8], list: &mut [u8]) -> u64 {
+    // SAFETY: pointers and lengths come from slices and references that live through the call.
     unsafe {
         c::zan_type3_write(
             image.as_ptr(),
@@ -172,7 +183,14 @@ pub fn type3_write(image: &[u8], message: &[u8], number: &[u8; 8], list: &mut [u
     }
 }
 
+#[inline]
+pub fn type3_command_len(list: &[u8]) -> u64 {
+    // SAFETY: pointers and lengths come from slices and references that live through the call.
+    unsafe { c::zan_type3_command_len(list.as_ptr(), list.len()) }
+}
+
 pub fn type3_judge(image: &[u8], message: &[u8], number: &[u8; 8], list: &[u8]) -> u64 {
+    // SAFETY: pointers and lengths come from slices and references that live through the call.
     unsafe {
         c::zan_type3_judge(
             image.as_ptr(),
@@ -188,6 +206,7 @@ pub fn type3_judge(image: &[u8], message: &[u8], number: &[u8; 8], list: &[u8]) 
 
 #[inline]
 pub fn type3_model(image: &mut [u8], number: &[u8; 8], command: &[u8]) -> u64 {
+    // SAFETY: pointers and lengths come from slices and references that live through the call.
     unsafe {
         c::zan_type3_model(
             image.as_mut_ptr(),
@@ -206,6 +225,7 @@ pub fn type3_encode(
     nmaxb: u64,
     bytes: &mut [u8],
 ) -> u64 {
+    // SAFETY: pointers and lengths come from slices and references that live through the call.
     unsafe {
         c::zan_type3_encode(
             count,
@@ -227,6 +247,7 @@ pub fn type3_decode(
     nmaxb: u64,
     (count, blocks, data): (&mut u64, &mut [u64; 8], &mut [u8; 128]),
 ) -> u64 {
+    // SAFETY: pointers and lengths come from slices and references that live through the call.
     unsafe {
         c::zan_type3_decode(
             bytes.as_ptr(),

@@ -1,7 +1,7 @@
 //! Reading and writing NFC Type 2 and Type 3 tag images so that a write that breaks off leaves
 //! the old message, none, or the new one.
 //!
-//! These are safe wrappers over the verified library (`libcapi.a`); the rules are in
+//! These are safe wrappers over the verified library (`libzanfirotta.a`); the rules are in
 //! `docs/01-scope.md`. Nothing here allocates: an image, a message and a list are slices, and a
 //! result that needs room goes into a buffer that the caller lends. A refusal changes no byte of
 //! such a buffer.
@@ -22,17 +22,18 @@
 //! assert_eq!(list[..6], [0xA2, 0x04, 0x03, 0x00, 0xFE, 0x00]);
 //!
 //! // The tag takes them one after the other and then reads as the message.
-//! for command in list.chunks(type2::COMMAND) {
+//! for command in type2::commands(list) {
 //!     type2::model(&mut image, command)?;
 //! }
 //! let mut gathered = [0; 64];
 //! let report = type2::read(&image, &mut gathered)?;
-//! assert_eq!(zanfirotta::message(&image, &gathered, &report), message);
+//! assert_eq!(report.message(&image, &gathered), message);
 //! # Ok::<(), zanfirotta::Refusal>(())
 //! ```
 
+#![no_std]
 #![deny(unsafe_code)]
-#![warn(missing_docs)]
+#![warn(missing_docs, clippy::undocumented_unsafe_blocks)]
 
 #[allow(unsafe_code, missing_docs)]
 mod ffi;
@@ -44,7 +45,8 @@ pub mod type3;
 pub mod raw {
     pub use crate::ffi::{
         type2_decode, type2_encode, type2_judge, type2_model, type2_read, type2_write,
-        type3_decode, type3_encode, type3_judge, type3_model, type3_read, type3_write,
+        type3_command_len, type3_decode, type3_encode, type3_judge, type3_model, type3_read,
+        type3_write,
     };
 }
 
@@ -53,10 +55,10 @@ pub mod raw {
 #[doc = include_str!("../../README.md")]
 mod readme {}
 
-use std::error::Error;
-use std::fmt;
+use core::error::Error;
+use core::fmt;
 
-/// Why an operation was refused.
+/// Why a call was refused.
 ///
 /// ```
 /// use zanfirotta::{type2, RefusalNumber};
@@ -64,36 +66,40 @@ use std::fmt;
 /// let refusal = type2::read(&[0; 65], &mut []).unwrap_err();
 /// assert_eq!(refusal.number, RefusalNumber::ImageSize);
 /// assert_eq!(refusal.number as u8, 1);
+/// assert_eq!(refusal.position, None);
 /// assert_eq!(refusal.to_string(), "refused 1: wrong size of the image");
 /// ```
 #[derive(Clone, Copy, Debug, PartialEq, Eq)]
+#[non_exhaustive]
 pub struct Refusal {
     /// Which of the refusals it is.
     pub number: RefusalNumber,
-    /// For 20 to 23 of the judge: the position of the command at fault, counted from 0; for 23
-    /// the number of commands. Else 0.
-    pub position: usize,
+    /// For 20 to 23 the index of the command at fault, counted from 0; for 23 the number of
+    /// commands. The model and the codec are handed one command, so there it is 0. None for all
+    /// other refusals.
+    pub position: Option<usize>,
 }
 
 /// The refusals; the discriminants are the numbers of `docs/01-scope.md`.
 #[derive(Clone, Copy, Debug, PartialEq, Eq, PartialOrd, Ord, Hash)]
+#[non_exhaustive]
 #[repr(u8)]
 pub enum RefusalNumber {
     /// The image's length is no multiple of the block size, too small or too large.
     ImageSize = 1,
     /// Type 2: byte 12 is not E1h. Type 3: the checksum is wrong.
-    MarkOrChecksum = 2,
+    NotNdef = 2,
     /// The version byte is not 10h.
-    Version = 3,
+    UnknownVersion = 3,
     /// Type 2: byte 15 is neither 00h nor 0Fh. Type 3: a flag is unknown, or Nbr is 0.
-    AccessOrFlags = 4,
+    BadAccess = 4,
     /// The data area reaches past the image.
-    DataArea = 5,
+    BadDataArea = 5,
     /// A control TLV has a length other than 3 or a reserved nibble.
-    ControlTlv = 6,
+    BadControlTlv = 6,
     /// A TLV runs past the data area or has a bad length form; Type 3: Ln over 16·Nmaxb,
     /// whatever WriteFlag says.
-    Length = 7,
+    BadLength = 7,
     /// Type 2: no message TLV.
     NoMessageTlv = 8,
     /// The message to write has length 0.
@@ -103,11 +109,11 @@ pub enum RefusalNumber {
     /// The message is too long for the tag.
     MessageTooLong = 11,
     /// The buffer is shorter than the list, or than the bytes of the command.
-    ListBuffer = 12,
+    ShortBuffer = 12,
     /// The gathering buffer is shorter than an interrupted message.
-    GatheringBuffer = 13,
+    ShortGatheringBuffer = 13,
     /// A command is not well formed.
-    NotWellFormed = 20,
+    MalformedCommand = 20,
     /// A command changes a protected byte.
     ProtectedByte = 21,
     /// After a command the tag is refused, or reads neither as the old message, nor as holding
@@ -117,92 +123,114 @@ pub enum RefusalNumber {
     Unfinished = 23,
 }
 
-impl RefusalNumber {
-    /// The refusal of this number, if there is one.
-    ///
-    /// ```
-    /// use zanfirotta::RefusalNumber;
-    ///
-    /// assert_eq!(RefusalNumber::from_number(11), Some(RefusalNumber::MessageTooLong));
-    /// assert_eq!(RefusalNumber::from_number(14), None);
-    /// ```
-    pub fn from_number(number: u8) -> Option<Self> {
+/// A number that is no refusal's.
+#[derive(Clone, Copy, Debug, PartialEq, Eq)]
+pub struct UnknownRefusal(pub u8);
+
+impl fmt::Display for UnknownRefusal {
+    fn fmt(&self, f: &mut fmt::Formatter) -> fmt::Result {
+        write!(f, "there is no refusal {}", self.0)
+    }
+}
+
+impl Error for UnknownRefusal {}
+
+/// The refusal of a number.
+///
+/// ```
+/// use zanfirotta::{RefusalNumber, UnknownRefusal};
+///
+/// assert_eq!(RefusalNumber::try_from(11), Ok(RefusalNumber::MessageTooLong));
+/// assert_eq!(RefusalNumber::try_from(14), Err(UnknownRefusal(14)));
+/// ```
+impl TryFrom<u8> for RefusalNumber {
+    type Error = UnknownRefusal;
+
+    fn try_from(number: u8) -> Result<Self, UnknownRefusal> {
         use RefusalNumber::*;
-        Some(match number {
+        Ok(match number {
             1 => ImageSize,
-            2 => MarkOrChecksum,
-            3 => Version,
-            4 => AccessOrFlags,
-            5 => DataArea,
-            6 => ControlTlv,
-            7 => Length,
+            2 => NotNdef,
+            3 => UnknownVersion,
+            4 => BadAccess,
+            5 => BadDataArea,
+            6 => BadControlTlv,
+            7 => BadLength,
             8 => NoMessageTlv,
             9 => EmptyMessage,
             10 => NotWritable,
             11 => MessageTooLong,
-            12 => ListBuffer,
-            13 => GatheringBuffer,
-            20 => NotWellFormed,
+            12 => ShortBuffer,
+            13 => ShortGatheringBuffer,
+            20 => MalformedCommand,
             21 => ProtectedByte,
             22 => Misread,
             23 => Unfinished,
-            _ => return None,
+            _ => return Err(UnknownRefusal(number)),
         })
     }
+}
 
+impl RefusalNumber {
     fn text(self) -> &'static str {
         use RefusalNumber::*;
         match self {
             ImageSize => "wrong size of the image",
-            MarkOrChecksum => "wrong mark or checksum",
-            Version => "unknown version",
-            AccessOrFlags => "unknown access byte or flags",
-            DataArea => "data area past the image",
-            ControlTlv => "bad control TLV",
-            Length => "bad length",
+            NotNdef => "not an NDEF tag, or a wrong checksum",
+            UnknownVersion => "unknown version",
+            BadAccess => "unknown access byte or flags",
+            BadDataArea => "data area past the image",
+            BadControlTlv => "bad control TLV",
+            BadLength => "bad length",
             NoMessageTlv => "no message TLV",
             EmptyMessage => "empty message",
             NotWritable => "tag not writable",
             MessageTooLong => "message too long",
-            ListBuffer => "buffer too short for the command or list",
-            GatheringBuffer => "gathering buffer too short",
-            NotWellFormed => "command not well formed",
+            ShortBuffer => "buffer too short for the command or list",
+            ShortGatheringBuffer => "gathering buffer too short",
+            MalformedCommand => "command not well formed",
             ProtectedByte => "command changes a protected byte",
             Misread => "tag misreads after the command",
             Unfinished => "the list ends and the tag does not read as the message",
         }
+    }
+
+    /// Whether the refusal comes with a position.
+    fn has_position(self) -> bool {
+        (RefusalNumber::MalformedCommand..=RefusalNumber::Unfinished).contains(&self)
     }
 }
 
 impl fmt::Display for Refusal {
     fn fmt(&self, f: &mut fmt::Formatter) -> fmt::Result {
         write!(f, "refused {}: {}", self.number as u8, self.number.text())?;
-        match self.number {
-            RefusalNumber::Unfinished => write!(f, ", after {} commands", self.position),
-            n if n >= RefusalNumber::NotWellFormed => write!(f, ", at command {}", self.position),
-            _ => Ok(()),
+        match (self.number, self.position) {
+            (RefusalNumber::Unfinished, Some(count)) => write!(f, ", after {count} commands"),
+            (_, Some(position)) => write!(f, ", at command {position}"),
+            (_, None) => Ok(()),
         }
     }
 }
 
 impl Error for Refusal {}
 
-/// What a tag reads as.
+/// What a tag holds.
 #[derive(Clone, Copy, Debug, PartialEq, Eq)]
-pub enum Reading {
-    /// It holds a message.
+pub enum Content {
+    /// A message.
     Message,
-    /// It holds none.
+    /// No message.
     Empty,
-    /// Type 3: a write has begun and not ended; it holds none.
+    /// Type 3: a write has begun and not ended; the tag holds no message.
     BeingWritten,
 }
 
-/// The answer of reading.
+/// What a tag that reads says of itself.
 #[derive(Clone, Copy, Debug, PartialEq, Eq)]
+#[non_exhaustive]
 pub struct Report {
-    /// What the tag reads as.
-    pub reading: Reading,
+    /// What the tag holds.
+    pub content: Content,
     /// The address of the message's first byte in the image; 0 without a message.
     pub address: usize,
     /// The message's length; 0 without a message.
@@ -214,39 +242,41 @@ pub struct Report {
     pub writable: bool,
 }
 
-/// The message that `report` tells of: a part of the image or, if interrupted, of the gathered
-/// copy. Empty without a message, and if these are not the slices that were read.
-///
-/// ```
-/// use zanfirotta::type2;
-///
-/// // A memory area of four bytes at 24 cuts through the message.
-/// let mut image = [0; 64];
-/// image[12..16].copy_from_slice(&[0xE1, 0x10, 0x06, 0x00]);
-/// image[16..24].copy_from_slice(&[0x02, 0x03, 0x18, 0x04, 0x04, 0x03, 0x03, 0xD0]);
-/// image[28..31].copy_from_slice(&[0x00, 0x00, 0xFE]);
-///
-/// let mut gathered = [0; 16];
-/// let report = type2::read(&image, &mut gathered)?;
-/// assert!(report.interrupted);
-/// assert_eq!(zanfirotta::message(&image, &gathered, &report), [0xD0, 0x00, 0x00]);
-/// # Ok::<(), zanfirotta::Refusal>(())
-/// ```
-pub fn message<'a>(image: &'a [u8], gathered: &'a [u8], report: &Report) -> &'a [u8] {
-    let part = match (report.reading, report.interrupted) {
-        (Reading::Message, false) => image
-            .get(report.address..)
-            .and_then(|image| image.get(..report.length)),
-        (Reading::Message, true) => gathered.get(..report.length),
-        _ => None,
-    };
-    part.unwrap_or_default()
+impl Report {
+    /// The message: a part of the image or, if interrupted, of the gathered copy. Empty without a
+    /// message, and if these are not the slices that were read.
+    ///
+    /// ```
+    /// use zanfirotta::type2;
+    ///
+    /// // A memory area of four bytes at 24 cuts through the message.
+    /// let mut image = [0; 64];
+    /// image[12..16].copy_from_slice(&[0xE1, 0x10, 0x06, 0x00]);
+    /// image[16..24].copy_from_slice(&[0x02, 0x03, 0x18, 0x04, 0x04, 0x03, 0x03, 0xD0]);
+    /// image[28..31].copy_from_slice(&[0x00, 0x00, 0xFE]);
+    ///
+    /// let mut gathered = [0; 16];
+    /// let report = type2::read(&image, &mut gathered)?;
+    /// assert!(report.interrupted);
+    /// assert_eq!(report.message(&image, &gathered), [0xD0, 0x00, 0x00]);
+    /// # Ok::<(), zanfirotta::Refusal>(())
+    /// ```
+    pub fn message<'a>(&self, image: &'a [u8], gathered: &'a [u8]) -> &'a [u8] {
+        let part = match (self.content, self.interrupted) {
+            (Content::Message, false) => image
+                .get(self.address..)
+                .and_then(|image| image.get(..self.length)),
+            (Content::Message, true) => gathered.get(..self.length),
+            _ => None,
+        };
+        part.unwrap_or_default()
+    }
 }
 
 /// An answer of the C interface: the count, or the refusal.
 #[inline]
 fn answer(answer: u64) -> Result<usize, Refusal> {
-    if answer % 256 == 0 {
+    if answer.is_multiple_of(256) {
         return Ok((answer / 256) as usize);
     }
     Err(refused(answer))
@@ -257,25 +287,25 @@ fn answer(answer: u64) -> Result<usize, Refusal> {
 #[cold]
 fn refused(answer: u64) -> Refusal {
     let number = (answer % 256) as u8;
-    match RefusalNumber::from_number(number) {
-        Some(number) => Refusal {
+    match RefusalNumber::try_from(number) {
+        Ok(number) => Refusal {
             number,
-            position: (answer / 256) as usize,
+            position: number.has_position().then_some((answer / 256) as usize),
         },
-        None => panic!("libcapi.a answered {number}, which is no refusal number"),
+        Err(unknown) => panic!("libzanfirotta.a: {unknown}"),
     }
 }
 
 /// What the C interface reports of a tag.
 #[inline]
 fn report(out: &[u64; 5]) -> Report {
-    let [reading, address, length, interrupted, writable] = ffi::fetched(out);
+    let [content, address, length, interrupted, writable] = ffi::fetched(out);
     Report {
-        reading: match reading {
-            1 => Reading::Message,
-            2 => Reading::Empty,
-            3 => Reading::BeingWritten,
-            other => panic!("libcapi.a answered {other}, which is no reading"),
+        content: match content {
+            1 => Content::Message,
+            2 => Content::Empty,
+            3 => Content::BeingWritten,
+            other => panic!("libzanfirotta.a: {other} is no content"),
         },
         address: address as usize,
         length: length as usize,

@@ -20,16 +20,37 @@ pub struct Command {
     pub data: [u8; 4],
 }
 
-/// Reads a tag. Only an interrupted message is copied, to the front of `gathered`; see
-/// [`message`](crate::message).
+/// The commands of a list, in order. What is left over at the end, if it is too short for a command,
+/// comes last.
 ///
 /// ```
-/// use zanfirotta::{type2, Reading};
+/// use zanfirotta::type2;
+///
+/// let list = [0xA2, 4, 3, 0, 0xFE, 0, 0xA2, 5, 0, 0xFE, 0, 0, 0xA2];
+/// let mut commands = type2::commands(&list);
+/// assert_eq!(commands.next(), Some(&list[..6]));
+/// assert_eq!(commands.next(), Some(&list[6..12]));
+/// assert_eq!(commands.next(), Some(&list[12..]));
+/// assert_eq!(commands.next(), None);
+/// ```
+pub fn commands(list: &[u8]) -> impl Iterator<Item = &[u8]> + Clone {
+    list.chunks(COMMAND)
+}
+
+/// Reads a tag. Only an interrupted message is copied, to the front of `gathered`; see
+/// [`Report::message`].
+///
+/// # Errors
+///
+/// Refusals 1 to 8 and 13.
+///
+/// ```
+/// use zanfirotta::{type2, Content};
 ///
 /// let mut image = [0; 64];
 /// image[12..22].copy_from_slice(&[0xE1, 0x10, 0x06, 0x00, 0x03, 0x03, 0xD0, 0x00, 0x00, 0xFE]);
 /// let report = type2::read(&image, &mut [])?;
-/// assert_eq!(report.reading, Reading::Message);
+/// assert_eq!(report.content, Content::Message);
 /// assert_eq!((report.address, report.length), (18, 3));
 /// assert!(report.writable && !report.interrupted);
 /// # Ok::<(), zanfirotta::Refusal>(())
@@ -42,6 +63,10 @@ pub fn read(image: &[u8], gathered: &mut [u8]) -> Result<Report, Refusal> {
 }
 
 /// Puts the commands that write `message` end to end into `list`; answers how many they are.
+///
+/// # Errors
+///
+/// Refusals 1 to 12.
 ///
 /// ```
 /// use zanfirotta::{type2, RefusalNumber};
@@ -62,6 +87,10 @@ pub fn write(image: &[u8], message: &[u8], list: &mut [u8]) -> Result<usize, Ref
 /// Judges whether a list, made by anybody, writes `message` safely; answers how many commands it
 /// has.
 ///
+/// # Errors
+///
+/// Refusals 1 to 11 and 20 to 23.
+///
 /// ```
 /// use zanfirotta::{type2, RefusalNumber};
 ///
@@ -81,13 +110,17 @@ pub fn write(image: &[u8], message: &[u8], list: &mut [u8]) -> Result<usize, Ref
 /// ];
 /// let refusal = type2::judge(&image, &[0xD0, 0x00, 0x00, 0x01], &list.concat()).unwrap_err();
 /// assert_eq!(refusal.number, RefusalNumber::Misread);
-/// assert_eq!(refusal.position, 0);
+/// assert_eq!(refusal.position, Some(0));
 /// ```
 pub fn judge(image: &[u8], message: &[u8], list: &[u8]) -> Result<usize, Refusal> {
     answer(ffi::type2_judge(image, message, list))
 }
 
 /// The tag as a model: stores what one command says, protected or not.
+///
+/// # Errors
+///
+/// Refusals 1 to 8 and 20.
 ///
 /// ```
 /// use zanfirotta::type2;
@@ -105,6 +138,10 @@ pub fn model(image: &mut [u8], command: &[u8]) -> Result<(), Refusal> {
 
 /// Puts a command for a tag of `blocks` blocks into the front of `bytes`; answers how many bytes
 /// it has.
+///
+/// # Errors
+///
+/// Refusals 12 and 20.
 ///
 /// ```
 /// use zanfirotta::type2::{self, Command};
@@ -126,11 +163,15 @@ pub fn encode(command: &Command, blocks: u64, bytes: &mut [u8]) -> Result<usize,
 
 /// Reads one command for a tag of `blocks` blocks.
 ///
+/// # Errors
+///
+/// Refusal 20.
+///
 /// ```
 /// use zanfirotta::{type2, RefusalNumber};
 ///
 /// let refusal = type2::decode(&[0xA2, 0x10, 1, 2, 3, 4], 16).unwrap_err();
-/// assert_eq!(refusal.number, RefusalNumber::NotWellFormed);
+/// assert_eq!(refusal.number, RefusalNumber::MalformedCommand);
 /// ```
 pub fn decode(bytes: &[u8], blocks: u64) -> Result<Command, Refusal> {
     let mut command = Command {

@@ -5,18 +5,75 @@
 use crate::{answer, ffi, report, Refusal, Report};
 
 /// The length of the longest list that [`write()`] makes for any tag.
-pub const LIST_MAX: usize = 257 * command_len(1);
+pub const LIST_MAX: usize = 257 * (13 + 18);
 
 /// The length of the longest command.
-pub const COMMAND_MAX: usize = command_len(8);
+pub const COMMAND_MAX: usize = 13 + 18 * 8;
 
 /// The longest image.
 pub const IMAGE_MAX: usize = 4096;
 
-/// The length of a command that writes `count` blocks; a list is walked with it.
-pub const fn command_len(count: usize) -> usize {
-    13 + 18 * count
+/// The length in bytes of the first command of a list. [`commands`] steps through a whole list.
+///
+/// # Errors
+///
+/// Refusal 20 if the list is empty or ends within that command.
+///
+/// ```
+/// use zanfirotta::{type3, RefusalNumber};
+///
+/// // Byte 12 of a command says how many blocks it stores.
+/// let mut list = [0; 60];
+/// list[12] = 2;
+/// assert_eq!(type3::command_len(&list), Ok(49));
+/// let refusal = type3::command_len(&list[..48]).unwrap_err();
+/// assert_eq!(refusal.number, RefusalNumber::MalformedCommand);
+/// assert_eq!(refusal.position, Some(0));
+/// ```
+#[inline]
+pub fn command_len(list: &[u8]) -> Result<usize, Refusal> {
+    answer(ffi::type3_command_len(list))
 }
+
+/// The commands of a list, in order. What is left over at the end, if it is too short for its
+/// command, comes last.
+///
+/// ```
+/// use zanfirotta::type3;
+///
+/// let mut list = [0; 50];
+/// list[12] = 1;
+/// let mut commands = type3::commands(&list);
+/// assert_eq!(commands.next(), Some(&list[..31]));
+/// assert_eq!(commands.next(), Some(&list[31..44]));
+/// assert_eq!(commands.next(), Some(&list[44..]));
+/// assert_eq!(commands.next(), None);
+/// ```
+pub fn commands(list: &[u8]) -> Commands<'_> {
+    Commands { rest: list }
+}
+
+/// The commands of a list; see [`commands`].
+#[derive(Clone, Debug)]
+pub struct Commands<'a> {
+    rest: &'a [u8],
+}
+
+impl<'a> Iterator for Commands<'a> {
+    type Item = &'a [u8];
+
+    fn next(&mut self) -> Option<&'a [u8]> {
+        if self.rest.is_empty() {
+            return None;
+        }
+        let len = command_len(self.rest).unwrap_or(self.rest.len());
+        let (command, rest) = self.rest.split_at(len);
+        self.rest = rest;
+        Some(command)
+    }
+}
+
+impl core::iter::FusedIterator for Commands<'_> {}
 
 /// A write command; the front `count` entries of `blocks` and 16 · `count` bytes of `data` count.
 #[derive(Clone, Copy, Debug, PartialEq, Eq)]
@@ -69,17 +126,20 @@ impl Command {
     }
 }
 
-/// Reads a tag. A message starts at 16; see [`message`](crate::message), which needs no gathered
-/// copy here.
+/// Reads a tag. A message starts at 16; see [`Report::message`], which needs no gathered copy here.
+///
+/// # Errors
+///
+/// Refusals 1 to 5 and 7.
 ///
 /// ```
-/// use zanfirotta::{type3, Reading};
+/// use zanfirotta::{type3, Content};
 ///
 /// let mut image = [0; 224];
 /// image[..16].copy_from_slice(&[16, 4, 1, 0, 13, 0, 0, 0, 0, 0, 1, 0, 0, 35, 0, 0x46]);
 /// let report = type3::read(&image)?;
-/// assert_eq!(report.reading, Reading::Message);
-/// assert_eq!(zanfirotta::message(&image, &[], &report), [0; 35]);
+/// assert_eq!(report.content, Content::Message);
+/// assert_eq!(report.message(&image, &[]), [0; 35]);
 /// # Ok::<(), zanfirotta::Refusal>(())
 /// ```
 #[inline]
@@ -91,6 +151,10 @@ pub fn read(image: &[u8]) -> Result<Report, Refusal> {
 
 /// Puts the commands that write `message` end to end into `list`; answers how many they are.
 ///
+/// # Errors
+///
+/// Refusals 1 to 5, 7, and 9 to 12.
+///
 /// ```
 /// use zanfirotta::type3;
 ///
@@ -100,14 +164,11 @@ pub fn read(image: &[u8]) -> Result<Report, Refusal> {
 /// let mut list = [0; type3::LIST_MAX];
 /// assert_eq!(type3::write(&image, &[7; 35], &number, &mut list), Ok(5));
 ///
-/// let mut rest = &list[..];
-/// for _ in 0..5 {
-///     let (command, after) = rest.split_at(type3::command_len(rest[12] as usize));
+/// for command in type3::commands(&list).take(5) {
 ///     type3::model(&mut image, &number, command)?;
-///     rest = after;
 /// }
 /// let report = type3::read(&image)?;
-/// assert_eq!(zanfirotta::message(&image, &[], &report), [7; 35]);
+/// assert_eq!(report.message(&image, &[]), [7; 35]);
 /// # Ok::<(), zanfirotta::Refusal>(())
 /// ```
 pub fn write(
@@ -121,6 +182,10 @@ pub fn write(
 
 /// Judges whether a list, made by anybody, writes `message` safely; answers how many commands it
 /// has.
+///
+/// # Errors
+///
+/// Refusals 1 to 5, 7, 9 to 11, and 20 to 23.
 ///
 /// ```
 /// use zanfirotta::{type3, RefusalNumber};
@@ -143,6 +208,10 @@ pub fn judge(
 
 /// The tag as a model: stores what one command says, protected or not.
 ///
+/// # Errors
+///
+/// Refusals 1 to 5, 7 and 20.
+///
 /// ```
 /// use zanfirotta::type3::{self, Command};
 ///
@@ -163,6 +232,10 @@ pub fn model(image: &mut [u8], number: &[u8; 8], command: &[u8]) -> Result<(), R
 
 /// Puts a command into the front of `bytes`; answers how many bytes it has.
 ///
+/// # Errors
+///
+/// Refusals 12 and 20.
+///
 /// ```
 /// use zanfirotta::type3::{self, Command};
 ///
@@ -170,7 +243,7 @@ pub fn model(image: &mut [u8], number: &[u8; 8], command: &[u8]) -> Result<(), R
 /// let mut bytes = [0; type3::COMMAND_MAX];
 /// let command = Command::new(&[(1, [7; 16]), (2, [8; 16])]).unwrap();
 /// let size = type3::encode(&command, &number, 4, 13, &mut bytes)?;
-/// assert_eq!(size, type3::command_len(2));
+/// assert_eq!(size, 13 + 18 * 2);
 /// assert_eq!(bytes[9..17], [0x01, 0x09, 0x00, 2, 0x80, 1, 0x80, 2]);
 /// assert_eq!(type3::decode(&bytes[..size], &number, 4, 13)?, command);
 /// # Ok::<(), zanfirotta::Refusal>(())
@@ -188,11 +261,15 @@ pub fn encode(
 
 /// Reads one command.
 ///
+/// # Errors
+///
+/// Refusal 20.
+///
 /// ```
 /// use zanfirotta::{type3, RefusalNumber};
 ///
 /// let refusal = type3::decode(&[0x08], &[0; 8], 1, 13).unwrap_err();
-/// assert_eq!(refusal.number, RefusalNumber::NotWellFormed);
+/// assert_eq!(refusal.number, RefusalNumber::MalformedCommand);
 /// ```
 pub fn decode(bytes: &[u8], number: &[u8; 8], nbw: u64, nmaxb: u64) -> Result<Command, Refusal> {
     let mut command = Command::EMPTY;

@@ -3,7 +3,7 @@
 //! it ends in the image in which our uninterrupted list ends.
 
 #[cfg(not(zanfirotta_archive))]
-compile_error!("libcapi.a is missing: run `rt staticlib capi` at the repository's top");
+compile_error!("libzanfirotta.a is missing: run `rt staticlib zanfirotta` at the repository's top");
 
 mod common;
 mod reference;
@@ -58,7 +58,7 @@ impl Type for Type2 {
     }
 
     fn split(&self, list: &[u8]) -> Vec<Vec<u8>> {
-        list.chunks(type2::COMMAND).map(<[u8]>::to_vec).collect()
+        type2::commands(list).map(<[u8]>::to_vec).collect()
     }
 
     fn store(&self, image: &mut [u8], command: &[u8]) {
@@ -69,7 +69,7 @@ impl Type for Type2 {
     fn message(&self, image: &[u8]) -> Option<Vec<u8>> {
         let mut gathered = [0; type2::IMAGE_MAX];
         let report = type2::read(image, &mut gathered).ok()?;
-        Some(zanfirotta::message(image, &gathered, &report).to_vec())
+        Some(report.message(image, &gathered).to_vec())
     }
 }
 
@@ -81,10 +81,7 @@ impl Type for Type3 {
     fn write(&self, image: &[u8], message: &[u8]) -> Vec<u8> {
         let mut list = vec![0; type3::LIST_MAX];
         let count = type3::write(image, message, &self.number, &mut list).unwrap();
-        let mut size = 0;
-        for _ in 0..count {
-            size += type3::command_len(list[size + 12] as usize);
-        }
+        let size = type3::commands(&list).take(count).map(<[u8]>::len).sum();
         list.truncate(size);
         list
     }
@@ -106,7 +103,9 @@ impl Type for Type3 {
     }
 
     fn split(&self, list: &[u8]) -> Vec<Vec<u8>> {
-        lists3::split(list)
+        let commands: Vec<Vec<u8>> = type3::commands(list).map(<[u8]>::to_vec).collect();
+        assert_eq!(commands, lists3::split(list));
+        commands
     }
 
     fn store(&self, image: &mut [u8], command: &[u8]) {
@@ -119,7 +118,7 @@ impl Type for Type3 {
 
     fn message(&self, image: &[u8]) -> Option<Vec<u8>> {
         let report = type3::read(image).ok()?;
-        Some(zanfirotta::message(image, &[], &report).to_vec())
+        Some(report.message(image, &[]).to_vec())
     }
 }
 

@@ -4,7 +4,7 @@
 //! prints how often each answer came and fails if one that is expected is rare.
 
 #[cfg(not(zanfirotta_archive))]
-compile_error!("libcapi.a is missing: run `rt staticlib capi` at the repository's top");
+compile_error!("libzanfirotta.a is missing: run `rt staticlib zanfirotta` at the repository's top");
 
 mod common;
 mod reference;
@@ -17,7 +17,7 @@ use std::fmt::Debug;
 
 use common::{hex, Lent, Rng};
 use reference::{Kind, ReadAnswer};
-use zanfirotta::{Reading, Refusal, Report};
+use zanfirotta::{Content, Refusal, Report};
 
 /// Cases of each operation in the normal run, and in the long one (`-- --ignored`).
 const SUBSET: u64 = 20_000;
@@ -68,18 +68,20 @@ fn type3_every_length() {
 
 /// An answer of the library in the terms of the reference.
 fn plain<T>(answer: Result<T, Refusal>) -> Result<T, reference::Refusal> {
-    answer.map_err(|refusal| reference::Refusal {
-        number: refusal.number as u8,
-        position: refusal.position as u64,
+    answer.map_err(|refusal| {
+        let number = refusal.number as u8;
+        assert_eq!(refusal.position.is_some(), (20..=23).contains(&number));
+        let position = refusal.position.unwrap_or_default() as u64;
+        reference::Refusal { number, position }
     })
 }
 
 fn read_answer(report: Report) -> ReadAnswer {
     ReadAnswer {
-        kind: match report.reading {
-            Reading::Message => Kind::Message,
-            Reading::Empty => Kind::Empty,
-            Reading::BeingWritten => Kind::BeingWritten,
+        kind: match report.content {
+            Content::Message => Kind::Message,
+            Content::Empty => Kind::Empty,
+            Content::BeingWritten => Kind::BeingWritten,
         },
         address: report.address as u64,
         length: report.length as u64,

@@ -1,5 +1,5 @@
-//! What README.md and examples/c show, tried, and the header: every function is called from C. The
-//! Rust lines of README.md are a doc test of the crate.
+//! What README.md, the header and examples/c show, compiled and run; every function of the header
+//! is called from C. The Rust lines of README.md are a doc test of the crate.
 
 #![cfg(zanfirotta_archive)]
 
@@ -20,11 +20,55 @@ fn shown(label: &str) -> String {
     block.to_string()
 }
 
+/// A C program in which `lines` are the body of a function that is handed a tag; `main` hands it an
+/// image that starts with `front` at address `at`.
+fn program(before: &str, lines: &str, size: usize, at: usize, front: &str) -> String {
+    format!(
+        "#include <stdio.h>
+#include \"zanfirotta.h\"
+{before}
+static int run(const uint8_t *image, size_t image_len)
+{{
+{lines}
+return 0;
+}}
+int main(void)
+{{
+    uint8_t image[{size}] = {{0}};
+    static const uint8_t front[] = {{{front}}};
+    for (size_t i = 0; i < sizeof front; i++)
+        image[{at} + i] = front[i];
+    return run(image, sizeof image);
+}}
+"
+    )
+}
+
+/// A function of that name that prints bytes.
+fn printer(name: &str) -> String {
+    format!(
+        "static void {name}(const uint8_t *bytes, size_t len)
+{{
+    for (size_t i = 0; i < len; i++)
+        printf(\"%02X\", bytes[i]);
+    printf(\"\\n\");
+}}
+"
+    )
+}
+
+/// Writes a C program to a file, compiles it with the archive and runs it; answers what it prints.
+fn run_text(name: &str, text: &str) -> String {
+    let source = Path::new(env!("CARGO_TARGET_TMPDIR")).join(format!("{name}.c"));
+    fs::write(&source, text).unwrap();
+    run_c(name, &source)
+}
+
 /// Compiles a C program with the archive and runs it; answers what it prints.
 fn run_c(name: &str, source: &Path) -> String {
     let archive = std::env::var_os("ZANFIROTTA_LIB_DIR")
         .map_or(top().join("target/staticlib"), PathBuf::from)
-        .join("libcapi.a");
+        .join("libzanfirotta.a");
     let program = Path::new(env!("CARGO_TARGET_TMPDIR")).join(name);
     let compiled = Command::new("cc")
         .args(["-std=c99", "-Wall", "-Wextra", "-Werror", "-I"])
@@ -47,44 +91,65 @@ fn rattle_lines_are_the_crate() {
     assert_eq!(shown("rattle"), source);
 }
 
-/// The lines stand in a function that is handed a tag and a message; `send` prints.
+/// `send` prints, and the message is that of the specimen.
 #[test]
-fn c_lines_write_the_sample() {
-    let (include, lines) = shown("c")
-        .split_once("\n\n")
-        .map(|(a, b)| (a.to_string(), b.to_string()))
-        .unwrap();
-    let program = format!(
-        "{include}
-#include <stdio.h>
-static void send(const uint8_t *bytes, size_t len)
-{{
-    for (size_t i = 0; i < len; i++)
-        printf(\"%02X\", bytes[i]);
-    printf(\"\\n\");
-}}
-static int write_tag(const uint8_t *image, size_t image_len, const uint8_t *message, size_t message_len)
-{{
-{lines}
-return 0;
-}}
-int main(void)
-{{
-    static const uint8_t message[3] = {{0xD0}};
-    uint8_t image[64] = {{0}};
-    static const uint8_t front[] = {{0xE1, 0x10, 0x06, 0x00, 0x03, 0x00, 0xFE}};
-    for (size_t i = 0; i < sizeof front; i++)
-        image[12 + i] = front[i];
-    return write_tag(image, sizeof image, message, sizeof message);
-}}
-"
-    );
-    let source = Path::new(env!("CARGO_TARGET_TMPDIR")).join("readme.c");
-    fs::write(&source, program).unwrap();
+fn c_lines_of_the_readme_write_the_sample() {
+    let lines = shown("c");
+    let lines = lines
+        .strip_prefix("#include \"zanfirotta.h\"\n")
+        .expect("the header");
+    let message = "static const uint8_t message[3] = {0xD0};\nenum { message_len = 3 };\n";
+    let before = printer("send") + message;
+    let front = "0xE1, 0x10, 0x06, 0x00, 0x03, 0x00, 0xFE";
     assert_eq!(
-        run_c("readme", &source),
+        run_text("readme", &program(&before, lines, 64, 12, front)),
         "A2040300FE00\nA20500FE0000\nA2040303D000\n"
     );
+}
+
+fn header() -> String {
+    fs::read_to_string(top().join("include/zanfirotta.h")).unwrap()
+}
+
+/// The lines in the header's first comment; `show` prints.
+#[test]
+fn c_lines_of_the_header_read_a_tag() {
+    let header = header();
+    let (comment, _) = header.split_once("*/").expect("a comment");
+    let lines: String = comment
+        .lines()
+        .skip_while(|line| !line.contains("zan_report report;"))
+        .filter_map(|line| line.strip_prefix(" *     "))
+        .map(|line| format!("{line}\n"))
+        .collect();
+    let front = "16, 4, 1, 0, 2, 0, 0, 0, 0, 0, 1, 0, 0, 3, 0, 0x1B, 0xD0, 0x00, 0x00";
+    assert_eq!(
+        run_text("header", &program(&printer("show"), &lines, 48, 0, front)),
+        "D00000\n"
+    );
+}
+
+/// Compilers of every standard from C89 on, and of C++, take the header without a warning.
+#[test]
+fn header_is_clean() {
+    let languages = [
+        ("c", "c89"),
+        ("c", "c99"),
+        ("c", "c11"),
+        ("c", "c17"),
+        ("c++", "c++17"),
+    ];
+    for (language, standard) in languages {
+        let clean = Command::new("cc")
+            .args(["-x", language, &format!("-std={standard}")])
+            .args(["-Wall", "-Wextra", "-pedantic", "-Werror", "-fsyntax-only"])
+            .arg("-I")
+            .arg(top().join("include"))
+            .arg(top().join("rust/tests/c/calls.c"))
+            .status()
+            .expect("cc runs");
+        assert!(clean.success(), "not clean as {standard}");
+    }
 }
 
 #[test]
@@ -95,5 +160,17 @@ fn c_example_runs() {
 
 #[test]
 fn every_function_is_called_from_c() {
-    run_c("calls", &top().join("rust/tests/c/calls.c"));
+    let calls = top().join("rust/tests/c/calls.c");
+    let text = fs::read_to_string(&calls).unwrap();
+    let header = header();
+    let declared: Vec<&str> = header
+        .lines()
+        .filter_map(|line| line.strip_prefix("uint64_t zan_"))
+        .filter_map(|line| line.split_once('(').map(|(name, _)| name))
+        .collect();
+    assert_eq!(declared.len(), 13);
+    for name in declared {
+        assert!(text.contains(&format!("zan_{name}(")), "zan_{name}");
+    }
+    run_c("calls", &calls);
 }

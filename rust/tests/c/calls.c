@@ -7,6 +7,10 @@
 
 #include "zanfirotta.h"
 
+#if ZAN_API_VERSION != 2
+#error "calls.c is about version 2 of the interface"
+#endif
+
 #define HOLDS(fact)      \
     do {                 \
         if (!(fact))     \
@@ -37,58 +41,66 @@ static void empty3(uint8_t image[48])
 static int type2(void)
 {
     uint8_t image[64], list[ZAN_TYPE2_LIST_MAX], gathered[1] = {0xAA}, bytes[8], data[4] = {1, 2, 3, 4};
-    uint64_t out[5], block = 9;
+    uint64_t block = 9;
+    zan_report report;
+    int i;
 
     empty2(image);
     HOLDS(zan_type2_write(image, 64, message, 3, list, sizeof list) == 3 * 256);
-    HOLDS(zan_type2_write(image, 64, message, 3, list, 17) == ZAN_LIST_BUFFER);
+    HOLDS(zan_type2_write(image, 64, message, 3, list, 17) == ZAN_REFUSED_SHORT_BUFFER);
     HOLDS(zan_type2_judge(image, 64, message, 3, list, 18) == 3 * 256);
-    HOLDS(zan_type2_judge(image, 64, message, 3, list, 13) == ZAN_NOT_WELL_FORMED + 2 * 256);
-    HOLDS(zan_type2_judge(image, 64, message, 3, list, 0) == ZAN_UNFINISHED);
-    for (int i = 0; i < 3; i++)
+    HOLDS(zan_type2_judge(image, 64, message, 3, list, 13) == ZAN_REFUSED_MALFORMED_COMMAND + 2 * 256);
+    HOLDS(zan_type2_judge(image, 64, message, 3, list, 0) == ZAN_REFUSED_UNFINISHED);
+    for (i = 0; i < 3; i++)
         HOLDS(zan_type2_model(image, 64, list + 6 * i, 6) == 0);
-    HOLDS(zan_type2_model(image, 64, list, 5) == ZAN_NOT_WELL_FORMED);
-    HOLDS(zan_type2_read(image, 64, gathered, sizeof gathered, out) == 0);
-    HOLDS(out[ZAN_OUT_READING] == ZAN_MESSAGE && out[ZAN_OUT_ADDRESS] == 18 && out[ZAN_OUT_LENGTH] == 3);
-    HOLDS(out[ZAN_OUT_INTERRUPTED] == 0 && out[ZAN_OUT_WRITABLE] == 1 && gathered[0] == 0xAA);
-    HOLDS(zan_type2_read(image, 63, gathered, sizeof gathered, out) == ZAN_IMAGE_SIZE && out[ZAN_OUT_LENGTH] == 3);
+    HOLDS(zan_type2_model(image, 64, list, 5) == ZAN_REFUSED_MALFORMED_COMMAND);
+    HOLDS(zan_type2_read(image, 64, gathered, sizeof gathered, &report) == 0);
+    HOLDS(report.content == ZAN_CONTENT_MESSAGE && report.address == 18 && report.length == 3);
+    HOLDS(report.interrupted == 0 && report.writable == 1 && gathered[0] == 0xAA);
+    HOLDS(zan_type2_read(image, 63, gathered, sizeof gathered, &report) == ZAN_REFUSED_IMAGE_SIZE);
+    HOLDS(report.length == 3);
 
     HOLDS(zan_type2_encode(5, data, 16, bytes, sizeof bytes) == 6 * 256);
     HOLDS(memcmp(bytes, "\xA2\x05\x01\x02\x03\x04", 6) == 0);
-    HOLDS(zan_type2_encode(3, data, 16, bytes, sizeof bytes) == ZAN_NOT_WELL_FORMED);
+    HOLDS(zan_type2_encode(3, data, 16, bytes, sizeof bytes) == ZAN_REFUSED_MALFORMED_COMMAND);
     memset(data, 0, 4);
     HOLDS(zan_type2_decode(bytes, 6, 16, &block, data) == 0);
     HOLDS(block == 5 && memcmp(data, "\x01\x02\x03\x04", 4) == 0);
-    HOLDS(zan_type2_decode(bytes, 7, 16, &block, data) == ZAN_NOT_WELL_FORMED && block == 5);
+    HOLDS(zan_type2_decode(bytes, 7, 16, &block, data) == ZAN_REFUSED_MALFORMED_COMMAND && block == 5);
     return 0;
 }
 
 static int type3(void)
 {
     uint8_t image[48], list[ZAN_TYPE3_LIST_MAX], bytes[ZAN_TYPE3_COMMAND_MAX], data[128] = {7};
-    uint64_t out[5], count = 9, blocks[8] = {2, 1, 9};
-    const uint8_t *command = list;
+    uint64_t count = 9, blocks[8] = {2, 1, 9};
+    zan_report report;
+    size_t at = 0;
+    int i;
 
     empty3(image);
     HOLDS(zan_type3_write(image, 48, message, 3, number, list, sizeof list) == 3 * 256);
-    HOLDS(zan_type3_write(image, 48, message, 0, number, list, sizeof list) == ZAN_EMPTY_MESSAGE);
+    HOLDS(zan_type3_write(image, 48, message, 0, number, list, sizeof list) == ZAN_REFUSED_EMPTY_MESSAGE);
     HOLDS(zan_type3_judge(image, 48, message, 3, number, list, 93) == 3 * 256);
-    HOLDS(zan_type3_judge(image, 48, message, 3, number, list, 62) == ZAN_UNFINISHED + 2 * 256);
-    for (int i = 0; i < 3; i++) {
-        HOLDS(zan_type3_model(image, 48, number, command, ZAN_TYPE3_COMMAND(1)) == 0);
-        command += ZAN_TYPE3_COMMAND(1);
-        HOLDS(zan_type3_read(image, 48, out) == 0);
-        HOLDS(out[ZAN_OUT_READING] == (i < 2 ? ZAN_BEING_WRITTEN : ZAN_MESSAGE));
+    HOLDS(zan_type3_judge(image, 48, message, 3, number, list, 62) == ZAN_REFUSED_UNFINISHED + 2 * 256);
+    for (i = 0; i < 3; i++) {
+        HOLDS(zan_type3_command_len(list + at, 93 - at) == 31 * 256);
+        HOLDS(zan_type3_model(image, 48, number, list + at, 31) == 0);
+        at += 31;
+        HOLDS(zan_type3_read(image, 48, &report) == 0);
+        HOLDS(report.content == (i < 2 ? ZAN_CONTENT_BEING_WRITTEN : ZAN_CONTENT_MESSAGE));
     }
-    HOLDS(out[ZAN_OUT_ADDRESS] == 16 && out[ZAN_OUT_LENGTH] == 3 && out[ZAN_OUT_WRITABLE] == 1);
+    HOLDS(zan_type3_command_len(list + at, 0) == ZAN_REFUSED_MALFORMED_COMMAND);
+    HOLDS(zan_type3_command_len(list, 30) == ZAN_REFUSED_MALFORMED_COMMAND);
+    HOLDS(report.address == 16 && report.length == 3 && report.writable == 1);
 
     HOLDS(zan_type3_encode(2, blocks, data, number, 2, 2, bytes, sizeof bytes) == 49 * 256);
     HOLDS(memcmp(bytes + 12, "\x02\x80\x02\x80\x01\x07", 6) == 0);
-    HOLDS(zan_type3_encode(3, blocks, data, number, 2, 2, bytes, sizeof bytes) == ZAN_NOT_WELL_FORMED);
+    HOLDS(zan_type3_encode(3, blocks, data, number, 2, 2, bytes, sizeof bytes) == ZAN_REFUSED_MALFORMED_COMMAND);
     blocks[0] = 0;
     HOLDS(zan_type3_decode(bytes, 49, number, 2, 2, &count, blocks, data) == 0);
     HOLDS(count == 2 && blocks[0] == 2 && blocks[1] == 1 && blocks[2] == 9 && data[0] == 7);
-    HOLDS(zan_type3_decode(bytes, 48, number, 2, 2, &count, blocks, data) == ZAN_NOT_WELL_FORMED && count == 2);
+    HOLDS(zan_type3_decode(bytes, 48, number, 2, 2, &count, blocks, data) == ZAN_REFUSED_MALFORMED_COMMAND && count == 2);
     return 0;
 }
 

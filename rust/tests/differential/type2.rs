@@ -49,7 +49,7 @@ pub fn read(cases: u64) {
         same(index, &plain(got.map(read_answer)), &expected, &[&image]);
         same_buffers(index, &gathered, &wanted, &[&image]);
         if let (Ok(report), Ok(answer)) = (got, expected) {
-            let shown = zanfirotta::message(&image, gathered.slice(), &report);
+            let shown = report.message(&image, gathered.slice());
             assert_eq!(shown, answer.message(&image, wanted.slice()));
         }
         same_out(index, &mut rng, &expected, |out| {

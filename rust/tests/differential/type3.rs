@@ -47,7 +47,7 @@ pub fn read(cases: u64) {
         let got = zanfirotta::type3::read(&image);
         same(index, &plain(got.map(read_answer)), &expected, &[&image]);
         if let (Ok(report), Ok(answer)) = (got, expected) {
-            let shown = zanfirotta::message(&image, &[], &report);
+            let shown = report.message(&image, &[]);
             assert_eq!(shown, answer.message(&image, &[]));
         }
         same_out(index, &mut rng, &expected, |out| {

@@ -1,0 +1,113 @@
+-- The answers as C gets them, each one number: a refusal in its low byte, and above it the position, or on success the count. Of
+-- a count or a position 56 bits are kept, which is all of it: no list that a machine holds has 2^56 commands.
+-- Assumes nothing.
+use mathlib.Core.Path.{_≡_}
+use mathlib.Core.Bool.{Bool, true, false, cond}
+use mathlib.Core.List.{List, [], _∷_}
+use Prim.Native.Nat.{ℕ, _+_, _*_, _%_, _^_}
+use lib.Dec.{leb}
+use lib.ListN.{length}
+use Rattle.tag.specs.Bytes.{overwrite}
+use Rattle.tag.specs.Reading.{What, message, empty, being-written, Reading, Answer, refusal, answer, answerOf, gatheredInto}
+use Rattle.tag.specs.Refusals.{Refusal, plain, positioned, malformed-command}
+use Rattle.tag.specs.TagType.{TagType, Output, outputInto}
+use Rattle.tag.specs.Model.{model, imageAfter}
+use Rattle.tag.specs.Answers.{Returned, refuses, gives, countOf, storingOf}
+use Rattle.tag.specs.Judge.{Verdict, accepted, refused}
+use Rattle.type2.specs.Codec as two
+use Rattle.type3.specs.Codec as three
+
+-- a count or a position, above the low byte
+abbrev pub above : ℕ → ℕ
+above n = 256 * (n % 2 ^ 56)
+
+-- a refusal, with its position where it has one
+abbrev pub packedRefusal : Refusal → ℕ
+packedRefusal (plain r) = r
+packedRefusal (positioned r p) = r + above p
+
+-- writing and encoding give a count
+abbrev pub packedCount : Returned ℕ → ℕ
+packedCount (refuses f) = packedRefusal f
+packedCount (gives n) = above n
+
+-- judging gives a count, or a refusal with a position
+abbrev pub packedVerdict : Verdict → ℕ
+packedVerdict (accepted n) = above n
+packedVerdict (refused r p) = r + above p
+
+-- the model gives no count
+abbrev pub packedStoring : Returned (Unit {0}) → ℕ
+packedStoring (refuses f) = packedRefusal f
+packedStoring (gives u) = 0
+
+-- ---- reading
+
+abbrev pub packedRead : Answer → ℕ
+packedRead (refusal r) = r
+packedRead (answer what a n interrupted w) = 0
+
+abbrev pub kindOf : What → ℕ
+kindOf message = 1
+kindOf empty = 2
+kindOf being-written = 3
+
+abbrev pub flagOf : Bool → ℕ
+flagOf false = 0
+flagOf true = 1
+
+-- the report afterwards: content, address, length, interrupted, writable; as it was after a refusal
+abbrev pub reportInto : List ℕ → Answer → List ℕ
+reportInto out (refusal r) = out
+reportInto out (answer what a n interrupted w) = kindOf what ∷ a ∷ n ∷ flagOf interrupted ∷ flagOf w ∷ []
+
+-- ---- decoding
+
+abbrev pub packedDecoded2 : two.Decoded → ℕ
+packedDecoded2 (two.undecoded f) = packedRefusal f
+packedDecoded2 (two.decoded b bytes) = 0
+
+-- a command's block, and its bytes; what they were after a refusal
+abbrev pub blockInto : ℕ → two.Decoded → ℕ
+blockInto old (two.undecoded f) = old
+blockInto old (two.decoded b bytes) = b
+
+abbrev pub dataInto : List ℕ → two.Decoded → List ℕ
+dataInto old (two.undecoded f) = old
+dataInto old (two.decoded b bytes) = bytes
+
+abbrev pub packedDecoded3 : three.Decoded → ℕ
+packedDecoded3 (three.undecoded f) = packedRefusal f
+packedDecoded3 (three.decoded bs bytes) = 0
+
+-- how many blocks, their numbers, their bytes; unused entries keep what they held
+abbrev pub countInto : ℕ → three.Decoded → ℕ
+countInto old (three.undecoded f) = old
+countInto old (three.decoded bs bytes) = length bs
+
+abbrev pub blocksInto : List ℕ → three.Decoded → List ℕ
+blocksInto old (three.undecoded f) = old
+blocksInto old (three.decoded bs bytes) = overwrite bs old
+
+abbrev pub sixteensInto : List ℕ → three.Decoded → List ℕ
+sixteensInto old (three.undecoded f) = old
+sixteensInto old (three.decoded bs bytes) = overwrite bytes old
+
+-- the bytes that the first command of a Type 3 list takes, if the list has them; 20 if it is cut short, as it is in an empty list
+abbrev pub packedSpan : List ℕ → ℕ
+packedSpan list = cond (leb (three.span list) (length list)) (above (three.span list)) (packedRefusal (positioned malformed-command 0))
+
+-- ---- the contracts of the C functions as relations
+
+-- a call that puts out what o says for so much room, given a buffer, answers n and leaves the buffer as out
+abbrev pub PutOutToC : (ℕ → Output) → List ℕ → ℕ → List ℕ → Type 0
+PutOutToC o buffer n out = (n ≡ packedCount (countOf (o (length buffer)))) × (out ≡ outputInto buffer (o (length buffer)))
+
+-- a call that answers for a reading, given a gathering buffer and five numbers, answers n and leaves both as gathered and out
+abbrev pub ReadToC : Reading → List ℕ → List ℕ → ℕ → List ℕ → List ℕ → Type 0
+ReadToC v buffer five n gathered out =
+    (n ≡ packedRead (answerOf (length buffer) v)) × (gathered ≡ gatheredInto buffer v) × (out ≡ reportInto five (answerOf (length buffer) v))
+
+-- the model, given a tag and a command, answers n and leaves the tag as j
+abbrev pub TookToC : TagType → List ℕ → List ℕ → ℕ → List ℕ → Type 0
+TookToC T i command n j = (n ≡ packedStoring (storingOf (model T i command))) × (j ≡ imageAfter i (model T i command))

@@ -1,0 +1,106 @@
+// The answers of the library as one number, a refusal in the low byte and a count or a position above it.
+
+use tag::CountAnswer;
+use tag::JudgeAnswer;
+use tag::ModelAnswer;
+use tag::ReadAnswer;
+use tag::Report;
+use tag::What;
+ghost use mathlib.Core.Path.{_≡_};
+ghost use mathlib.Core.List.{[]};
+ghost use Rattle.tag.specs.Refusals.{refusalAt};
+ghost use Rattle.tag.specs.Answers.{whatOf, readAs, countAs, verdictAs, modelAs};
+ghost use Rattle.zanfirotta.specs.Packed.{above, packedRefusal, packedCount, packedVerdict, packedStoring, packedRead, kindOf, flagOf, reportInto};
+
+// 2^56: a count below it fits above the low byte.
+const COUNTS: usize = 72057594037927936;
+
+// A count or a position, above the low byte.
+fn above(n: usize) -> u64
+    ensures { λ r. ⌜ r ≡ above n ⌝ }
+{
+    256 * ((n % COUNTS) as u64)
+}
+
+// A refusal of a call that takes one command at most: its position is 0.
+pub(crate) fn refusal(r: u8) -> u64
+    ensures { λ n. ⌜ n ≡ packedRefusal (refusalAt r 0) ⌝ }
+{
+    r as u64 + above(0)
+}
+
+pub(crate) fn count(answer: CountAnswer) -> u64
+    ensures { λ r. ⌜ r ≡ packedCount (countAs answer) ⌝ }
+{
+    match answer {
+        CountAnswer::Refused(r) => refusal(r),
+        CountAnswer::Count(n) => above(n),
+    }
+}
+
+pub(crate) fn verdict(answer: JudgeAnswer) -> u64
+    ensures { λ r. ⌜ r ≡ packedVerdict (verdictAs answer) ⌝ }
+{
+    match answer {
+        JudgeAnswer::Refused(r, position) => r as u64 + above(position),
+        JudgeAnswer::Accepted(n) => above(n),
+    }
+}
+
+pub(crate) fn storing(answer: ModelAnswer) -> u64
+    ensures { λ r. ⌜ r ≡ packedStoring (modelAs answer) ⌝ }
+{
+    match answer {
+        ModelAnswer::Refused(r) => refusal(r),
+        ModelAnswer::Stored => 0,
+    }
+}
+
+fn kind(what: What) -> u64
+    ensures { λ r. ⌜ r ≡ kindOf (whatOf what) ⌝ }
+{
+    match what {
+        What::Message => 1,
+        What::Empty => 2,
+        What::BeingWritten => 3,
+    }
+}
+
+fn flag(b: bool) -> u64
+    ensures { λ r. ⌜ r ≡ flagOf b ⌝ }
+{
+    if b { 1 } else { 0 }
+}
+
+// What a tag that reads says of itself, as five numbers.
+fn report(p: Report) -> [u64; 5]
+    ensures { λ r. ⌜ r ≡ reportInto [] (readAs (ReadAnswer.Reads p)) ⌝ }
+{
+    let what = p.what;
+    let interrupted = p.interrupted;
+    let writable = p.writable;
+    let address = p.address.0;
+    let length = p.length;
+    [
+        kind(what),
+        address as u64,
+        length as u64,
+        flag(interrupted),
+        flag(writable),
+    ]
+}
+
+// Reading's answer; what the tag says of itself goes to `out`.
+pub(crate) fn reading(answer: ReadAnswer, out: &mut [u64; 5]) -> u64
+    ensures { λ r. ⌜ r ≡ packedRead (readAs answer) ⌝ }
+    ensures { λ _. ⌜ now (out .exit) ≡ reportInto (now (out .entry)) (readAs answer) ⌝ }
+{
+    match answer {
+        ReadAnswer::Refused(r) => r as u64,
+        ReadAnswer::Reads(p) => {
+            let five = report(p);
+            *out = five;
+            0
+        }
+    }
+}
