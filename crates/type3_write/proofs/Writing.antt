@@ -20,8 +20,8 @@ use Rattle.type3.proofs.Message.{bounds}
 use Rattle.type3.proofs.Update.{few-blocks}
 use Rattle.type3.proofs.Laws.{ready-room, some-width}
 use Rattle.type3.proofs.Counts.{list-count}
-use Rattle.type3_write.specs.Views.Listing.{listAs}
-use Rattle.type3_write.proofs.ListBytes.{list-bytes, length-list-as}
+use Rattle.type3_list.specs.Views.Listing.{listAs}
+use Rattle.type3_list.proofs.ListBytes.{list-bytes, length-list-as}
 
 pub write-refused : (number i m : List ℕ) (room r : ℕ) → writing (type3 number) i m ≡ unwritten r → write (type3 number) room i m ≡ withheld r
 write-refused number i m room r e = ap (writeBy (type3 number) room i) e

@@ -1,5 +1,3 @@
 // The writer of Type 3 tags: the list of commands that puts a message on a tag.
 
-mod blocks;
-mod list;
 pub mod write;

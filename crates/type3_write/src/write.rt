@@ -1,6 +1,5 @@
 // Writing to a Type 3 tag: which blocks, in how many commands, and what is refused.
 
-use crate::list;
 use tag::CountAnswer;
 use tag::numbers;
 use tag::refusals;
@@ -9,6 +8,7 @@ use type3::read;
 use type3::read::Attributes;
 use type3::read::Checked;
 use type3::space;
+use type3_list::list;
 ghost use mathlib.Core.Path.{_≡_};
 ghost use Prim.Native.Nat.{_+_, _-_, _/_, _<_, _≤_};
 ghost use lib.ListN.{length, take};
@@ -16,7 +16,7 @@ ghost use Rattle.tag.specs.Bytes.{run};
 ghost use Rattle.tag.specs.Contracts.{Wrote};
 ghost use Rattle.type3.specs.Type3.{type3};
 ghost use Rattle.type3.specs.Views.Attributes.{Readable};
-ghost use Rattle.type3_write.specs.Views.Listing.{Dealt};
+ghost use Rattle.type3_list.specs.Views.Listing.{Dealt};
 
 // A list has two commands for block 0.
 const ATTRIBUTE_COMMANDS: usize = 2 * list::ATTRIBUTE_COMMAND;

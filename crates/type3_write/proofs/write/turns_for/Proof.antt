@@ -1,7 +1,7 @@
 -- `write::turns_for` meets its contract. Assumes nothing.
 use mathlib.Core.Path.{refl}
 use borrow.Author.Needs.{needs}
-use Rattle.type3_write.proofs.Dealing.{dealt}
+use Rattle.type3_list.proofs.Dealing.{dealt}
 use Rattle.type3_write.proofs.write.turns_for.Statement.{statement}
 use Rattle.type3_write.proofs.write.turns_for.Tie as tie
 

@@ -11,9 +11,9 @@ use Rattle.tag.proofs.Runs.{length-run}
 use Rattle.type3.specs.Update.{blocksFor, blocksPerCommand, plan}
 use Rattle.type3.specs.Type3.{type3}
 use Rattle.type3.proofs.Deciding.{writing-refused, writing-planned}
-use Rattle.type3_write.specs.Views.Blocks.{Chosen}
-use Rattle.type3_write.specs.Views.Listing.{Dealt}
-use Rattle.type3_write.proofs.MessageBlocks.{all-chosen}
+use Rattle.type3_list.specs.Views.Blocks.{Chosen}
+use Rattle.type3_list.specs.Views.Listing.{Dealt}
+use Rattle.type3_list.proofs.MessageBlocks.{all-chosen}
 use Rattle.type3_write.proofs.Writing.{write-refused, Planned, planned-bounds, write-short, write-list, write-laid}
 use Rattle.type3_write.proofs.write.write_to.Statement.{statement}
 use Rattle.type3_write.proofs.write.write_to.Tie as tie

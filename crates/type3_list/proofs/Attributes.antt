@@ -1,0 +1,24 @@
+-- The sum of the bytes of block 0 that writing keeps, and the lengths of the attribute block and its command.
+-- Assumes nothing.
+use mathlib.Core.Path.{_≡_, refl}
+use mathlib.Core.List.{List, [], _∷_}
+use Prim.Native.Nat.{ℕ, _+_}
+use native.Mathlib.Omega.{arith}
+use lib.ListN.{length}
+use Rattle.tag.specs.Bytes.{byte}
+use Rattle.tag.specs.Views.Numbers.{sumTo}
+use Rattle.type3.specs.Attributes.{steadySum}
+use Rattle.type3.proofs.Codec.{length-command}
+use Rattle.type3_list.specs.Views.Listing.{attributeBlock, attributeCommand}
+
+-- the sum of the bytes of block 0 that writing keeps
+pub sum-steady : (i : List ℕ) → sumTo i 9 + byte i 10 ≡ steadySum i
+unfolding sumTo
+sum-steady i = omega arith
+
+pub length-attribute-block : (i : List ℕ) (flag n : ℕ) → length (attributeBlock i flag n) ≡ 16
+unfolding attributeBlock
+length-attribute-block i flag n = refl
+
+pub length-attribute-command : (number i : List ℕ) (flag n : ℕ) → length number ≡ 8 → length (attributeCommand number i flag n) ≡ 31
+length-attribute-command number i flag n eight = length-command number (0 ∷ []) (attributeBlock i flag n) eight (length-attribute-block i flag n)

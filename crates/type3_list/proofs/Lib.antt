@@ -1,0 +1,7 @@
+-- Laws that laying the list of a Type 3 tag needs.
+pub mod MessageBlocks
+pub mod Attributes
+pub mod Laying
+pub mod Dealing
+pub mod StoredBlocks
+pub mod ListBytes

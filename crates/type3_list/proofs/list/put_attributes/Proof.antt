@@ -1,0 +1,39 @@
+-- `list::put_attributes` meets its contract. Assumes nothing.
+use mathlib.Core.Path.{refl}
+use mathlib.Core.List.{[], _∷_}
+use borrow.Author.Needs.{needs}
+use Rattle.type3_list.specs.Views.Listing.{attributeBlock}
+use Rattle.type3_list.proofs.Attributes.{length-attribute-block}
+use Rattle.type3_list.proofs.Laying.{lay-command}
+use Rattle.type3_list.proofs.list.put_attributes.Statement.{statement}
+use Rattle.type3_list.proofs.list.put_attributes.Tie as tie
+
+returns : tie.Need-returns
+returns c =
+    let at-block = c .before .before in
+    let at-names = at-block .before .before .before .before in
+    let at-arg = at-names .before .before in
+    let at-opening = at-arg .before .before .before in
+    let at-start = at-opening .before .before .before .before in
+    let a = at-start .args in
+    let opened = at-opening .put-opening in
+    let named = at-names .put-names in
+    lay-command (a .number) (0 ∷ []) (attributeBlock (a .image .now) (a .flag) (a .ln)) (a .out .now) (opened .last .1 .1 .0) (named .last .1 .0) _ 1 (search needs) refl
+    (length-attribute-block (a .image .now) (a .flag) (a .ln)) (search needs) (opened .ensures) (named .ensures) (at-block .put-attribute-block .ensures)
+
+pub put-attributes-spec : {M : Type 1} → statement M
+put-attributes-spec =
+    tie.close
+    (tie.spec
+    (λ c κs. search needs)
+    (λ c. search needs)
+    (λ c. search needs)
+    (λ c. search needs)
+    (λ c. search needs)
+    (λ c κs. search needs)
+    (λ c. search needs)
+    (λ c. search needs)
+    (λ c. search needs)
+    (λ c κs. search needs)
+    (λ c. search needs)
+    returns)

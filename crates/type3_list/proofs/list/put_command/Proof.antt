@@ -1,0 +1,42 @@
+-- `list::put_command` meets its contract. Assumes nothing.
+use mathlib.Core.Path.{refl}
+use borrow.Author.Needs.{needs}
+use lib.ListN.{length}
+use Rattle.type3_list.specs.Views.Blocks.{blocksBytes}
+use Rattle.type3_list.proofs.MessageBlocks.{length-blocks}
+use Rattle.type3_list.proofs.Laying.{lay-command}
+use Rattle.type3_list.proofs.list.put_command.Statement.{statement}
+use Rattle.type3_list.proofs.list.put_command.Tie as tie
+
+returns : tie.Need-returns
+returns c =
+    let at-blocks = c .before .before in
+    let at-names = at-blocks .before .before .before .before in
+    let at-opening = at-names .before .before .before .before in
+    let at-known = at-opening .before .before in
+    let at-start = at-known .before .before .before in
+    let a = at-start .args in
+    let m = a .message .now in
+    let bs = a .blocks .now in
+    let opened = at-opening .put-opening in
+    let named = at-names .put-names in
+    lay-command (a .number) bs (blocksBytes m bs) (a .out .now) (opened .last .1 .1 .0) (named .last .1 .0) _ (length bs)
+    (search needs) refl (length-blocks m bs) (search needs) (opened .ensures) (named .ensures) (at-blocks .put-blocks .ensures)
+
+pub put-command-spec : {M : Type 1} → statement M
+put-command-spec =
+    tie.close
+    (tie.spec
+    (λ c. search needs)
+    (λ c. search needs)
+    (λ c κs. search needs)
+    (λ c. search needs)
+    (λ c. search needs)
+    (λ c. search needs)
+    (λ c κs. search needs)
+    (λ c. search needs)
+    (λ c. search needs)
+    (λ c. search needs)
+    (λ c κs. search needs)
+    (λ c. search needs)
+    returns)

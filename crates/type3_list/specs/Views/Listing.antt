@@ -1,0 +1,69 @@
+-- The list as the code lays it: its commands, and what laying them asks.
+-- Assumes nothing.
+use mathlib.Core.List.{List, [], _∷_, _++_}
+use Prim.Native.Nat.{ℕ, zero, suc, _+_, _*_, _/_, _%_, _<_, _≤_}
+use lib.ListN.{length, take, drop}
+use Rattle.tag.specs.Bytes.{byte}
+use Rattle.type3.specs.Attributes.{steadySum}
+use Rattle.type3.specs.Update.{lnSum}
+use Rattle.type3.specs.Codec.{commandBytes}
+use Rattle.type3_list.specs.Views.Blocks.{blocksBytes, Chosen}
+
+-- block 0 with this WriteFlag, this Ln and this checksum, all else as it is
+abbrev pub attributeBlockBy : List ℕ → ℕ → ℕ → ℕ → List ℕ
+attributeBlockBy i flag n s =
+    byte i 0
+    ∷ byte i 1
+    ∷ byte i 2
+    ∷ byte i 3
+    ∷ byte i 4
+    ∷ byte i 5
+    ∷ byte i 6
+    ∷ byte i 7
+    ∷ byte i 8
+    ∷ flag
+    ∷ byte i 10
+    ∷ n / 65536
+    ∷ n / 256 % 256
+    ∷ n % 256
+    ∷ s / 256
+    ∷ s % 256
+    ∷ []
+
+-- block 0 with this WriteFlag and this Ln, and its checksum
+unfoldable pub attributeBlock : List ℕ → ℕ → ℕ → List ℕ
+attributeBlock i flag n = attributeBlockBy i flag n (steadySum i + flag + lnSum n)
+
+abbrev pub attributeCommand : List ℕ → List ℕ → ℕ → ℕ → List ℕ
+attributeCommand number i flag n = commandBytes number (0 ∷ []) (attributeBlock i flag n)
+
+-- the command for some of the message's blocks
+abbrev pub messageCommand : List ℕ → List ℕ → List ℕ → List ℕ
+messageCommand number m bs = commandBytes number bs (blocksBytes m bs)
+
+-- the first t commands for the blocks bs, w to a command, the last taking what remains
+unfoldable pub messageCommands : List ℕ → List ℕ → ℕ → List ℕ → ℕ → List ℕ
+messageCommands number m w bs zero = []
+messageCommands number m w bs (suc t) = messageCommands number m w bs t ++ messageCommand number m (take w (drop (w * t) bs))
+
+-- the list: block 0 shut, the blocks bs of the message, block 0 opened
+abbrev pub listAs : List ℕ → List ℕ → List ℕ → ℕ → ℕ → ℕ → List ℕ → List ℕ
+listAs number i m ln w t bs =
+    attributeCommand number i 0x0F ln ++ messageCommands number m w bs t ++ attributeCommand number i 0x00 (length m)
+
+-- k blocks dealt out to t commands, w to a command
+pub record Dealt (k w t : ℕ) : Type 0 where
+  pub few : k ≤ 255
+  pub some-width : 0 < w
+  pub most-width : w ≤ 8
+  pub enough : k ≤ w * t
+  pub none-idle : w * t < k + w
+  pub most : t ≤ k
+
+-- the list can be made, in so much room
+pub record Listing (i m : List ℕ) (ln w t : ℕ) (bs : List ℕ) (room : ℕ) : Type 0 where
+  pub block : 16 ≤ length i
+  pub small : ln < 65536
+  pub chosen : Chosen m bs
+  pub dealt : Dealt (length bs) w t
+  pub fits : 62 + 13 * t + 18 * length bs ≤ room

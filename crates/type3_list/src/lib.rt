@@ -1,0 +1,4 @@
+// The list of write commands for a Type 3 tag, laid from the blocks to write.
+
+mod blocks;
+pub mod list;

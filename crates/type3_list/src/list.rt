@@ -1,0 +1,161 @@
+// The list of write commands, laid straight into the caller's buffer: block 0 shut, then the blocks to write, as many to a command as
+// it may store, then block 0 with its new bytes.
+
+use crate::blocks;
+use tag::numbers;
+use tag::slices;
+use type3::commands;
+use type3::names;
+use type3::read;
+ghost use mathlib.Core.Path.{_≡_};
+ghost use mathlib.Core.List.{[], _∷_, _++_};
+ghost use Prim.Native.Nat.{_+_, _*_, _<_, _≤_};
+ghost use lib.ListN.{length, drop};
+ghost use Rattle.type3.specs.Codec.{namesBytes, opening};
+ghost use Rattle.type3_list.specs.Views.Blocks.{Chosen};
+ghost use Rattle.type3_list.specs.Views.Listing.{attributeBlock, attributeCommand, messageCommand, messageCommands, listAs, Dealt, Listing};
+
+// Where the command for block 0 has its data.
+const ATTRIBUTE_DATA: usize = commands::FRONT + names::LENGTH;
+
+// The bytes of the command for block 0.
+pub const ATTRIBUTE_COMMAND: usize = commands::FRONT + commands::PER_BLOCK;
+
+// ---- the parts of a command
+
+// The bytes up to the block count, and the count.
+fn put_opening(number: [u8; 8], count: usize, out: &mut [u8])
+    requires { ⌜ (count < 256) × (13 ≤ length (now out)) ⌝ }
+    ensures { λ _. ⌜ now (out .exit) ≡ (opening number ++ (count ∷ [])) ++ drop 13 (now (out .entry)) ⌝ }
+{
+    let front = commands::opening(number, count as u8);
+    bytes::copy(&front, out);
+}
+
+// The names of the blocks.
+fn put_names(blocks: &[u8], out: &mut [u8])
+    requires { ⌜ 2 * length (now blocks) ≤ length (now out) ⌝ }
+    ensures { λ _. ⌜ now (out .exit) ≡ namesBytes (now (blocks .entry)) ++ drop (2 * length (now (blocks .entry))) (now (out .entry)) ⌝ }
+{
+    let mut j = 0usize;
+    while j < blocks.len() {
+        let two = names::name(blocks[j]);
+        out[names::LENGTH * j] = two[0];
+        out[names::LENGTH * j + 1] = two[1];
+        j += 1;
+    }
+}
+
+// Block 0 with this WriteFlag and this Ln, and its checksum; all else as the image has it.
+fn put_attribute_block(image: &[u8], flag: u8, ln: usize, out: &mut [u8])
+    requires { ⌜ (16 ≤ length (now image)) × (ln < 65536) × (16 ≤ length (now out)) ⌝ }
+    ensures { λ _. ⌜ now (out .exit) ≡ attributeBlock (now (image .entry)) flag ln ++ drop 16 (now (out .entry)) ⌝ }
+{
+    let high = ln / 65536;
+    let mid = ln / 256 % 256;
+    let low = ln % 256;
+    let sum = numbers::sum(image, read::WRITE_FLAG) as usize
+        + numbers::wide(image[read::RW_FLAG])
+        + numbers::wide(flag)
+        + high
+        + mid
+        + low;
+    let block = [
+        image[0],
+        image[1],
+        image[2],
+        image[3],
+        image[4],
+        image[5],
+        image[6],
+        image[7],
+        image[8],
+        flag,
+        image[read::RW_FLAG],
+        high as u8,
+        mid as u8,
+        low as u8,
+        (sum / 256) as u8,
+        (sum % 256) as u8,
+    ];
+    bytes::copy(&block, out);
+}
+
+// ---- the commands
+
+// Writes block 0 with this WriteFlag and this Ln.
+fn put_attributes(image: &[u8], number: [u8; 8], flag: u8, ln: usize, out: &mut [u8])
+    requires { ⌜ (16 ≤ length (now image)) × (ln < 65536) × (31 ≤ length (now out)) ⌝ }
+    ensures { λ _. ⌜ now (out .exit) ≡ attributeCommand number (now (image .entry)) flag ln ++ drop 31 (now (out .entry)) ⌝ }
+{
+    put_opening(number, 1, out);
+    put_names(&[0u8], &mut out[commands::FRONT..]);
+    put_attribute_block(image, flag, ln, &mut out[ATTRIBUTE_DATA..]);
+}
+
+// Writes the blocks, which one command may store.
+fn put_command(message: &[u8], number: [u8; 8], blocks: &[u8], out: &mut [u8])
+    requires { ⌜ Chosen (now message) (now blocks) × (0 < length (now blocks)) × (length (now blocks) ≤ 8) × (13 + 18 * length (now blocks) ≤ length (now out)) ⌝ }
+    ensures { λ _. ⌜ now (out .exit) ≡ messageCommand number (now (message .entry)) (now (blocks .entry)) ++ drop (13 + 18 * length (now (blocks .entry))) (now (out .entry)) ⌝ }
+{
+    let count = blocks.len();
+    let at = commands::FRONT + names::LENGTH * count;
+    put_opening(number, count, out);
+    put_names(blocks, &mut out[commands::FRONT..]);
+    blocks::put_blocks(message, blocks, &mut out[at..]);
+}
+
+// Writes the blocks, `w` to a command, in `turns` commands.
+fn put_commands(
+    message: &[u8],
+    number: [u8; 8],
+    w: usize,
+    turns: usize,
+    blocks: &[u8],
+    out: &mut [u8],
+)
+    requires { ⌜ Chosen (now message) (now blocks) × Dealt (length (now blocks)) w turns × (13 * turns + 18 * length (now blocks) ≤ length (now out)) ⌝ }
+    ensures { λ _. ⌜ now (out .exit) ≡ messageCommands number (now (message .entry)) w (now (blocks .entry)) turns ++ drop (13 * turns + 18 * length (now (blocks .entry))) (now (out .entry)) ⌝ }
+{
+    let mut at = 0usize;
+    let mut skip = 0usize;
+    let mut t = 0usize;
+    while t < turns {
+        let count = numbers::smaller(w, blocks.len() - skip);
+        put_command(message, number, &blocks[skip..skip + count], &mut out[at..]);
+        at += commands::FRONT + commands::PER_BLOCK * count;
+        skip += w;
+        t += 1;
+    }
+}
+
+// ---- the list
+
+// Lays the list: block 0 with WriteFlag 0Fh and Ln as it was, the blocks, block 0 with WriteFlag 00h and the new Ln.
+pub fn put_list(
+    image: &[u8],
+    message: &[u8],
+    number: [u8; 8],
+    ln: usize,
+    w: usize,
+    turns: usize,
+    blocks: &[u8],
+    list: &mut [u8],
+)
+    requires { ⌜ Listing (now image) (now message) ln w turns (now blocks) (length (now list)) ⌝ }
+    ensures { λ _. ⌜ now (list .exit) ≡ listAs number (now (image .entry)) (now (message .entry)) ln w turns (now (blocks .entry)) ++ drop (62 + 13 * turns + 18 * length (now (blocks .entry))) (now (list .entry)) ⌝ }
+{
+    let n = message.len();
+    let k = blocks.len();
+    let last = ATTRIBUTE_COMMAND + commands::FRONT * turns + commands::PER_BLOCK * k;
+    put_attributes(image, number, 0x0F, ln, list);
+    put_commands(
+        message,
+        number,
+        w,
+        turns,
+        blocks,
+        &mut list[ATTRIBUTE_COMMAND..],
+    );
+    put_attributes(image, number, 0x00, n, &mut list[last..]);
+}

@@ -1,2 +1,0 @@
--- The writer of Type 3 tags: the list as its code lays it.
-pub mod Views
