@@ -144,12 +144,12 @@ uint64_t zan_type2_decode(const uint8_t *bytes, size_t bytes_len, uint64_t block
 uint64_t zan_type3_read(const uint8_t *image, size_t image_len, zan_report *report);
 
 /*
- * Fills list with the commands (Update) that write the message on a Type 3 tag; number is the
+ * Fills list with the commands (Update) that write the message on a Type 3 tag; idm is the
  * manufacturer number (IDm) that they carry. Returns the number of commands as its count, or
  * refusal 1 to 5, 7, or 9 to 12. Commands differ in length: see zan_type3_command_len.
  */
 uint64_t zan_type3_write(const uint8_t *image, size_t image_len, const uint8_t *message,
-                         size_t message_len, const uint8_t number[8], uint8_t *list,
+                         size_t message_len, const uint8_t idm[8], uint8_t *list,
                          size_t list_len);
 
 /*
@@ -163,14 +163,14 @@ uint64_t zan_type3_command_len(const uint8_t *list, size_t list_len);
  * number of commands as its count, or refusal 1 to 5, 7, 9 to 11, or 20 to 23.
  */
 uint64_t zan_type3_judge(const uint8_t *image, size_t image_len, const uint8_t *message,
-                         size_t message_len, const uint8_t number[8], const uint8_t *list,
+                         size_t message_len, const uint8_t idm[8], const uint8_t *list,
                          size_t list_len);
 
 /*
  * Does to the image what a Type 3 tag does with one command: stores its blocks, protected or not.
  * Returns 0, or refusal 1 to 5, 7 or 20.
  */
-uint64_t zan_type3_model(uint8_t *image, size_t image_len, const uint8_t number[8],
+uint64_t zan_type3_model(uint8_t *image, size_t image_len, const uint8_t idm[8],
                          const uint8_t *command, size_t command_len);
 
 /*
@@ -179,14 +179,14 @@ uint64_t zan_type3_model(uint8_t *image, size_t image_len, const uint8_t number[
  * refusal 12 or 20.
  */
 uint64_t zan_type3_encode(uint64_t count, const uint64_t blocks[8], const uint8_t data[128],
-                          const uint8_t number[8], uint64_t nbw, uint64_t nmaxb, uint8_t *bytes,
+                          const uint8_t idm[8], uint64_t nbw, uint64_t nmaxb, uint8_t *bytes,
                           size_t bytes_len);
 
 /*
  * Takes one command apart into *count, the front of blocks and the front of data; the rest of both
  * keeps its contents. Returns 0, or refusal 20.
  */
-uint64_t zan_type3_decode(const uint8_t *bytes, size_t bytes_len, const uint8_t number[8],
+uint64_t zan_type3_decode(const uint8_t *bytes, size_t bytes_len, const uint8_t idm[8],
                           uint64_t nbw, uint64_t nmaxb, uint64_t *count, uint64_t blocks[8],
                           uint8_t data[128]);
 

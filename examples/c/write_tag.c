@@ -66,12 +66,12 @@ static int type3(void)
 {
     uint8_t image[14 * 16] = {0x10, 4, 1, 0, 13, 0, 0, 0, 0, 0, 1, 0, 0, 0, 0, 0x23};
     uint8_t list[ZAN_TYPE3_LIST_MAX];
-    static const uint8_t number[8] = {0x01, 0x2E, 0x45, 0x76, 0xBA, 0x12, 0x34, 0x56};
+    static const uint8_t idm[8] = {0x01, 0x2E, 0x45, 0x76, 0xBA, 0x12, 0x34, 0x56};
     zan_report report;
     uint64_t answer, count;
     size_t at = 0;
 
-    answer = zan_type3_write(image, sizeof image, message, sizeof message, number, list,
+    answer = zan_type3_write(image, sizeof image, message, sizeof message, idm, list,
                              sizeof list);
     if (ZAN_REFUSAL(answer))
         return refused("write", answer);
@@ -85,7 +85,7 @@ static int type3(void)
         if (ZAN_REFUSAL(answer))
             return refused("length", answer);
         len = ZAN_COUNT(answer);
-        answer = zan_type3_model(image, sizeof image, number, list + at, len);
+        answer = zan_type3_model(image, sizeof image, idm, list + at, len);
         if (ZAN_REFUSAL(answer))
             return refused("model", answer);
         answer = zan_type3_read(image, sizeof image, &report);

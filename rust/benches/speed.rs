@@ -18,7 +18,7 @@ const RUNS: usize = 301;
 /// A run is to take about this long.
 const NANOSECONDS: f64 = 50_000.0;
 
-const NUMBER: [u8; 8] = [0x01, 0x2E, 0x45, 0x76, 0xBA, 0x12, 0x34, 0x56];
+const IDM: [u8; 8] = [0x01, 0x2E, 0x45, 0x76, 0xBA, 0x12, 0x34, 0x56];
 
 /// The buffers that a call may write to.
 struct Buffers {
@@ -145,11 +145,11 @@ fn type2(tag: &str, image: &[u8], message: &[u8]) {
 
 fn type3(tag: &str, image: &[u8], message: &[u8]) {
     let mut list = vec![0; type3::LIST_MAX];
-    let count = type3::write(image, message, &NUMBER, &mut list).expect("the message fits");
+    let count = type3::write(image, message, &IDM, &mut list).expect("the message fits");
     let size = type3::commands(&list).take(count).map(<[u8]>::len).sum();
     list.truncate(size);
     let command = type3::commands(&list).nth(count / 2).expect("a command");
-    assert_eq!(type3::judge(image, message, &NUMBER, &list), Ok(count));
+    assert_eq!(type3::judge(image, message, &IDM, &list), Ok(count));
 
     compare(
         tag,
@@ -168,14 +168,14 @@ fn type3(tag: &str, image: &[u8], message: &[u8]) {
         image,
         &|b| {
             let list = &mut b.list;
-            let _ = black_box(type3::write(black_box(image), message, &NUMBER, list));
+            let _ = black_box(type3::write(black_box(image), message, &IDM, list));
         },
         &|b| {
             let list = &mut b.list;
             let _ = black_box(reference::type3::write(
                 black_box(image),
                 message,
-                &NUMBER,
+                &IDM,
                 list,
             ));
         },
@@ -185,13 +185,13 @@ fn type3(tag: &str, image: &[u8], message: &[u8]) {
         "judge",
         image,
         &|_| {
-            let _ = black_box(type3::judge(black_box(image), message, &NUMBER, &list));
+            let _ = black_box(type3::judge(black_box(image), message, &IDM, &list));
         },
         &|_| {
             let _ = black_box(reference::type3::judge(
                 black_box(image),
                 message,
-                &NUMBER,
+                &IDM,
                 &list,
             ));
         },
@@ -202,11 +202,11 @@ fn type3(tag: &str, image: &[u8], message: &[u8]) {
         image,
         &|b| {
             let image = black_box(&mut b.image);
-            let _ = black_box(type3::model(image, &NUMBER, command));
+            let _ = black_box(type3::model(image, &IDM, command));
         },
         &|b| {
             let image = black_box(&mut b.image);
-            let _ = black_box(reference::type3::model(image, &NUMBER, command));
+            let _ = black_box(reference::type3::model(image, &IDM, command));
         },
     );
 }

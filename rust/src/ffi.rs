@@ -53,7 +53,7 @@ mod c {
             image_len: usize,
             message: *const u8,
             message_len: usize,
-            number: *const u8,
+            idm: *const u8,
             list: *mut u8,
             list_len: usize,
         ) -> u64;
@@ -63,14 +63,14 @@ mod c {
             image_len: usize,
             message: *const u8,
             message_len: usize,
-            number: *const u8,
+            idm: *const u8,
             list: *const u8,
             list_len: usize,
         ) -> u64;
         pub fn zan_type3_model(
             image: *mut u8,
             image_len: usize,
-            number: *const u8,
+            idm: *const u8,
             command: *const u8,
             command_len: usize,
         ) -> u64;
@@ -78,7 +78,7 @@ mod c {
             count: u64,
             blocks: *const u64,
             data: *const u8,
-            number: *const u8,
+            idm: *const u8,
             nbw: u64,
             nmaxb: u64,
             bytes: *mut u8,
@@ -87,7 +87,7 @@ mod c {
         pub fn zan_type3_decode(
             bytes: *const u8,
             bytes_len: usize,
-            number: *const u8,
+            idm: *const u8,
             nbw: u64,
             nmaxb: u64,
             count: *mut u64,
@@ -168,7 +168,7 @@ pub fn type3_read(image: &[u8], out: &mut [u64; 5]) -> u64 {
     unsafe { c::zan_type3_read(image.as_ptr(), image.len(), out.as_mut_ptr()) }
 }
 
-pub fn type3_write(image: &[u8], message: &[u8], number: &[u8; 8], list: &mut [u8]) -> u64 {
+pub fn type3_write(image: &[u8], message: &[u8], idm: &[u8; 8], list: &mut [u8]) -> u64 {
     // SAFETY: pointers and lengths come from slices and references that live through the call.
     unsafe {
         c::zan_type3_write(
@@ -176,7 +176,7 @@ pub fn type3_write(image: &[u8], message: &[u8], number: &[u8; 8], list: &mut [u
             image.len(),
             message.as_ptr(),
             message.len(),
-            number.as_ptr(),
+            idm.as_ptr(),
             list.as_mut_ptr(),
             list.len(),
         )
@@ -189,7 +189,7 @@ pub fn type3_command_len(list: &[u8]) -> u64 {
     unsafe { c::zan_type3_command_len(list.as_ptr(), list.len()) }
 }
 
-pub fn type3_judge(image: &[u8], message: &[u8], number: &[u8; 8], list: &[u8]) -> u64 {
+pub fn type3_judge(image: &[u8], message: &[u8], idm: &[u8; 8], list: &[u8]) -> u64 {
     // SAFETY: pointers and lengths come from slices and references that live through the call.
     unsafe {
         c::zan_type3_judge(
@@ -197,7 +197,7 @@ pub fn type3_judge(image: &[u8], message: &[u8], number: &[u8; 8], list: &[u8]) 
             image.len(),
             message.as_ptr(),
             message.len(),
-            number.as_ptr(),
+            idm.as_ptr(),
             list.as_ptr(),
             list.len(),
         )
@@ -205,13 +205,13 @@ pub fn type3_judge(image: &[u8], message: &[u8], number: &[u8; 8], list: &[u8]) 
 }
 
 #[inline]
-pub fn type3_model(image: &mut [u8], number: &[u8; 8], command: &[u8]) -> u64 {
+pub fn type3_model(image: &mut [u8], idm: &[u8; 8], command: &[u8]) -> u64 {
     // SAFETY: pointers and lengths come from slices and references that live through the call.
     unsafe {
         c::zan_type3_model(
             image.as_mut_ptr(),
             image.len(),
-            number.as_ptr(),
+            idm.as_ptr(),
             command.as_ptr(),
             command.len(),
         )
@@ -220,7 +220,7 @@ pub fn type3_model(image: &mut [u8], number: &[u8; 8], command: &[u8]) -> u64 {
 
 pub fn type3_encode(
     (count, blocks, data): (u64, &[u64; 8], &[u8; 128]),
-    number: &[u8; 8],
+    idm: &[u8; 8],
     nbw: u64,
     nmaxb: u64,
     bytes: &mut [u8],
@@ -231,7 +231,7 @@ pub fn type3_encode(
             count,
             blocks.as_ptr(),
             data.as_ptr(),
-            number.as_ptr(),
+            idm.as_ptr(),
             nbw,
             nmaxb,
             bytes.as_mut_ptr(),
@@ -242,7 +242,7 @@ pub fn type3_encode(
 
 pub fn type3_decode(
     bytes: &[u8],
-    number: &[u8; 8],
+    idm: &[u8; 8],
     nbw: u64,
     nmaxb: u64,
     (count, blocks, data): (&mut u64, &mut [u64; 8], &mut [u8; 128]),
@@ -252,7 +252,7 @@ pub fn type3_decode(
         c::zan_type3_decode(
             bytes.as_ptr(),
             bytes.len(),
-            number.as_ptr(),
+            idm.as_ptr(),
             nbw,
             nmaxb,
             count,

@@ -1,6 +1,6 @@
 //! Type 3 tags: blocks of 16 bytes, images of 16 to 4,096 bytes.
 //!
-//! `number` is the eight-byte manufacturer number that commands carry.
+//! `idm` is the eight-byte manufacturer number (IDm) that commands carry.
 
 use crate::{answer, ffi, report, Refusal, Report};
 
@@ -160,12 +160,12 @@ pub fn read(image: &[u8]) -> Result<Report, Refusal> {
 ///
 /// let mut image = [0; 224];
 /// image[..16].copy_from_slice(&[16, 4, 1, 0, 13, 0, 0, 0, 0, 0, 1, 0, 0, 35, 0, 0x46]);
-/// let number = [1, 2, 3, 4, 5, 6, 7, 8];
+/// let idm = [1, 2, 3, 4, 5, 6, 7, 8];
 /// let mut list = [0; type3::LIST_MAX];
-/// assert_eq!(type3::write(&image, &[7; 35], &number, &mut list), Ok(5));
+/// assert_eq!(type3::write(&image, &[7; 35], &idm, &mut list), Ok(5));
 ///
 /// for command in type3::commands(&list).take(5) {
-///     type3::model(&mut image, &number, command)?;
+///     type3::model(&mut image, &idm, command)?;
 /// }
 /// let report = type3::read(&image)?;
 /// assert_eq!(report.message(&image, &[]), [7; 35]);
@@ -174,10 +174,10 @@ pub fn read(image: &[u8]) -> Result<Report, Refusal> {
 pub fn write(
     image: &[u8],
     message: &[u8],
-    number: &[u8; 8],
+    idm: &[u8; 8],
     list: &mut [u8],
 ) -> Result<usize, Refusal> {
-    answer(ffi::type3_write(image, message, number, list))
+    answer(ffi::type3_write(image, message, idm, list))
 }
 
 /// Judges whether a list, made by anybody, writes `message` safely; answers how many commands it
@@ -197,13 +197,8 @@ pub fn write(
 /// let refusal = type3::judge(&image, &[1; 35], &[0; 8], &[]).unwrap_err();
 /// assert_eq!(refusal.number, RefusalNumber::Unfinished);
 /// ```
-pub fn judge(
-    image: &[u8],
-    message: &[u8],
-    number: &[u8; 8],
-    list: &[u8],
-) -> Result<usize, Refusal> {
-    answer(ffi::type3_judge(image, message, number, list))
+pub fn judge(image: &[u8], message: &[u8], idm: &[u8; 8], list: &[u8]) -> Result<usize, Refusal> {
+    answer(ffi::type3_judge(image, message, idm, list))
 }
 
 /// The tag as a model: stores what one command says, protected or not.
@@ -217,17 +212,17 @@ pub fn judge(
 ///
 /// let mut image = [0; 224];
 /// image[..16].copy_from_slice(&[16, 4, 1, 0, 13, 0, 0, 0, 0, 0, 1, 0, 0, 35, 0, 0x46]);
-/// let number = [1, 2, 3, 4, 5, 6, 7, 8];
+/// let idm = [1, 2, 3, 4, 5, 6, 7, 8];
 /// let mut bytes = [0; type3::COMMAND_MAX];
 /// let command = Command::new(&[(3, [9; 16])]).unwrap();
-/// let size = type3::encode(&command, &number, 1, 13, &mut bytes)?;
-/// type3::model(&mut image, &number, &bytes[..size])?;
+/// let size = type3::encode(&command, &idm, 1, 13, &mut bytes)?;
+/// type3::model(&mut image, &idm, &bytes[..size])?;
 /// assert_eq!(image[48..64], [9; 16]);
 /// # Ok::<(), zanfirotta::Refusal>(())
 /// ```
 #[inline]
-pub fn model(image: &mut [u8], number: &[u8; 8], command: &[u8]) -> Result<(), Refusal> {
-    answer(ffi::type3_model(image, number, command)).map(|_| ())
+pub fn model(image: &mut [u8], idm: &[u8; 8], command: &[u8]) -> Result<(), Refusal> {
+    answer(ffi::type3_model(image, idm, command)).map(|_| ())
 }
 
 /// Puts a command into the front of `bytes`; answers how many bytes it has.
@@ -239,24 +234,24 @@ pub fn model(image: &mut [u8], number: &[u8; 8], command: &[u8]) -> Result<(), R
 /// ```
 /// use zanfirotta::type3::{self, Command};
 ///
-/// let number = [1, 2, 3, 4, 5, 6, 7, 8];
+/// let idm = [1, 2, 3, 4, 5, 6, 7, 8];
 /// let mut bytes = [0; type3::COMMAND_MAX];
 /// let command = Command::new(&[(1, [7; 16]), (2, [8; 16])]).unwrap();
-/// let size = type3::encode(&command, &number, 4, 13, &mut bytes)?;
+/// let size = type3::encode(&command, &idm, 4, 13, &mut bytes)?;
 /// assert_eq!(size, 13 + 18 * 2);
 /// assert_eq!(bytes[9..17], [0x01, 0x09, 0x00, 2, 0x80, 1, 0x80, 2]);
-/// assert_eq!(type3::decode(&bytes[..size], &number, 4, 13)?, command);
+/// assert_eq!(type3::decode(&bytes[..size], &idm, 4, 13)?, command);
 /// # Ok::<(), zanfirotta::Refusal>(())
 /// ```
 pub fn encode(
     command: &Command,
-    number: &[u8; 8],
+    idm: &[u8; 8],
     nbw: u64,
     nmaxb: u64,
     bytes: &mut [u8],
 ) -> Result<usize, Refusal> {
     let parts = (command.count, &command.blocks, &command.data);
-    answer(ffi::type3_encode(parts, number, nbw, nmaxb, bytes))
+    answer(ffi::type3_encode(parts, idm, nbw, nmaxb, bytes))
 }
 
 /// Reads one command.
@@ -271,9 +266,9 @@ pub fn encode(
 /// let refusal = type3::decode(&[0x08], &[0; 8], 1, 13).unwrap_err();
 /// assert_eq!(refusal.number, RefusalNumber::MalformedCommand);
 /// ```
-pub fn decode(bytes: &[u8], number: &[u8; 8], nbw: u64, nmaxb: u64) -> Result<Command, Refusal> {
+pub fn decode(bytes: &[u8], idm: &[u8; 8], nbw: u64, nmaxb: u64) -> Result<Command, Refusal> {
     let mut command = Command::EMPTY;
     let parts = (&mut command.count, &mut command.blocks, &mut command.data);
-    answer(ffi::type3_decode(bytes, number, nbw, nmaxb, parts))?;
+    answer(ffi::type3_decode(bytes, idm, nbw, nmaxb, parts))?;
     Ok(command)
 }

@@ -74,32 +74,32 @@ impl Type for Type2 {
 }
 
 struct Type3 {
-    number: [u8; 8],
+    idm: [u8; 8],
 }
 
 impl Type for Type3 {
     fn write(&self, image: &[u8], message: &[u8]) -> Vec<u8> {
         let mut list = vec![0; type3::LIST_MAX];
-        let count = type3::write(image, message, &self.number, &mut list).unwrap();
+        let count = type3::write(image, message, &self.idm, &mut list).unwrap();
         let size = type3::commands(&list).take(count).map(<[u8]>::len).sum();
         list.truncate(size);
         list
     }
 
     fn reference_list(&self, image: &[u8], message: &[u8]) -> Vec<u8> {
-        lists3::our_bytes(image, message, &self.number)
+        lists3::our_bytes(image, message, &self.idm)
     }
 
     fn foreign(&self, rng: &mut Rng, image: &[u8], message: &[u8]) -> Vec<u8> {
-        lists3::any(rng, image, message, &self.number)
+        lists3::any(rng, image, message, &self.idm)
     }
 
     fn judge(&self, image: &[u8], message: &[u8], list: &[u8]) -> Option<usize> {
-        type3::judge(image, message, &self.number, list).ok()
+        type3::judge(image, message, &self.idm, list).ok()
     }
 
     fn model(&self, image: &mut [u8], command: &[u8]) -> bool {
-        type3::model(image, &self.number, command).is_ok()
+        type3::model(image, &self.idm, command).is_ok()
     }
 
     fn split(&self, list: &[u8]) -> Vec<Vec<u8>> {
@@ -235,7 +235,7 @@ fn type2(lists: u64) {
 
 fn type3(lists: u64) {
     let tag = |rng: &mut Rng| Type3 {
-        number: rng.next().to_be_bytes(),
+        idm: rng.next().to_be_bytes(),
     };
     let image = |rng: &mut Rng| match rng.below(20) {
         0 | 1 => tags3::default(),

@@ -16,8 +16,8 @@ mod type3;
 use std::fmt::Debug;
 
 use common::{hex, Lent, Rng};
-use reference::{Kind, ReadAnswer};
-use zanfirotta::{Content, Refusal, Report};
+use reference::ReadAnswer;
+use zanfirotta::{Refusal, Report};
 
 /// Cases of each operation in the normal run, and in the long one (`-- --ignored`).
 const SUBSET: u64 = 20_000;
@@ -78,10 +78,10 @@ fn plain<T>(answer: Result<T, Refusal>) -> Result<T, reference::Refusal> {
 
 fn read_answer(report: Report) -> ReadAnswer {
     ReadAnswer {
-        kind: match report.content {
-            Content::Message => Kind::Message,
-            Content::Empty => Kind::Empty,
-            Content::BeingWritten => Kind::BeingWritten,
+        content: match report.content {
+            zanfirotta::Content::Message => reference::Content::Message,
+            zanfirotta::Content::Empty => reference::Content::Empty,
+            zanfirotta::Content::BeingWritten => reference::Content::BeingWritten,
         },
         address: report.address as u64,
         length: report.length as u64,
@@ -126,9 +126,9 @@ fn same_out(
     let answer = call((&mut out[1..6]).try_into().unwrap());
     let mut wanted = before;
     if let Ok(read) = expected {
-        let (kind, interrupted) = (read.kind as u64, read.interrupted as u64);
+        let (content, interrupted) = (read.content as u64, read.interrupted as u64);
         let writable = read.writable as u64;
-        wanted[1..6].copy_from_slice(&[kind, read.address, read.length, interrupted, writable]);
+        wanted[1..6].copy_from_slice(&[content, read.address, read.length, interrupted, writable]);
     }
     same(index, &answer, &number(&expected.map(|_| 0)), &[]);
     same(index, &out, &wanted, &[]);

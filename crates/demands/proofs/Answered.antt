@@ -6,8 +6,8 @@ use mathlib.Core.List.{List}
 use Prim.Native.Nat.{ℕ}
 use lib.Dec.{leb}
 use lib.ListN.{length}
-use Rattle.tag.specs.declared.What as code
-use Rattle.tag.specs.declared.What.the-variants as what
+use Rattle.tag.specs.declared.Content as code
+use Rattle.tag.specs.declared.Content.the-variants as content
 use Rattle.tag.specs.declared.ReadAnswer as read
 use Rattle.tag.specs.declared.ReadAnswer.the-variants as reading
 use Rattle.tag.specs.declared.CountAnswer as count
@@ -19,9 +19,9 @@ use Rattle.tag.specs.declared.ModelAnswer.the-variants as storing
 use Rattle.tag.specs.Bytes.{overwrite}
 use Rattle.tag.specs.Refusals.{Refusal, plain, positioned, refusalAt, malformed-command, unfinished}
 use Rattle.tag.specs.Reading.{message, refusal, answer}
-use Rattle.tag.specs.TagType.{Output, withheld, output, outputInto}
+use Rattle.tag.specs.TagType.{Output, refused-output, output, outputInto}
 use Rattle.tag.specs.Judge.{accepted, refused}
-use Rattle.tag.specs.Answers.{Returned, refuses, gives, refusesOne, whatOf, readAs, countOf, countAs, verdictAs, modelAs}
+use Rattle.tag.specs.Answers.{Returned, refuses, gives, refusesOne, contentOf, readAs, countOf, countAs, verdictAs, modelAs}
 use Rattle.tag.specs.Contracts.{PutOut}
 use Rattle.tag.proofs.Logic.{nope}
 use Rattle.demands.specs.Code2.{Tells}
@@ -42,20 +42,20 @@ stored-is storing.Stored e = refl
 
 -- ---- a refusal by its number
 
-number : Refusal → ℕ
-number (plain r) = r
-number (positioned r p) = r
+idm : Refusal → ℕ
+idm (plain r) = r
+idm (positioned r p) = r
 
-number-of : (r : ℕ) → number (refusalAt r 0) ≡ r
-unfolding number
+number-of : (r : ℕ) → idm (refusalAt r 0) ≡ r
+unfolding idm
 number-of r = go (leb malformed-command r && leb r unfinished) refl
   where
-    go : (b : Bool) → leb malformed-command r && leb r unfinished ≡ b → number (refusalAt r 0) ≡ r
+    go : (b : Bool) → leb malformed-command r && leb r unfinished ≡ b → idm (refusalAt r 0) ≡ r
     go true q = rw q
     go false q = rw q
 
 pub same-refusal : {A : Type 0} (r s : ℕ) → refusesOne {A = A} r ≡ refusesOne s → r ≡ s
-same-refusal r s e = let q : refusalAt r 0 ≡ refusalAt s 0 = cc in sym (number-of r) ∙ ap number q ∙ number-of s
+same-refusal r s e = let q : refusalAt r 0 ≡ refusalAt s 0 = cc in sym (number-of r) ∙ ap idm q ∙ number-of s
 
 -- ---- writing and encoding
 
@@ -63,9 +63,9 @@ pub counted-is : (r : count.CountAnswer) (n : ℕ) → countAs r ≡ gives n →
 counted-is (counted.Refused f) n e = absurd (nope (cc))
 counted-is (counted.Count k) n e = let q : k ≡ n = cc in ap counted.Count q
 
-pub uncounted-is : (r : count.CountAnswer) (n : ℕ) → countAs r ≡ refusesOne n → r ≡ counted.Refused n
-uncounted-is (counted.Refused f) n e = ap counted.Refused (same-refusal f n e)
-uncounted-is (counted.Count k) n e = absurd (nope (cc))
+pub refused-count-is : (r : count.CountAnswer) (n : ℕ) → countAs r ≡ refusesOne n → r ≡ counted.Refused n
+refused-count-is (counted.Refused f) n e = ap counted.Refused (same-refusal f n e)
+refused-count-is (counted.Count k) n e = absurd (nope (cc))
 
 module _ (o : ℕ → Output) (buffer out : List ℕ) where
   -- what is put out is counted, and laid over the buffer's front
@@ -78,7 +78,7 @@ module _ (o : ℕ → Output) (buffer out : List ℕ) where
   put-counted n (a, b) = go (o (length buffer)) refl
     where
       go : (x : Output) → o (length buffer) ≡ x → (all : List ℕ) × (o (length buffer) ≡ output n all) × (out ≡ overwrite all buffer)
-      go (withheld r) q = let z : gives n ≡ refusesOne r = a ∙ ap countOf q in absurd (nope (cc))
+      go (refused-output r) q = let z : gives n ≡ refusesOne r = a ∙ ap countOf q in absurd (nope (cc))
       go (output k all) q =
           let z : gives n ≡ gives k = a ∙ ap countOf q in
           let k-n : k ≡ n = cc in
@@ -90,14 +90,14 @@ pub unread-is : (r : read.ReadAnswer) (n : ℕ) → readAs r ≡ refusal n → r
 unread-is (reading.Refused f) n e = let q : f ≡ n = cc in ap reading.Refused q
 unread-is (reading.Reads p) n e = absurd (nope (cc))
 
-message-is : (k : code.What) → whatOf k ≡ message → k ≡ what.Message
-message-is what.Message e = refl
-message-is what.Empty e = absurd (nope (cc))
-message-is what.BeingWritten e = absurd (nope (cc))
+message-is : (k : code.Content) → contentOf k ≡ message → k ≡ content.Message
+message-is content.Message e = refl
+message-is content.Empty e = absurd (nope (cc))
+message-is content.BeingWritten e = absurd (nope (cc))
 
 pub told : (m : List ℕ) (r : read.ReadAnswer) (part : List ℕ) (a n : ℕ) (b w : Bool) → readAs r ≡ answer message a n b w → n ≡ length m → part ≡ m → Tells m r part
 told m (reading.Refused f) part a n b w e l s = absurd (nope (cc))
 told m (reading.Reads p) part a n b w e l s =
-    let k : whatOf (p .what) ≡ message = cc in
+    let k : contentOf (p .content) ≡ message = cc in
     let z : p .length ≡ n = cc in
-    record { report = p; answered = refl; a-message = message-is (p .what) k; its-length = z ∙ l; its-bytes = s }
+    record { report = p; answered = refl; a-message = message-is (p .content) k; its-length = z ∙ l; its-bytes = s }

@@ -16,9 +16,9 @@ use Rattle.tag.specs.declared.ModelAnswer as model-answer
 use Rattle.tag.specs.declared.ModelAnswer.the-variants as storing
 use Rattle.tag.specs.Bytes.{overwrite}
 use Rattle.tag.specs.Plan.{list}
-use Rattle.tag.specs.TagType.{TagType, Output, withheld, output, outputInto, fitted, writing, written, writeBy, write, pieces, commands}
+use Rattle.tag.specs.TagType.{TagType, Output, refused-output, output, outputInto, fitted, writing, written, writeBy, write, pieces, commands}
 use Rattle.tag.specs.Judge.{accepted, refused, judged}
-use Rattle.tag.specs.Model.{Modelled, unstored, stored, model, imageAfter}
+use Rattle.tag.specs.Model.{Modelled, refused-storing, stored, model, imageAfter}
 use Rattle.tag.specs.Answers.{refusesOne, gives, countOf, countAs, verdictAs, storingOf, modelAs}
 use Rattle.tag.specs.Contracts.{Wrote, Judged, Took}
 use Rattle.tag.proofs.Logic.{nope}
@@ -28,7 +28,7 @@ use Rattle.demands.proofs.Answered.{accepted-is, refused-is, stored-is,
 use Rattle.demands.proofs.Demand2.{fitted-is}
 
 refused-same : (o : Modelled) (j : List ℕ) (f : ℕ) → refusesOne f ≡ storingOf o → imageAfter j o ≡ j
-refused-same (unstored r) j f e = refl
+refused-same (refused-storing r) j f e = refl
 refused-same (stored k) j f e = absurd (nope (cc))
 
 took-none : (T : TagType) (j command : List ℕ) (f : ℕ) (k : List ℕ) → Took T j command (storing.Refused f) k → k ≡ j

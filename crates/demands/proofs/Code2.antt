@@ -16,9 +16,9 @@ use Rattle.tag.specs.declared.CountAnswer.the-variants as counted
 use Rattle.tag.specs.declared.ModelAnswer as model-answer
 use Rattle.tag.specs.declared.ModelAnswer.the-variants as storing
 use Rattle.tag.specs.Refusals.{message-too-long, short-buffer, short-gathering-buffer}
-use Rattle.tag.specs.Reading.{What, message, empty, being-written, Report, Reading, unreadable, reads, answerOf, tooShort, refusal, answer, shown, broken, nothing, holds, heldOf}
+use Rattle.tag.specs.Reading.{Content, message, empty, being-written, Report, Reading, unreadable, reads, answerOf, tooShort, refusal, answer, shown, broken, nothing, holds, heldOf}
 use Rattle.tag.specs.Plan.{Plan, list}
-use Rattle.tag.specs.TagType.{TagType, held, Writing, unwritten, written, writing, listBytes, writeBy, pieces}
+use Rattle.tag.specs.TagType.{TagType, held, Writing, refused-write, written, writing, listBytes, writeBy, pieces}
 use Rattle.tag.specs.Judge.{accepted, judged}
 use Rattle.tag.specs.Cuts.{Ready}
 use Rattle.tag.specs.Answers.{refusesOne, gives, readAs, countOf, countAs}
@@ -31,14 +31,14 @@ use Rattle.demands.specs.ByContract.{Run}
 use Rattle.demands.specs.Code2.{Tells}
 use Rattle.demands.proofs.Demand2 as demand2
 use Rattle.demands.proofs.Demand3 as demand3
-use Rattle.demands.proofs.Answered.{same-refusal, uncounted-is, unread-is, told}
+use Rattle.demands.proofs.Answered.{same-refusal, refused-count-is, unread-is, told}
 use Rattle.demands.proofs.ByContract.{wrote-ours, by-contract}
 
 module _ (T : TagType) where
   -- the answer for a tag that reads, by its gathering buffer
   reads-answer : (i gathering : List ℕ) (r : read.ReadAnswer) → readAs r ≡ answerOf (length gathering) ((T .reading) i) → (p : Report) → (T .reading) i ≡ reads p
       → (b : Bool) → tooShort (length gathering) p ≡ b
-      → readAs r ≡ elim b [ true ↦ refusal short-gathering-buffer | false ↦ answer (p .what) (p .address) (length (p .bytes)) (p .interrupted) (p .writable) ]
+      → readAs r ≡ elim b [ true ↦ refusal short-gathering-buffer | false ↦ answer (p .content) (p .address) (length (p .bytes)) (p .interrupted) (p .writable) ]
   reads-answer i gathering r a p q true t = a ∙ ap (answerOf (length gathering)) q ∙ rw t
   reads-answer i gathering r a p q false t = a ∙ ap (answerOf (length gathering)) q ∙ rw t
 
@@ -50,7 +50,7 @@ module _ (T : TagType) where
       go : r ≡ reading.Refused short-gathering-buffer → (x : Bool) → tooShort (length gathering) p ≡ x → tooShort (length gathering) p ≡ true
       go e true t = t
       go e false t =
-          let z : refusal short-gathering-buffer ≡ answer (p .what) (p .address) (length (p .bytes)) (p .interrupted) (p .writable)
+          let z : refusal short-gathering-buffer ≡ answer (p .content) (p .address) (length (p .bytes)) (p .interrupted) (p .writable)
           = sym (ap readAs e) ∙ reads-answer i gathering r a p q false t in
           absurd (nope (cc))
 
@@ -59,21 +59,21 @@ module _ (T : TagType) where
   counted-ready i m buffer out n (a, b) = go (writing T i m) refl
     where
       go : (w : Writing) → writing T i m ≡ w → Ready T i m
-      go (unwritten r) q = let z : gives n ≡ refusesOne r = a ∙ ap (λ w. countOf (writeBy T (length buffer) i w)) q in absurd (nope (cc))
+      go (refused-write r) q = let z : gives n ≡ refusesOne r = a ∙ ap (λ w. countOf (writeBy T (length buffer) i w)) q in absurd (nope (cc))
       go (written p) q = written-ready T i m p q .0
 
   -- 11 is answered just where writing is refused with it
   pub too-long-answer : (i m buffer out : List ℕ) (r : count.CountAnswer) → Wrote T i m buffer r out
-      → (r ≡ counted.Refused message-too-long) ↔ (writing T i m ≡ unwritten message-too-long)
+      → (r ≡ counted.Refused message-too-long) ↔ (writing T i m ≡ refused-write message-too-long)
   too-long-answer i m buffer out r (a, b) = (
     (λ e. go e (writing T i m) refl),
-    (λ q. uncounted-is r message-too-long (a ∙ ap (λ w. countOf (writeBy T (length buffer) i w)) q)),
+    (λ q. refused-count-is r message-too-long (a ∙ ap (λ w. countOf (writeBy T (length buffer) i w)) q)),
   )
     where
-      go : r ≡ counted.Refused message-too-long → (w : Writing) → writing T i m ≡ w → writing T i m ≡ unwritten message-too-long
-      go e (unwritten f) q =
+      go : r ≡ counted.Refused message-too-long → (w : Writing) → writing T i m ≡ w → writing T i m ≡ refused-write message-too-long
+      go e (refused-write f) q =
           let z : refusesOne {A = ℕ} message-too-long ≡ refusesOne f = sym (ap countAs e) ∙ a ∙ ap (λ w. countOf (writeBy T (length buffer) i w)) q in
-          q ∙ ap unwritten (sym (same-refusal message-too-long f z))
+          q ∙ ap refused-write (sym (same-refusal message-too-long f z))
       go e (written p) q = absurd (by-room (leb (length (listBytes T p i)) (length buffer)) refl)
         where
           z : refusesOne {A = ℕ} message-too-long ≡ countOf (writeBy T (length buffer) i (written p))
@@ -90,12 +90,12 @@ module _ (T : TagType) (L : Laws T) where
     where
       go : (v : Reading) → (T .reading) j ≡ v → Tells m r part
       go (unreadable f) q = let z : broken ≡ holds m = sym (ap heldOf q) ∙ h in absurd (nope (cc))
-      go (reads p) q = by-what (p .what) refl
+      go (reads p) q = by-content (p .content) refl
         where
-          by-what : (k : What) → p .what ≡ k → Tells m r part
-          by-what empty w = let z : nothing ≡ holds m = rw w at (sym (ap heldOf q) ∙ h) in absurd (nope (cc))
-          by-what being-written w = let z : nothing ≡ holds m = rw w at (sym (ap heldOf q) ∙ h) in absurd (nope (cc))
-          by-what message w = by-room (tooShort (length gathering) p) refl
+          by-content : (k : Content) → p .content ≡ k → Tells m r part
+          by-content empty w = let z : nothing ≡ holds m = rw w at (sym (ap heldOf q) ∙ h) in absurd (nope (cc))
+          by-content being-written w = let z : nothing ≡ holds m = rw w at (sym (ap heldOf q) ∙ h) in absurd (nope (cc))
+          by-content message w = by-room (tooShort (length gathering) p) refl
             where
               by-room : (x : Bool) → tooShort (length gathering) p ≡ x → Tells m r part
               by-room true t = absurd (n (unread-is r short-gathering-buffer (reads-answer T j gathering r a p q true t)))

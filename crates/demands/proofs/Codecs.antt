@@ -10,7 +10,7 @@ use lib.Dec.{leb}
 use lib.ListN.{length, take}
 use lib.Seq.{length-take-le, take-all}
 use Rattle.tag.specs.Refusals.{malformed-command}
-use Rattle.tag.specs.TagType.{withheld, output, fitted}
+use Rattle.tag.specs.TagType.{refused-output, output, fitted}
 use Rattle.tag.proofs.Logic.{nope}
 use Rattle.type2.specs.Codec as codec2
 use Rattle.type2.proofs.Codec as laws2
@@ -27,7 +27,7 @@ codec-2 = record { decode-encode = there; encode-decode = back }
     there blocks b bytes room n all l e = go (codec2.nameable blocks b) refl
       where
         go : (t : Bool) → codec2.nameable blocks b ≡ t → (codec2.decode blocks all ≡ codec2.decoded b bytes) × (n ≡ length all)
-        go false q = let f : withheld malformed-command ≡ output n all = rw q at e in absurd (nope (cc))
+        go false q = let f : refused-output malformed-command ≡ output n all = rw q at e in absurd (nope (cc))
         go true q =
             let f : fitted room 6 (codec2.commandBytes b bytes) ≡ output n all = rw q at e in
             let (k, u) = fitted-is room 6 n (codec2.commandBytes b bytes) all f in
@@ -41,34 +41,34 @@ codec-2 = record { decode-encode = there; encode-decode = back }
         let six : 6 ≡ length all = omega (arith, ap length u) in
         rw (q, le-leb (length (codec2.commandBytes b bytes)) room k) (ap (λ x. output 6 x) (sym u) ∙ ap (λ x. output x all) six)
 
-pub codec-3 : (number : List ℕ) → length number ≡ 8 → Codec3 number
-codec-3 number eight = record { decode-encode = there; encode-decode = back }
+pub codec-3 : (idm : List ℕ) → length idm ≡ 8 → Codec3 idm
+codec-3 idm eight = record { decode-encode = there; encode-decode = back }
   where
     there : (nbw nmaxb b : ℕ) (bs bytes : List ℕ) (room n : ℕ) (all : List ℕ) → 16 * b ≤ length bytes
-        → codec3.encode number nbw nmaxb b bs bytes room ≡ output n all
-        → (codec3.decode number nbw nmaxb all ≡ codec3.decoded (take b bs) (take (16 * b) bytes)) × (n ≡ length all)
+        → codec3.encode idm nbw nmaxb b bs bytes room ≡ output n all
+        → (codec3.decode idm nbw nmaxb all ≡ codec3.decoded (take b bs) (take (16 * b) bytes)) × (n ≡ length all)
     there nbw nmaxb b bs bytes room n all l e = go (leb b (length bs)) refl (codec3.wellNamed nbw nmaxb (take b bs)) refl
       where
         go : (s : Bool) → leb b (length bs) ≡ s → (t : Bool) → codec3.wellNamed nbw nmaxb (take b bs) ≡ t
-            → (codec3.decode number nbw nmaxb all ≡ codec3.decoded (take b bs) (take (16 * b) bytes)) × (n ≡ length all)
-        go false p t q = let f : withheld malformed-command ≡ output n all = rw p at e in absurd (nope (cc))
-        go true p false q = let f : withheld malformed-command ≡ output n all = rw (p, q) at e in absurd (nope (cc))
+            → (codec3.decode idm nbw nmaxb all ≡ codec3.decoded (take b bs) (take (16 * b) bytes)) × (n ≡ length all)
+        go false p t q = let f : refused-output malformed-command ≡ output n all = rw p at e in absurd (nope (cc))
+        go true p false q = let f : refused-output malformed-command ≡ output n all = rw (p, q) at e in absurd (nope (cc))
         go true p true q =
             let count : length (take b bs) ≡ b = length-take-le b bs (leb-true b (length bs) p) in
             let whole : length (take (16 * b) bytes) ≡ 16 * length (take b bs) = length-take-le (16 * b) bytes l ∙ ap (λ k. 16 * k) (sym count) in
-            let f : fitted room (13 + 18 * length (take b bs)) (codec3.commandBytes number (take b bs) (take (16 * b) bytes)) ≡ output n all = rw (p, q) at e in
-            let (k, u) = fitted-is room (13 + 18 * length (take b bs)) n (codec3.commandBytes number (take b bs) (take (16 * b) bytes)) all f in (
-              rw (← u) (laws3.decode-encode number nbw nmaxb (take b bs) (take (16 * b) bytes) eight q whole),
-              sym k ∙ sym (laws3.length-command number (take b bs) (take (16 * b) bytes) eight whole) ∙ ap length u,
+            let f : fitted room (13 + 18 * length (take b bs)) (codec3.commandBytes idm (take b bs) (take (16 * b) bytes)) ≡ output n all = rw (p, q) at e in
+            let (k, u) = fitted-is room (13 + 18 * length (take b bs)) n (codec3.commandBytes idm (take b bs) (take (16 * b) bytes)) all f in (
+              rw (← u) (laws3.decode-encode idm nbw nmaxb (take b bs) (take (16 * b) bytes) eight q whole),
+              sym k ∙ sym (laws3.length-command idm (take b bs) (take (16 * b) bytes) eight whole) ∙ ap length u,
             )
 
     back : (nbw nmaxb : ℕ) (all bs bytes : List ℕ) (room : ℕ) → length all ≤ room
-        → codec3.decode number nbw nmaxb all ≡ codec3.decoded bs bytes → codec3.encode number nbw nmaxb (length bs) bs bytes room ≡ output (length all) all
+        → codec3.decode idm nbw nmaxb all ≡ codec3.decoded bs bytes → codec3.encode idm nbw nmaxb (length bs) bs bytes room ≡ output (length all) all
     back nbw nmaxb all bs bytes room l e =
-        let (q, n, u, z) = laws3.encode-decode number nbw nmaxb all bs bytes e in
-        let k : length (codec3.commandBytes number bs bytes) ≡ 13 + 18 * length bs = laws3.length-command number bs bytes eight n in
-        let m : length (codec3.commandBytes number bs bytes) ≤ room = omega (arith, ap length u) in
+        let (q, n, u, z) = laws3.encode-decode idm nbw nmaxb all bs bytes e in
+        let k : length (codec3.commandBytes idm bs bytes) ≡ 13 + 18 * length bs = laws3.length-command idm bs bytes eight n in
+        let m : length (codec3.commandBytes idm bs bytes) ≤ room = omega (arith, ap length u) in
         let all-blocks : take (length bs) bs ≡ bs = take-all (length bs) bs (omega arith) in
         let all-bytes : take (16 * length bs) bytes ≡ bytes = take-all (16 * length bs) bytes (omega (arith, n)) in
-        rw (le-leb (length bs) (length bs) (omega arith), all-blocks, all-bytes, q, le-leb (length (codec3.commandBytes number bs bytes)) room m)
+        rw (le-leb (length bs) (length bs) (omega arith), all-blocks, all-bytes, q, le-leb (length (codec3.commandBytes idm bs bytes)) room m)
         (ap (λ x. output (13 + 18 * length bs) x) (sym u) ∙ ap (λ x. output x all) (sym k ∙ ap length (sym u)))

@@ -13,7 +13,7 @@ use Rattle.tag.specs.declared.CountAnswer as count
 use Rattle.tag.specs.declared.CountAnswer.the-variants as counted
 use Rattle.tag.specs.Bytes.{overwrite}
 use Rattle.tag.specs.Refusals.{refusalAt, malformed-command}
-use Rattle.tag.specs.TagType.{withheld, output}
+use Rattle.tag.specs.TagType.{refused-output, output}
 use Rattle.tag.proofs.Logic.{nope}
 use Rattle.type2.specs.declared.Command as command2
 use Rattle.type2.specs.declared.commands.Decoded as decoded2
@@ -73,10 +73,10 @@ none-3 d bs bytes e = go (eqb (d .refusal) 0) refl
     go true q = eqb-true (d .refusal) 0 q
     go false q = let z : three.undecoded (refusalAt (d .refusal) 0) ≡ three.decoded bs bytes = rw q at e in absurd (nope (cc))
 
-module _ (number : List ℕ) (eight : length number ≡ 8) (nbw nmaxb : ℕ) where
+module _ (idm : List ℕ) (eight : length idm ≡ 8) (nbw nmaxb : ℕ) where
   -- arrays that are longer than what is used encode as what is used of them
   padded : (c : ℕ) (bs bytes : List ℕ) (room : ℕ) → length (take c bs) ≡ c
-      → three.encode number nbw nmaxb c bs bytes room ≡ three.encode number nbw nmaxb (length (take c bs)) (take c bs) (take (16 * c) bytes) room
+      → three.encode idm nbw nmaxb c bs bytes room ≡ three.encode idm nbw nmaxb (length (take c bs)) (take c bs) (take (16 * c) bytes) room
   padded c bs bytes room n =
       let used = take c bs in
       let carried = take (16 * c) bytes in
@@ -86,42 +86,42 @@ module _ (number : List ℕ) (eight : length number ≡ 8) (nbw nmaxb : ℕ) whe
       let filled : take (16 * length used) carried ≡ carried = take-all (16 * length used) carried (omega (arith, length-take (16 * c) bytes)) in
       rw (some, all, named, filled)
 
-  pub back-3 : (all : List ℕ) (d : decoded3.Decoded) → views3.DecodedTo number nbw nmaxb all d → d .refusal ≡ 0
-      → (buffer out : List ℕ) (r : count.CountAnswer) → length all ≤ length buffer → views3.EncodedTo number nbw nmaxb (d .command) buffer r out
+  pub back-3 : (all : List ℕ) (d : decoded3.Decoded) → views3.DecodedTo idm nbw nmaxb all d → d .refusal ≡ 0
+      → (buffer out : List ℕ) (r : count.CountAnswer) → length all ≤ length buffer → views3.EncodedTo idm nbw nmaxb (d .command) buffer r out
       → (r ≡ counted.Count (length all)) × (out ≡ overwrite all buffer)
   back-3 all d (e, k) z buffer out r l encoded =
       let c = d .command in
       let numbers = views3.blockNumbers (c .blocks) in
       let used = take (c .count) numbers in
       let carried = take (16 * c .count) (c .bytes) in
-      let read : three.decode number nbw nmaxb all ≡ three.decoded used carried = sym e ∙ read-3 d z in
+      let read : three.decode idm nbw nmaxb all ≡ three.decoded used carried = sym e ∙ read-3 d z in
       let count-is : c .count ≡ length used = ap (λ x. x .count) (k ∙ ap views3.commandAs read) in
-      put-all (three.encode number nbw nmaxb (c .count) numbers (c .bytes)) buffer out r (length all) all encoded
+      put-all (three.encode idm nbw nmaxb (c .count) numbers (c .bytes)) buffer out r (length all) all encoded
       (
       padded (c .count) numbers (c .bytes) (length buffer) (sym count-is)
-      ∙ codec-3 number eight .encode-decode nbw nmaxb all used carried (length buffer) l read
+      ∙ codec-3 idm eight .encode-decode nbw nmaxb all used carried (length buffer) l read
       )
 
   pub there-3 : (c : command3.Command) → (length (c .blocks) ≡ 8) × (length (c .bytes) ≡ 128)
-      → (buffer out : List ℕ) (n : ℕ) → views3.EncodedTo number nbw nmaxb c buffer (counted.Count n) out
-      → (d : decoded3.Decoded) → views3.DecodedTo number nbw nmaxb (take n out) d → (d .refusal ≡ 0) × (d .command ≡ (codec3 number nbw nmaxb .used) c)
+      → (buffer out : List ℕ) (n : ℕ) → views3.EncodedTo idm nbw nmaxb c buffer (counted.Count n) out
+      → (d : decoded3.Decoded) → views3.DecodedTo idm nbw nmaxb (take n out) d → (d .refusal ≡ 0) × (d .command ≡ (codec3 idm nbw nmaxb .used) c)
   there-3 c (blocks-8, bytes-128) buffer out n encoded d (e, k) =
       let numbers = views3.blockNumbers (c .blocks) in
-      let (all, o, b) = put-counted (three.encode number nbw nmaxb (c .count) numbers (c .bytes)) buffer out n encoded in
+      let (all, o, b) = put-counted (three.encode idm nbw nmaxb (c .count) numbers (c .bytes)) buffer out n encoded in
       go all o b (leb (c .count) (length numbers)) refl
     where
-      go : (all : List ℕ) → three.encode number nbw nmaxb (c .count) (views3.blockNumbers (c .blocks)) (c .bytes) (length buffer) ≡ output n all → out ≡ overwrite all buffer
+      go : (all : List ℕ) → three.encode idm nbw nmaxb (c .count) (views3.blockNumbers (c .blocks)) (c .bytes) (length buffer) ≡ output n all → out ≡ overwrite all buffer
           → (x : Bool) → leb (c .count) (length (views3.blockNumbers (c .blocks))) ≡ x
-          → (d .refusal ≡ 0) × (d .command ≡ (codec3 number nbw nmaxb .used) c)
-      go all o b false q = let z : withheld malformed-command ≡ output n all = rw q at o in absurd (nope (cc))
+          → (d .refusal ≡ 0) × (d .command ≡ (codec3 idm nbw nmaxb .used) c)
+      go all o b false q = let z : refused-output malformed-command ≡ output n all = rw q at o in absurd (nope (cc))
       go all o b true q =
           let numbers = views3.blockNumbers (c .blocks) in
           let used = take (c .count) numbers in
           let carried = take (16 * c .count) (c .bytes) in
           let few : c .count ≤ length numbers = leb-true (c .count) (length numbers) q in
           let long : 16 * c .count ≤ length (c .bytes) = omega (arith, length-map (c .blocks) (λ x. x .0)) in
-          let (was, size) = codec-3 number eight .decode-encode nbw nmaxb (c .count) numbers (c .bytes) (length buffer) n all long o in
-          let read : three.decode number nbw nmaxb (take n out) ≡ three.decoded used carried = ap (three.decode number nbw nmaxb) (front n all buffer out b size) ∙ was in
+          let (was, size) = codec-3 idm eight .decode-encode nbw nmaxb (c .count) numbers (c .bytes) (length buffer) n all long o in
+          let read : three.decode idm nbw nmaxb (take n out) ≡ three.decoded used carried = ap (three.decode idm nbw nmaxb) (front n all buffer out b size) ∙ was in
           let counted-as : length used ≡ c .count = length-take-le (c .count) numbers few in (
             none-3 d used carried (e ∙ read),
             k

@@ -11,7 +11,7 @@ use Rattle.tag.specs.Refusals.{short-buffer}
 use Rattle.tag.specs.Reading.{holds}
 use Rattle.tag.specs.Stores.{stores}
 use Rattle.tag.specs.Plan.{list}
-use Rattle.tag.specs.TagType.{TagType, held, Writing, unwritten, written, writing, withheld, output, fitted, write, listBytes, commands}
+use Rattle.tag.specs.TagType.{TagType, held, Writing, refused-write, written, writing, refused-output, output, fitted, write, listBytes, commands}
 use Rattle.tag.proofs.Logic.{nope}
 use Rattle.tag.proofs.Laws.{Laws, written-ready}
 use Rattle.tag.proofs.Showing.{shown-part}
@@ -24,7 +24,7 @@ pub fitted-is : (room k n : ℕ) (bytes all : List ℕ) → fitted room k bytes 
 fitted-is room k n bytes all e = go (leb (length bytes) room) refl
   where
     go : (b : Bool) → leb (length bytes) room ≡ b → (k ≡ n) × (bytes ≡ all)
-    go false q = let f : withheld short-buffer ≡ output n all = rw q at e in absurd (nope (cc))
+    go false q = let f : refused-output short-buffer ≡ output n all = rw q at e in absurd (nope (cc))
     go true q = let f : output k bytes ≡ output n all = rw q at e in (cc, cc)
 
 module _ (T : TagType) (L : Laws T) where
@@ -33,7 +33,7 @@ module _ (T : TagType) (L : Laws T) where
   reads-back room n i m bytes e = go (writing T i m) refl
     where
       go : (w : Writing) → writing T i m ≡ w → (n ≡ length (commands T i bytes)) × (held T (cutOf T i bytes n) ≡ holds m)
-      go (unwritten r) q = let f : withheld r ≡ output n bytes = rw q at e in absurd (nope (cc))
+      go (refused-write r) q = let f : refused-output r ≡ output n bytes = rw q at e in absurd (nope (cc))
       go (written p) q =
           let (r, u) = written-ready T i m p q in
           let f : fitted room (length (list p i)) (listBytes T p i) ≡ output n bytes = rw q at e in

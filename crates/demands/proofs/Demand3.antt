@@ -9,16 +9,16 @@ use lib.ListN.{length, getD, take, drop, length-map, length-drop}
 use lib.Seq.{drop-cons, length-take-le}
 use Rattle.tag.specs.Bytes.{overlay}
 use Rattle.tag.specs.Reading.{Reading, unreadable, reads, broken}
-use Rattle.tag.specs.Stores.{Store, Command, ill, stores, puts, done}
+use Rattle.tag.specs.Stores.{Store, Command, malformed, stores, puts, tagAfter}
 use Rattle.tag.specs.Plan.{newImage, list}
 use Rattle.tag.specs.TagType.{TagType, held, writing, written, pieces, commands}
 use Rattle.tag.specs.Judge.{Task, accepted, judge, judgeBy, judged, task}
 use Rattle.tag.specs.Model.{stored, model, imageAfter}
-use Rattle.tag.specs.Cuts.{Ready, Safe, as-none, as-new, as-old, Three}
+use Rattle.tag.specs.Cuts.{Ready, Safe, as-none, as-new, as-old, SafeList}
 use Rattle.tag.proofs.Logic.{nope}
 use Rattle.tag.proofs.Each.{Each, each-map, each-of}
 use Rattle.tag.proofs.Images.{restart, length-cut}
-use Rattle.tag.proofs.Judge.{accepts-exactly, refuses-exactly, cut-done}
+use Rattle.tag.proofs.Judge.{accepts-exactly, refuses-exactly, cut-after}
 use Rattle.tag.proofs.Writes.{list-accepted, list-ends}
 use Rattle.tag.proofs.Pieces.{SelfDelimiting, pieces-joined}
 use Rattle.tag.proofs.Laws.{Laws, Sent, Near, ready-written, ready-reads}
@@ -38,13 +38,13 @@ model-stores T j b ss ok e = go ((T .reading) j) refl
     go (unreadable r) q = absurd (ok (rw q))
     go (reads p) q = rw (q, e)
 
-getD-command : (T : TagType) (i : List ℕ) (bs : List (List ℕ)) (k : ℕ) → k < length bs → getD (map ((T .command) i) bs) k ill ≡ (T .command) i (getD bs k [])
+getD-command : (T : TagType) (i : List ℕ) (bs : List (List ℕ)) (k : ℕ) → k < length bs → getD (map ((T .command) i) bs) k malformed ≡ (T .command) i (getD bs k [])
 getD-command T i [] k h = absurd (not-suc-le-zero h)
 getD-command T i (b ∷ bs) zero h = refl
 getD-command T i (b ∷ bs) (suc k) h = getD-command T i bs k (le-of-suc-le-suc h)
 
-command-stores : (j : List ℕ) (c : Command) → (c ≡ ill → ⊥) → (ss : List Store) × (c ≡ stores ss) × (puts j ss ≡ done j c)
-command-stores j ill h = absurd (h refl)
+command-stores : (j : List ℕ) (c : Command) → (c ≡ malformed → ⊥) → (ss : List Store) × (c ≡ stores ss) × (puts j ss ≡ tagAfter j c)
+command-stores j malformed h = absurd (h refl)
 command-stores j (stores ss) h = (ss, refl, refl)
 
 module _ (T : TagType) (L : Laws T) where
@@ -80,7 +80,7 @@ module _ (T : TagType) (L : Laws T) where
     by-commands bytes = ap (judgeBy T i m bytes) (ready-written T i m r)
 
     module _ (bytes : List ℕ) (n : ℕ) (e : judged T i m bytes ≡ accepted n) where
-      all-three : (n ≡ length (commands T i bytes)) × Three t (commands T i bytes)
+      all-three : (n ≡ length (commands T i bytes)) × SafeList t (commands T i bytes)
       all-three = accepts-exactly t reading-ok (commands T i bytes) n .0 (sym (by-commands bytes) ∙ e)
 
       near : (k : ℕ) → k ≤ n → Near T i m (cutOf T i bytes k)
@@ -96,11 +96,11 @@ module _ (T : TagType) (L : Laws T) where
       stores-next k h =
           let l : k < length (commands T i bytes) = omega (arith, all-three .0) in
           let l′ : k < length (pieces T i bytes) = omega (arith, length-map (pieces T i bytes) ((T .command) i)) in
-          let (ss, c, p) = command-stores (cutOf T i bytes k) (getD (commands T i bytes) k ill) (all-three .1 .formed k l) in
+          let (ss, c, p) = command-stores (cutOf T i bytes k) (getD (commands T i bytes) k malformed) (all-three .1 .formed k l) in
           let d : (T .command) (cutOf T i bytes k) (getD (pieces T i bytes) k []) ≡ stores ss
           = L .same-command i m (cutOf T i bytes k) r (near k (omega arith)) (getD (pieces T i bytes) k []) ∙ sym (getD-command T i (pieces T i bytes) k l′) ∙ c in
           model-stores T (cutOf T i bytes k) (getD (pieces T i bytes) k []) ss (near k (omega arith) .readable) d
-          ∙ ap stored (p ∙ sym (cut-done k i (commands T i bytes)))
+          ∙ ap stored (p ∙ sym (cut-after k i (commands T i bytes)))
 
       some-pieces : length (pieces T i bytes) ≡ n
       some-pieces = sym (length-map (pieces T i bytes) ((T .command) i)) ∙ sym (all-three .0)

@@ -13,7 +13,7 @@ use Rattle.tag.proofs.Counts.{length-single}
 use Rattle.tag.proofs.Writes.{touch-of}
 use Rattle.tag.proofs.Laws.{ready-written}
 use Rattle.tlv_tag.specs.Message.{viewed}
-use Rattle.tlv_tag.specs.Update.{usable, content, lengthAt}
+use Rattle.tlv_tag.specs.Update.{usable, tlvBytes, lengthAt}
 use Rattle.tlv_tag.proofs.Field.{first-set}
 use Rattle.tlv_tag.proofs.Writes as writes
 use Rattle.type2.specs.Memory.{memory}
@@ -55,7 +55,7 @@ type2-count i m r =
     let us = usable (viewed memory i) in
     let some = writes.some memory memory-laws command span encoded i m r in
     length-single ((type2 .plan) i m) i refl (type2-laws .sound i m r .blockwise .inside)
-    (touch-of 4 us (content m) (lengthAt us) (lengthAt us / 4) (first-set us m some) (block-of 4 (lengthAt us) (omega arith)))
+    (touch-of 4 us (tlvBytes m) (lengthAt us) (lengthAt us / 4) (first-set us m some) (block-of 4 (lengthAt us) (omega arith)))
 
 -- and of the code, by the contracts of read, shown, write, model, encode and decode
 pub type2-code2 : (blocks end : ℕ) → Code2 type2 (codec2 blocks) (alike2 end) count2
@@ -80,34 +80,34 @@ type2-code3 i m r = by-contract type2 i m (type2-demand3 i m r) (ready-written t
 
 -- ---- Type 3, for the caller's eight-byte number
 
-module _ (number : List ℕ) (eight : length number ≡ 8) where
-  pub type3-demand2 : Demand2 (type3 number)
-  type3-demand2 = demand2.claim (type3 number) (type3-laws number eight)
+module _ (idm : List ℕ) (eight : length idm ≡ 8) where
+  pub type3-demand2 : Demand2 (type3 idm)
+  type3-demand2 = demand2.claim (type3 idm) (type3-laws idm eight)
 
-  pub type3-too-long-exactly : TooLong3 number
-  type3-too-long-exactly = too-long-3 number
+  pub type3-too-long-exactly : TooLong3 idm
+  type3-too-long-exactly = too-long-3 idm
 
-  pub type3-codec : Codec3 number
-  type3-codec = codec-3 number eight
+  pub type3-codec : Codec3 idm
+  type3-codec = codec-3 idm eight
 
-  pub type3-count : Count3 number
-  type3-count = list-count number
+  pub type3-count : Count3 idm
+  type3-count = list-count idm
 
-  pub type3-code2 : (nbw nmaxb : ℕ) → Code2 (type3 number) (codec3 number nbw nmaxb) Alike3 count3
+  pub type3-code2 : (nbw nmaxb : ℕ) → Code2 (type3 idm) (codec3 idm nbw nmaxb) Alike3 count3
   type3-code2 nbw nmaxb = record {
-    written-reads = written-tells (type3 number) (type3-laws number eight);
+    written-reads = written-tells (type3 idm) (type3-laws idm eight);
     counts = λ i m buffer out n w.
-        let r = counted-ready (type3 number) i m buffer out n w in
-        sym (wrote-ours (type3 number) i m (ready-written (type3 number) i m r) buffer out n w .0) ∙ type3-count i m r;
-    too-long-exactly = λ i m a buffer out r w. chained (too-long-answer (type3 number) i m buffer out r w) (type3-too-long-exactly i m a);
-    refuses = unreadable-answer (type3 number) (type3-laws number eight);
-    gathers = short-answer (type3 number);
-    encode-decode = back-3 number eight nbw nmaxb;
-    decode-encode = there-3 number eight nbw nmaxb;
+        let r = counted-ready (type3 idm) i m buffer out n w in
+        sym (wrote-ours (type3 idm) i m (ready-written (type3 idm) i m r) buffer out n w .0) ∙ type3-count i m r;
+    too-long-exactly = λ i m a buffer out r w. chained (too-long-answer (type3 idm) i m buffer out r w) (type3-too-long-exactly i m a);
+    refuses = unreadable-answer (type3 idm) (type3-laws idm eight);
+    gathers = short-answer (type3 idm);
+    encode-decode = back-3 idm eight nbw nmaxb;
+    decode-encode = there-3 idm eight nbw nmaxb;
   }
 
-  pub type3-demand3 : (i m : List ℕ) → Ready (type3 number) i m → Demand3 (type3 number) i m
-  type3-demand3 = demand3.claim (type3 number) (type3-laws number eight)
+  pub type3-demand3 : (i m : List ℕ) → Ready (type3 idm) i m → Demand3 (type3 idm) i m
+  type3-demand3 = demand3.claim (type3 idm) (type3-laws idm eight)
 
-  pub type3-code3 : (i m : List ℕ) → Ready (type3 number) i m → Code3 (type3 number) i m
-  type3-code3 i m r = by-contract (type3 number) i m (type3-demand3 i m r) (ready-written (type3 number) i m r)
+  pub type3-code3 : (i m : List ℕ) → Ready (type3 idm) i m → Code3 (type3 idm) i m
+  type3-code3 i m r = by-contract (type3 idm) i m (type3-demand3 i m r) (ready-written (type3 idm) i m r)

@@ -13,7 +13,7 @@ use Rattle.tag.specs.Bytes.{byte, has, overlay, isSet}
 use Rattle.tag.specs.Refusals.{message-too-long}
 use Rattle.tag.specs.Reading.{holds}
 use Rattle.tag.specs.Plan.{newImage}
-use Rattle.tag.specs.TagType.{TagType, held, writing, unwritten, written, planned, checksOf}
+use Rattle.tag.specs.TagType.{TagType, held, writing, refused-write, written, planned, checksOf}
 use Rattle.tag.specs.Checks.{fault, firstOf}
 use Rattle.tag.specs.Cuts.{Ready}
 use Rattle.tag.proofs.Logic.{nope, or-l, or-cases}
@@ -21,7 +21,7 @@ use Rattle.tag.proofs.Addresses.{above-length}
 use Rattle.tag.proofs.Laws.{ready-written, ready-reads}
 use Rattle.tlv.specs.Walk.{found, messageTlv}
 use Rattle.tlv_tag.specs.Message.{viewed}
-use Rattle.tlv_tag.specs.Update.{usable, fitsIn, lengthField, content}
+use Rattle.tlv_tag.specs.Update.{usable, fitsIn, lengthField, tlvBytes}
 use Rattle.tlv_tag.proofs.Field.{fits-is}
 use Rattle.tlv_tag.proofs.Tag as tlv
 use Rattle.tlv_tag.proofs.Writes.{placed}
@@ -43,24 +43,24 @@ module _ (T : TagType) (i m : List ℕ) (a : Asked T i m) where
   roomy : (T .fits) i (length m) ≡ true → Ready T i m
   roomy f = record { report = a .report; reads-as = a .reads-as; writable = a .writable; some-bytes = a .some-bytes; room = f }
 
-  cramped : (T .fits) i (length m) ≡ false → writing T i m ≡ unwritten message-too-long
+  cramped : (T .fits) i (length m) ≡ false → writing T i m ≡ refused-write message-too-long
   unfolding writing
   cramped f =
       let e : firstOf (checksOf T i m (a .report)) ≡ fault message-too-long = rw (ne-eqb (length m) 0 (a .some-bytes)) (rw (a .writable) (rw f)) in
       rw (a .reads-as) (ap (planned ((T .plan) i m)) e)
 
   -- 11 is given exactly if nothing of a kind holds the message, if that is so without room and fails with it
-  exactly : (P : Type 0) → ((T .fits) i (length m) ≡ false → P) → ((T .fits) i (length m) ≡ true → P → ⊥) → (writing T i m ≡ unwritten message-too-long) ↔ P
+  exactly : (P : Type 0) → ((T .fits) i (length m) ≡ false → P) → ((T .fits) i (length m) ≡ true → P → ⊥) → (writing T i m ≡ refused-write message-too-long) ↔ P
   exactly P without with-room = (
     (λ e. go e ((T .fits) i (length m)) refl),
     (λ p. back p ((T .fits) i (length m)) refl),
   )
     where
-      go : writing T i m ≡ unwritten message-too-long → (b : Bool) → (T .fits) i (length m) ≡ b → P
+      go : writing T i m ≡ refused-write message-too-long → (b : Bool) → (T .fits) i (length m) ≡ b → P
       go e false q = without q
-      go e true q = let f : written ((T .plan) i m) ≡ unwritten message-too-long = sym (ready-written T i m (roomy q)) ∙ e in absurd (nope (cc))
+      go e true q = let f : written ((T .plan) i m) ≡ refused-write message-too-long = sym (ready-written T i m (roomy q)) ∙ e in absurd (nope (cc))
 
-      back : P → (b : Bool) → (T .fits) i (length m) ≡ b → writing T i m ≡ unwritten message-too-long
+      back : P → (b : Bool) → (T .fits) i (length m) ≡ b → writing T i m ≡ refused-write message-too-long
       back p false q = cramped q
       back p true q = absurd (with-room q p)
 
@@ -75,11 +75,11 @@ has-unset (x ∷ us) (v ∷ vs) a e = go (eqb a x) refl (has-unset us vs a)
     go true q ih = let f : true ≡ false = rw q at e in absurd (nope (cc))
     go false q ih = rw (ne-eqb x a (λ p. let f : true ≡ false = sym (eq-eqb a x (sym p)) ∙ q in nope (cc))) (ih (rw q at e))
 
-content-octets : (m : List ℕ) → length m ≤ 65534 → Octets m → Octets (content m)
+tlv-bytes-octets : (m : List ℕ) → length m ≤ 65534 → Octets m → Octets (tlvBytes m)
 unfolding lengthField
-content-octets m l h = go (leb (length m) 254) refl
+tlv-bytes-octets m l h = go (leb (length m) 254) refl
   where
-    go : (b : Bool) → leb (length m) 254 ≡ b → Octets (content m)
+    go : (b : Bool) → leb (length m) 254 ≡ b → Octets (tlvBytes m)
     go true q =
         let s : length m ≤ 254 = leb-true (length m) 254 q in
         rw (q, lengthField) (omega arith, octets-append m (0xFE ∷ []) h (omega arith, tt))
@@ -107,7 +107,7 @@ module _ (i m : List ℕ) (a : Asked type2 i m) (t : ℕ) (us : List ℕ) (e : m
     ready = record { placed = place; some-bytes = a .some-bytes; room = room true f }
 
     new : List ℕ
-    new = overlay us (content m) i
+    new = overlay us (tlvBytes m) i
 
     short : length m ≤ 65534
     short =
@@ -122,13 +122,13 @@ module _ (i m : List ℕ) (a : Asked type2 i m) (t : ℕ) (us : List ℕ) (e : m
         record {
           same-length = l .0;
           same-start = λ x h. tlv.new-agrees memory memory-laws i m us ready x h;
-          same-skipped = λ x lo hi h. l .1 x (has-unset us (content m) x h);
+          same-skipped = λ x lo hi h. l .1 x (has-unset us (tlvBytes m) x h);
         }
 
     with-room : ((j : List ℕ) → Octets j → Alike2 end t us i j → held type2 j ≡ holds m → ⊥) → ⊥
     unfolding new
     with-room none =
-        none new (octets-overlay us (content m) i (content-octets m short (a .message-octets)) (a .image-octets)) alike
+        none new (octets-overlay us (tlvBytes m) i (tlv-bytes-octets m short (a .message-octets)) (a .image-octets)) alike
         (tlv.reads-new memory memory-laws i m us ready)
 
 pub too-long-2 : TooLong2
@@ -136,7 +136,7 @@ too-long-2 i m a t us e end =
     exactly type2 i m a ((j : List ℕ) → Octets j → Alike2 end t us i j → held type2 j ≡ holds m → ⊥) (no-room i m a t us e end) (with-room i m a t us e end)
 
 -- the image's own message TLV is the one that 11 goes by
-pub alike-2 : (i m : List ℕ) → Asked type2 i m → (end : ℕ) → (writing type2 i m ≡ unwritten message-too-long) ↔ ((j : List ℕ) → Octets j → alike2 end i j → held type2 j ≡ holds m → ⊥)
+pub alike-2 : (i m : List ℕ) → Asked type2 i m → (end : ℕ) → (writing type2 i m ≡ refused-write message-too-long) ↔ ((j : List ℕ) → Octets j → alike2 end i j → held type2 j ≡ holds m → ⊥)
 alike-2 i m a end =
     let p = placed memory i (a .report) (a .reads-as) .0 in
     let us = usable (viewed memory i) in
@@ -156,14 +156,14 @@ alike-2 i m a end =
 
 -- ---- Type 3
 
-module _ (number i m : List ℕ) (a : Asked (type3 number) i m) where
+module _ (idm i m : List ℕ) (a : Asked (type3 idm) i m) where
   agrees : (j : List ℕ) → Alike3 i j → Agrees j i
   agrees j k x e = ⊎-elim (λ h. k .same-start x (leb-true x 8 h)) (λ h. let q : x ≡ 10 = eqb-true x 10 h in rw q (k .same-access)) (or-cases (leb x 8) (eqb x 10) e)
 
   module _ (f : fits i (length m) ≡ true) where
     has-room : update3.HasRoom i m
     has-room = record {
-      passes = reads-passes i (ready-reads (type3 number) i m (roomy (type3 number) i m a f));
+      passes = reads-passes i (ready-reads (type3 idm) i m (roomy (type3 idm) i m a f));
       some-bytes = a .some-bytes;
       room = f;
     }
@@ -193,13 +193,13 @@ module _ (number i m : List ℕ) (a : Asked (type3 number) i m) where
           ),
         )
 
-    with-room-3 : ((j : List ℕ) → Octets j → Alike3 i j → held (type3 number) j ≡ holds m → ⊥) → ⊥
+    with-room-3 : ((j : List ℕ) → Octets j → Alike3 i j → held (type3 idm) j ≡ holds m → ⊥) → ⊥
     with-room-3 none =
         let (l, g, h) = update3.long-enough i m has-room in
         none (newImage (plan i m) i) (octets-overlay (addresses m) (values i m) i values-octets (a .image-octets))
         (record { same-length = l; same-start = λ x k. g x (or-l (leb x 8) (eqb x 10) (le-leb x 8 k)); same-access = g 10 refl }) h
 
-pub too-long-3 : (number : List ℕ) → TooLong3 number
-too-long-3 number i m a =
-    exactly (type3 number) i m a ((j : List ℕ) → Octets j → Alike3 i j → held (type3 number) j ≡ holds m → ⊥)
-    (λ f j o k h. update3.too-long i m j f (agrees number i m a j k) h) (with-room-3 number i m a)
+pub too-long-3 : (idm : List ℕ) → TooLong3 idm
+too-long-3 idm i m a =
+    exactly (type3 idm) i m a ((j : List ℕ) → Octets j → Alike3 i j → held (type3 idm) j ≡ holds m → ⊥)
+    (λ f j o k h. update3.too-long i m j f (agrees idm i m a j k) h) (with-room-3 idm i m a)

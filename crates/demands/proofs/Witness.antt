@@ -28,7 +28,7 @@ use Rattle.demands.specs.Specimens.{small, tag3}
 pub ready-2 : Ready type2 (small (0x03 ∷ 0x00 ∷ 0xFE ∷ [])) (0xD0 ∷ 0x00 ∷ 0x00 ∷ [])
 unfolding without longBy lengthBy passValue areaBy controlBy find viewBy viewed reading fitsIn
 ready-2 = record {
-  report = record { what = empty; bytes = []; address = 0; interrupted = false; writable = true };
+  report = record { content = empty; bytes = []; address = 0; interrupted = false; writable = true };
   reads-as = refl;
   writable = refl;
   some-bytes = omega arith;
@@ -39,7 +39,7 @@ ready-2 = record {
 pub ready-3 : Ready (type3 (replicate 8 0x00)) (tag3 0x00 0x46) (0xD0 ∷ 0x00 ∷ 0x00 ∷ [])
 unfolding message3.viewBy message3.reading
 ready-3 = record {
-  report = record { what = message; bytes = replicate 35 0x00; address = 16; interrupted = false; writable = true };
+  report = record { content = message; bytes = replicate 35 0x00; address = 16; interrupted = false; writable = true };
   reads-as = refl;
   writable = refl;
   some-bytes = omega arith;

@@ -15,7 +15,7 @@ use Rattle.tag.specs.declared.ModelAnswer.the-variants as storing
 use Rattle.tag.specs.Plan.{list}
 use Rattle.tag.specs.TagType.{TagType, pieces, commands}
 use Rattle.tag.specs.Judge.{task}
-use Rattle.tag.specs.Cuts.{Three, First}
+use Rattle.tag.specs.Cuts.{SafeList, FirstFault}
 use Rattle.tag.specs.Contracts.{Wrote, Judged, Took}
 use Rattle.demands.specs.Demand3.{cutOf, ourBytes, ourImage}
 
@@ -30,11 +30,11 @@ pub data Run (T : TagType) : List ℕ → List (List ℕ) → List model-answer.
 
 pub record Code3 (T : TagType) (i m : List ℕ) : Type 0 where
   -- the judge accepts just the lists for which the three things hold, with the number of their commands
-  pub accepts : (bytes : List ℕ) (n : ℕ) → Judged T i m bytes (verdict.Accepted n) → (n ≡ length (commands T i bytes)) × Three (task T i m) (commands T i bytes)
-  pub accepted : (bytes : List ℕ) (r : judge.JudgeAnswer) → Judged T i m bytes r → Three (task T i m) (commands T i bytes) → r ≡ verdict.Accepted (length (commands T i bytes))
+  pub accepts : (bytes : List ℕ) (n : ℕ) → Judged T i m bytes (verdict.Accepted n) → (n ≡ length (commands T i bytes)) × SafeList (task T i m) (commands T i bytes)
+  pub accepted : (bytes : List ℕ) (r : judge.JudgeAnswer) → Judged T i m bytes r → SafeList (task T i m) (commands T i bytes) → r ≡ verdict.Accepted (length (commands T i bytes))
   -- and refuses a list with a number and a position just where that is its first fault
   pub refuses : (bytes : List ℕ) (r : judge.JudgeAnswer) → Judged T i m bytes r
-      → (f p : ℕ) → (r ≡ verdict.Refused f p) ↔ First (task T i m) (commands T i bytes) f p
+      → (f p : ℕ) → (r ≡ verdict.Refused f p) ↔ FirstFault (task T i m) (commands T i bytes) f p
   -- what is written is accepted, with the count that was answered
   pub ours : (buffer out : List ℕ) (n : ℕ) → Wrote T i m buffer (counted.Count n) out
       → (r : judge.JudgeAnswer) → Judged T i m (take (length (ourBytes T i m)) out) r → r ≡ verdict.Accepted n

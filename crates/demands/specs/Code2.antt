@@ -9,7 +9,7 @@ use mathlib.Core.List.{List}
 use Prim.Native.Nat.{ℕ, _+_, _-_, _*_, _/_, _≤_}
 use lib.ListN.{length, take, replicate}
 use Rattle.tag.specs.declared.Report as code
-use Rattle.tag.specs.declared.What.the-variants as what
+use Rattle.tag.specs.declared.Content.the-variants as content
 use Rattle.tag.specs.declared.ReadAnswer as read
 use Rattle.tag.specs.declared.ReadAnswer.the-variants as reading
 use Rattle.tag.specs.declared.CountAnswer as count
@@ -69,14 +69,14 @@ codec2 blocks =
 
 -- Type 3's, told our number, Nbw and Nmaxb
 abbrev pub codec3 : List ℕ → ℕ → ℕ → CommandCodec
-codec3 number nbw nmaxb =
+codec3 idm nbw nmaxb =
     record {
       Command = command3.Command;
       Decoded = decoded3.Decoded;
       refusal = λ d. d .refusal;
       command = λ d. d .command;
-      EncodedTo = views3.EncodedTo number nbw nmaxb;
-      DecodedTo = views3.DecodedTo number nbw nmaxb;
+      EncodedTo = views3.EncodedTo idm nbw nmaxb;
+      DecodedTo = views3.DecodedTo idm nbw nmaxb;
       Whole = λ c. (length (c .blocks) ≡ 8) × (length (c .bytes) ≡ 128);
       used =
           λ c.
@@ -104,7 +104,7 @@ count3 i m = 2 + (blocksFor (length m) + (blocksPerCommand (byte i 2) - 1)) / bl
 pub record Tells (m : List ℕ) (r : read.ReadAnswer) (part : List ℕ) : Type 0 where
   pub report : code.Report
   pub answered : r ≡ reading.Reads report
-  pub a-message : report .what ≡ what.Message
+  pub a-message : report .content ≡ content.Message
   pub its-length : report .length ≡ length m
   pub its-bytes : part ≡ m
 

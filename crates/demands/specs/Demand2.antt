@@ -12,7 +12,7 @@ use Rattle.tag.specs.Bytes.{byte, has}
 use Rattle.tag.specs.Refusals.{message-too-long}
 use Rattle.tag.specs.Reading.{Report, unreadable, reads, answerOf, tooShort, gatheredInto, shown, holds}
 use Rattle.tag.specs.Plan.{touched, list}
-use Rattle.tag.specs.TagType.{TagType, held, writing, unwritten, output, write, commands}
+use Rattle.tag.specs.TagType.{TagType, held, writing, refused-write, output, write, commands}
 use Rattle.tag.specs.Cuts.{Ready}
 use Rattle.tlv.specs.Walk.{found, messageTlv}
 use Rattle.type2.specs.Memory.{layout}
@@ -61,7 +61,7 @@ pub record Alike2 (end t : ℕ) (us i j : List ℕ) : Type 0 where
 -- for every end: whether an address past the data area counts as skipped changes nothing
 abbrev pub TooLong2 : Type 0
 TooLong2 = (i m : List ℕ) → Asked type2 i m → (t : ℕ) (us : List ℕ) → messageTlv layout i ≡ found t us → (end : ℕ)
-    → (writing type2 i m ≡ unwritten message-too-long) ↔ ((j : List ℕ) → Octets j → Alike2 end t us i j → held type2 j ≡ holds m → ⊥)
+    → (writing type2 i m ≡ refused-write message-too-long) ↔ ((j : List ℕ) → Octets j → Alike2 end t us i j → held type2 j ≡ holds m → ⊥)
 
 -- Type 3: images of equal length with the same bytes 0 to 8 and 10
 pub record Alike3 (i j : List ℕ) : Type 0 where
@@ -70,8 +70,8 @@ pub record Alike3 (i j : List ℕ) : Type 0 where
   pub same-access : byte j 10 ≡ byte i 10
 
 abbrev pub TooLong3 : List ℕ → Type 0
-TooLong3 number = (i m : List ℕ) → Asked (type3 number) i m
-    → (writing (type3 number) i m ≡ unwritten message-too-long) ↔ ((j : List ℕ) → Octets j → Alike3 i j → held (type3 number) j ≡ holds m → ⊥)
+TooLong3 idm = (i m : List ℕ) → Asked (type3 idm) i m
+    → (writing (type3 idm) i m ≡ refused-write message-too-long) ↔ ((j : List ℕ) → Octets j → Alike3 i j → held (type3 idm) j ≡ holds m → ⊥)
 
 -- ---- the codec loses nothing
 
@@ -83,12 +83,12 @@ pub record Codec2 : Type 0 where
   pub encode-decode : (blocks : ℕ) (all : List ℕ) (b : ℕ) (bytes : List ℕ) (room : ℕ) → length all ≤ room
       → codec2.decode blocks all ≡ codec2.decoded b bytes → codec2.encode blocks b bytes room ≡ output (length all) all
 
-pub record Codec3 (number : List ℕ) : Type 0 where
+pub record Codec3 (idm : List ℕ) : Type 0 where
   pub decode-encode : (nbw nmaxb b : ℕ) (bs bytes : List ℕ) (room n : ℕ) (all : List ℕ) → 16 * b ≤ length bytes
-      → codec3.encode number nbw nmaxb b bs bytes room ≡ output n all
-      → (codec3.decode number nbw nmaxb all ≡ codec3.decoded (take b bs) (take (16 * b) bytes)) × (n ≡ length all)
+      → codec3.encode idm nbw nmaxb b bs bytes room ≡ output n all
+      → (codec3.decode idm nbw nmaxb all ≡ codec3.decoded (take b bs) (take (16 * b) bytes)) × (n ≡ length all)
   pub encode-decode : (nbw nmaxb : ℕ) (all bs bytes : List ℕ) (room : ℕ) → length all ≤ room
-      → codec3.decode number nbw nmaxb all ≡ codec3.decoded bs bytes → codec3.encode number nbw nmaxb (length bs) bs bytes room ≡ output (length all) all
+      → codec3.decode idm nbw nmaxb all ≡ codec3.decoded bs bytes → codec3.encode idm nbw nmaxb (length bs) bs bytes room ≡ output (length all) all
 
 -- ---- the number of commands
 
@@ -98,6 +98,6 @@ Count2 = (i m : List ℕ) → Ready type2 i m → length (list ((type2 .plan) i 
 
 -- Type 3: 2 + k/w rounded up
 abbrev pub Count3 : List ℕ → Type 0
-Count3 number = (i m : List ℕ) → Ready (type3 number) i m
-    → length (list ((type3 number .plan) i m) i)
+Count3 idm = (i m : List ℕ) → Ready (type3 idm) i m
+    → length (list ((type3 idm .plan) i m) i)
     ≡ 2 + (blocksFor (length m) + (blocksPerCommand (byte i 2) - 1)) / blocksPerCommand (byte i 2)

@@ -11,8 +11,8 @@ use Rattle.tag.specs.Stores.{cut}
 use Rattle.tag.specs.Plan.{list}
 use Rattle.tag.specs.TagType.{TagType, writing, written, listBytes, pieces, commands}
 use Rattle.tag.specs.Judge.{task, accepted, refused, judged}
-use Rattle.tag.specs.Model.{model, unstored, stored, imageAfter}
-use Rattle.tag.specs.Cuts.{Three, First}
+use Rattle.tag.specs.Model.{model, refused-storing, stored, imageAfter}
+use Rattle.tag.specs.Cuts.{SafeList, FirstFault}
 
 -- cut k of a list's bytes
 abbrev pub cutOf : TagType → List ℕ → List ℕ → ℕ → List ℕ
@@ -30,7 +30,7 @@ ourImage T i m = cutOf T i (ourBytes T i m) (length (commands T i (ourBytes T i 
 pub data Calls (T : TagType) : List ℕ → List (List ℕ) → List (List ℕ) → Type 0 where
   end : {j : List ℕ} → Calls T j [] []
   give : {j b : List ℕ} {given calls : List (List ℕ)} → Calls T (imageAfter j (model T j b)) given calls → Calls T j (b ∷ given) (b ∷ calls)
-  refuse : {j b : List ℕ} {given calls : List (List ℕ)} (r : ℕ) → model T j b ≡ unstored r → Calls T j given calls → Calls T j given (b ∷ calls)
+  refuse : {j b : List ℕ} {given calls : List (List ℕ)} (r : ℕ) → model T j b ≡ refused-storing r → Calls T j given calls → Calls T j given (b ∷ calls)
 
 -- the image that a run of calls leaves
 abbrev pub imageOf : TagType → List ℕ → List (List ℕ) → List ℕ
@@ -39,9 +39,9 @@ imageOf T j (b ∷ calls) = imageOf T (imageAfter j (model T j b)) calls
 
 pub record Demand3 (T : TagType) (i m : List ℕ) : Type 0 where
   -- the judge accepts just the lists for which the three things hold at every cut, and counts their commands
-  pub exactly : (bytes : List ℕ) (n : ℕ) → (judged T i m bytes ≡ accepted n) ↔ ((n ≡ length (commands T i bytes)) × Three (task T i m) (commands T i bytes))
+  pub exactly : (bytes : List ℕ) (n : ℕ) → (judged T i m bytes ≡ accepted n) ↔ ((n ≡ length (commands T i bytes)) × SafeList (task T i m) (commands T i bytes))
   -- and gives a refusal, with a position, just where that is the first fault
-  pub first-fault : (bytes : List ℕ) (r p : ℕ) → (judged T i m bytes ≡ refused r p) ↔ First (task T i m) (commands T i bytes) r p
+  pub first-fault : (bytes : List ℕ) (r p : ℕ) → (judged T i m bytes ≡ refused r p) ↔ FirstFault (task T i m) (commands T i bytes) r p
   -- our list is accepted
   pub ours : judged T i m (ourBytes T i m) ≡ accepted (length (list ((T .plan) i m) i))
   -- the model, given the commands of an accepted list one a call, refuses none: it takes cut k to cut k + 1

@@ -7,10 +7,10 @@ use mathlib.Core.List.{List, [], _∷_, _++_}
 use Prim.Native.Nat.{ℕ, _-_}
 use lib.ListN.{length, take, replicate}
 use Rattle.tag.specs.Bytes.{byte, same}
-use Rattle.tag.specs.Reading.{What, message, empty, being-written, Answer, refusal, answer, answerOf}
+use Rattle.tag.specs.Reading.{Content, message, empty, being-written, Answer, refusal, answer, answerOf}
 use Rattle.tag.specs.Stores.{cut}
 use Rattle.tag.specs.Plan.{picks}
-use Rattle.tag.specs.TagType.{TagType, held, Output, withheld, output, writing, write, cutUp, commands}
+use Rattle.tag.specs.TagType.{TagType, held, Output, refused-output, output, writing, write, splitList, commands}
 use Rattle.tag.specs.Judge.{Verdict, accepted, refused, holdsAs, fault, judge, judged}
 use Rattle.tlv.specs.Areas.{allowedArea, without}
 use Rattle.tlv.specs.Walk.{longBy, lengthBy, passValue, areaBy, controlBy, find}
@@ -60,7 +60,7 @@ pub data Question : Type 0 where
 pub data Outcome : Type 0 where
   refuses : ℕ → Outcome
   -- which it is, the message's address and length, whether interrupted, whether writable
-  reads : What → ℕ → ℕ → Bool → Bool → Outcome
+  reads : Content → ℕ → ℕ → Bool → Bool → Outcome
   -- the commands were written, and the tag that took them reads as the message
   fits : Outcome
   holds-byte : ℕ → Outcome
@@ -70,18 +70,18 @@ pub data Outcome : Type 0 where
 
 abbrev ofAnswer : Answer → Outcome
 ofAnswer (refusal r) = refuses r
-ofAnswer (answer what a n b w) = reads what a n b w
+ofAnswer (answer content a n b w) = reads content a n b w
 
 -- the tag once it took the commands of a list's bytes
 abbrev took : TagType → List ℕ → List ℕ → List ℕ
 took T i bytes = cut (length (commands T i bytes)) i (commands T i bytes)
 
 abbrev ofWrite : TagType → List ℕ → List ℕ → Output → Outcome
-ofWrite T i m (withheld r) = refuses r
+ofWrite T i m (refused-output r) = refuses r
 ofWrite T i m (output n bytes) = cond (holdsAs (held T (took T i bytes)) m) fits misread
 
 abbrev ofByte : TagType → List ℕ → ℕ → Output → Outcome
-ofByte T i a (withheld r) = refuses r
+ofByte T i a (refused-output r) = refuses r
 ofByte T i a (output n bytes) = holds-byte (byte (took T i bytes) a)
 
 abbrev ofVerdict : Verdict → Outcome
@@ -99,14 +99,14 @@ outcome T i (written-at n a) = ofByte T i a (write T roomy i (some n))
 outcome T i (judge-list m bytes) = ofVerdict (judged T i m bytes)
 
 -- an outcome as numbers, to be compared
-abbrev whatNumber : What → ℕ
-whatNumber message = 1
-whatNumber empty = 2
-whatNumber being-written = 3
+abbrev contentNumber : Content → ℕ
+contentNumber message = 1
+contentNumber empty = 2
+contentNumber being-written = 3
 
 abbrev numbers : Outcome → List ℕ
 numbers (refuses r) = 0 ∷ r ∷ []
-numbers (reads what a n b w) = 1 ∷ whatNumber what ∷ a ∷ n ∷ cond b 1 0 ∷ cond w 1 0 ∷ []
+numbers (reads content a n b w) = 1 ∷ contentNumber content ∷ a ∷ n ∷ cond b 1 0 ∷ cond w 1 0 ∷ []
 numbers fits = 2 ∷ []
 numbers (holds-byte v) = 3 ∷ v ∷ []
 numbers (accepts n) = 4 ∷ n ∷ []
@@ -127,7 +127,7 @@ row3 i q e = record { kind = type3 (replicate 8 0x00); image = i; question = q; 
 
 -- is every answer the one expected
 pub holds : List Row → Bool
-unfolding picks writing cutUp fault judge allowedArea without longBy lengthBy passValue areaBy controlBy find viewBy viewed reading fitsIn lengthField decode message3.viewBy message3.reading codec3.namesOf codec3.decodeBy codec3.decode
+unfolding picks writing splitList fault judge allowedArea without longBy lengthBy passValue areaBy controlBy find viewBy viewed reading fitsIn lengthField decode message3.viewBy message3.reading codec3.namesOf codec3.decodeBy codec3.decode
 holds [] = true
 holds (r ∷ rs) = same (numbers (outcome (r .kind) (r .image) (r .question))) (numbers (r .expected)) && holds rs
 

@@ -9,7 +9,7 @@ use borrow.Author.Tests.{le-leb, lt-leb}
 use borrow.Rule.Slice.PartMut.{putMid}
 use lib.ListN.{length, take, drop, length-append, length-take, length-drop}
 use Rattle.tag.specs.Bytes.{overwrite}
-use Rattle.tag.specs.TagType.{withheld, output}
+use Rattle.tag.specs.TagType.{refused-output, output}
 use Rattle.tag.proofs.Filling.{lay-part}
 use Rattle.one_block_write.specs.Views.Listing.{commandLength, commandBytes, blockBytes, marked, markedCount, markedBytes, guardedBytes, guardedOutput, Listed}
 use Rattle.one_block_write.proofs.Laying.{block-inside, length-command, length-block, length-picked}
@@ -38,7 +38,7 @@ module _ (front : List ℕ) (z : ℕ) (new marks : List ℕ) (g : ℕ) (shut : L
         length-open,
       )
 
-  pub guarded-short : (room : ℕ) → room < commandLength front z * (2 + markedCount marks (length new / z)) → guardedOutput room front z new marks g shut ≡ withheld 12
+  pub guarded-short : (room : ℕ) → room < commandLength front z * (2 + markedCount marks (length new / z)) → guardedOutput room front z new marks g shut ≡ refused-output 12
   guarded-short room l = rw (lt-leb (length (guardedBytes front z new marks g shut)) room (omega (arith, length-guarded)))
 
   pub guarded-fits : (room : ℕ) → commandLength front z * (2 + markedCount marks (length new / z)) ≤ room

@@ -19,10 +19,10 @@ pub fn octets(bytes: &[u8])
 }
 
 // The number that a caller of Type 3 states has eight bytes.
-pub fn eight(number: &[u8; 8])
-    ensures { λ _. ⌜ (length (now (number .entry)) ≡ 8) × Octets (now (number .entry)) ⌝ }
+pub fn eight(idm: &[u8; 8])
+    ensures { λ _. ⌜ (length (now (idm .entry)) ≡ 8) × Octets (now (idm .entry)) ⌝ }
 {
-    octets(number);
+    octets(idm);
 }
 
 // The arrays of a command have their lengths, for both types.
@@ -30,8 +30,8 @@ pub fn whole_type2(command: type2::Command, blocks: usize)
     ensures { λ _. ⌜ (codec2 blocks .Whole) command ⌝ }
 {}
 
-pub fn whole_type3(command: type3::Command, number: &[u8; 8], nbw: usize, nmaxb: usize)
-    ensures { λ _. ⌜ (codec3 (now (number .entry)) nbw nmaxb .Whole) command ⌝ }
+pub fn whole_type3(command: type3::Command, idm: &[u8; 8], nbw: usize, nmaxb: usize)
+    ensures { λ _. ⌜ (codec3 (now (idm .entry)) nbw nmaxb .Whole) command ⌝ }
 {
     let blocks = command.blocks;
     eight_blocks(blocks);

@@ -3,11 +3,11 @@
 use printing::number;
 use printing::refusal;
 use printing::text;
+use tag::Content;
 use tag::CountAnswer;
 use tag::JudgeAnswer;
 use tag::ReadAnswer;
 use tag::Report;
-use tag::What;
 
 // The line's beginning.
 pub fn name(s: &[u8]) {
@@ -29,11 +29,11 @@ fn message(report: Report, shown: &[u8]) {
 }
 
 fn report(report: Report, shown: &[u8]) {
-    let what = report.what;
-    match what {
-        What::Message => message(report, shown),
-        What::Empty => text(b"empty\n"),
-        What::BeingWritten => text(b"being written\n"),
+    let content = report.content;
+    match content {
+        Content::Message => message(report, shown),
+        Content::Empty => text(b"empty\n"),
+        Content::BeingWritten => text(b"being written\n"),
     }
 }
 

@@ -13,7 +13,7 @@ use lib.Dec.{eqb}
 use lib.ListN.{length, getD, set, length-set}
 use lib.Seq.{sets, length-sets, getD-set-same, getD-set-other, ext-getD}
 use Rattle.tag.specs.Bytes.{byte, overlay, isSet}
-use Rattle.tag.specs.Stores.{Store, Command, ill, stores, put, puts, done, cut}
+use Rattle.tag.specs.Stores.{Store, Command, malformed, stores, put, puts, tagAfter, cut}
 
 -- ---- a run of stores, at an address
 
@@ -39,14 +39,14 @@ pub length-puts : (ss : List Store) (j : List ℕ) → length (puts j ss) ≡ le
 length-puts [] j = refl
 length-puts (s ∷ ss) j = length-puts ss (put j s) ∙ length-sets j (s .at) (s .bytes)
 
-length-done : (j : List ℕ) (c : Command) → length (done j c) ≡ length j
-length-done j ill = refl
-length-done j (stores ss) = length-puts ss j
+length-after : (j : List ℕ) (c : Command) → length (tagAfter j c) ≡ length j
+length-after j malformed = refl
+length-after j (stores ss) = length-puts ss j
 
 pub length-cut : (k : ℕ) (j : List ℕ) (cs : List Command) → length (cut k j cs) ≡ length j
 length-cut zero j cs = refl
 length-cut (suc k) j [] = refl
-length-cut (suc k) j (c ∷ cs) = length-cut k (done j c) cs ∙ length-done j c
+length-cut (suc k) j (c ∷ cs) = length-cut k (tagAfter j c) cs ∙ length-after j c
 
 -- ---- overlays
 

@@ -6,13 +6,13 @@ use mathlib.Core.Bool.{true, false}
 use mathlib.Core.List.{List, [], _∷_}
 use Prim.Native.Nat.{ℕ, zero, suc}
 use Rattle.tag.specs.Refusals.{malformed-command, protected-byte, misread, unfinished}
-use Rattle.tag.specs.Stores.{Store, Command, ill, stores, puts, done}
+use Rattle.tag.specs.Stores.{Store, Command, malformed, stores, puts, tagAfter}
 use Rattle.tag.specs.Judge.{accepted, refused, Task, holdsAs, isSafe, keeps, fault, judge}
 
 module _ (t : Task) where
-  pub fault-ill : (j : List ℕ) → fault t j ill ≡ malformed-command
+  pub fault-malformed : (j : List ℕ) → fault t j malformed ≡ malformed-command
   unfolding fault
-  fault-ill j = refl
+  fault-malformed j = refl
 
   pub fault-change : (j : List ℕ) (ss : List Store) → keeps t (puts j ss) ≡ false → fault t j (stores ss) ≡ protected-byte
   unfolding fault
@@ -26,7 +26,7 @@ module _ (t : Task) where
   unfolding fault
   fault-none j ss k r = rw (k, r, fault)
 
-  pub judge-next : (n : ℕ) (j : List ℕ) (c : Command) (cs : List Command) → fault t j c ≡ 0 → judge t n j (c ∷ cs) ≡ judge t (suc n) (done j c) cs
+  pub judge-next : (n : ℕ) (j : List ℕ) (c : Command) (cs : List Command) → fault t j c ≡ 0 → judge t n j (c ∷ cs) ≡ judge t (suc n) (tagAfter j c) cs
   unfolding judge
   judge-next n j c cs e = rw (e, judge)
 

@@ -9,10 +9,10 @@ use borrow.Author.Tests.{ne-eqb, eqb-false, not-true}
 use lib.Dec.{eqb}
 use lib.ListN.{length}
 use Rattle.tag.specs.Checks.{Checked, fine, fault, firstOf}
-use Rattle.tag.specs.Reading.{What, message, empty, being-written, Report, Reading, unreadable, reads, broken, nothing, holds, part}
+use Rattle.tag.specs.Reading.{Content, message, empty, being-written, Report, Reading, unreadable, reads, broken, nothing, holds, part}
 use Rattle.tag.specs.Stores.{Store, stores}
 use Rattle.tag.specs.Plan.{Plan, list}
-use Rattle.tag.specs.TagType.{TagType, held, unwritten, written, checksOf, planned, writing}
+use Rattle.tag.specs.TagType.{TagType, held, refused-write, written, checksOf, planned, writing}
 use Rattle.tag.specs.Judge.{taskOf}
 use Rattle.tag.specs.Cuts.{Ready, Kept}
 use Rattle.tag.proofs.Logic.{nope}
@@ -43,8 +43,8 @@ pub record Laws (T : TagType) : Type 0 where
   -- reading's refusals are among 1 to 8
   pub numbered : (i : List ℕ) (r : ℕ) → (T .reading) i ≡ unreadable r → OfReading r
   -- without a message there are no bytes, and a message that is not interrupted is a part of the image
-  pub wordless : (i : List ℕ) (p : Report) → (T .reading) i ≡ reads p → (p .what ≡ message → ⊥) → p .bytes ≡ []
-  pub in-place : (i : List ℕ) (p : Report) → (T .reading) i ≡ reads p → p .what ≡ message → p .interrupted ≡ false
+  pub wordless : (i : List ℕ) (p : Report) → (T .reading) i ≡ reads p → (p .content ≡ message → ⊥) → p .bytes ≡ []
+  pub in-place : (i : List ℕ) (p : Report) → (T .reading) i ≡ reads p → p .content ≡ message → p .interrupted ≡ false
       → part (p .address) (length (p .bytes)) i ≡ p .bytes
   -- our commands are taken for what they store
   pub sent : (i m : List ℕ) → Ready T i m → Each (Sent T i) (list ((T .plan) i m) i)
@@ -62,13 +62,13 @@ unfolding writing
 written-ready T i m p e = go ((T .reading) i) refl
   where
     go : (v : Reading) → (T .reading) i ≡ v → Ready T i m × ((T .plan) i m ≡ p)
-    go (unreadable r) q = let e′ : unwritten r ≡ written p = rw q at e in absurd (nope (cc))
+    go (unreadable r) q = let e′ : refused-write r ≡ written p = rw q at e in absurd (nope (cc))
     go (reads v) q = on (firstOf (checksOf T i m v)) refl
       where
         on : (c : Checked) → firstOf (checksOf T i m v) ≡ c → Ready T i m × ((T .plan) i m ≡ p)
         on (fault r) f =
             let e′ : planned ((T .plan) i m) (firstOf (checksOf T i m v)) ≡ written p = rw q at e in
-            let e″ : unwritten r ≡ written p = sym (ap (planned ((T .plan) i m)) f) ∙ e′ in
+            let e″ : refused-write r ≡ written p = sym (ap (planned ((T .plan) i m)) f) ∙ e′ in
             absurd (nope (cc))
         on fine f =
             let e′ : planned ((T .plan) i m) (firstOf (checksOf T i m v)) ≡ written p = rw q at e in
@@ -85,9 +85,9 @@ written-ready T i m p e = go ((T .reading) i) refl
             )
 
 pub ready-reads : (T : TagType) (i m : List ℕ) → Ready T i m → held T i ≡ broken → ⊥
-ready-reads T i m r e = go (r .report .what) refl
+ready-reads T i m r e = go (r .report .content) refl
   where
-    go : (w : What) → r .report .what ≡ w → ⊥
+    go : (w : Content) → r .report .content ≡ w → ⊥
     go message q = let e′ : holds (r .report .bytes) ≡ broken = rw (r .reads-as, q) at e in nope (cc)
     go empty q = let e′ : nothing ≡ broken = rw (r .reads-as, q) at e in nope (cc)
     go being-written q = let e′ : nothing ≡ broken = rw (r .reads-as, q) at e in nope (cc)

@@ -9,7 +9,7 @@ use native.Mathlib.Omega.{arith}
 use borrow.Author.Tests.{ne-eqb}
 use lib.ListN.{length, take, drop, length-append, length-drop, take-append-drop, drop-of-length-le}
 use lib.Seq.{take-at, drop-at, take-all, drop-drop}
-use Rattle.tag.specs.TagType.{TagType, joined, cutUp}
+use Rattle.tag.specs.TagType.{TagType, joined, splitList}
 use Rattle.tag.specs.Views.Judging.{Piece}
 use Rattle.tag.proofs.Each.{Each}
 
@@ -18,18 +18,18 @@ module _ (span : List ℕ → ℕ) where
   abbrev pub SelfDelimiting : List ℕ → Type 0
   SelfDelimiting b = ((r : List ℕ) → span (b ++ r) ≡ length b) × (0 < length b)
 
-  pub cut-none : (k : ℕ) → cutUp span k [] ≡ []
-  unfolding cutUp
+  pub cut-none : (k : ℕ) → splitList span k [] ≡ []
+  unfolding splitList
   cut-none zero = refl
   cut-none (suc k) = refl
 
   -- one step of the cutting, with its fuel
   cut-step : (k : ℕ) (bytes : List ℕ) → 0 < length bytes
-      → cutUp span (suc k) bytes ≡ take (span bytes) bytes ∷ cutUp span k (drop (span bytes) bytes)
-  unfolding cutUp
-  cut-step k bytes h = rw (ne-eqb (length bytes) 0 (λ e. omega arith), cutUp)
+      → splitList span (suc k) bytes ≡ take (span bytes) bytes ∷ splitList span k (drop (span bytes) bytes)
+  unfolding splitList
+  cut-step k bytes h = rw (ne-eqb (length bytes) 0 (λ e. omega arith), splitList)
 
-  pub pieces-joined : (bs : List (List ℕ)) (k : ℕ) → Each SelfDelimiting bs → length (joined bs) ≤ k → cutUp span k (joined bs) ≡ bs
+  pub pieces-joined : (bs : List (List ℕ)) (k : ℕ) → Each SelfDelimiting bs → length (joined bs) ≤ k → splitList span k (joined bs) ≡ bs
   pieces-joined [] k h l = cut-none k
   pieces-joined (b ∷ bs) zero h l = absurd (omega (arith, length-append b (joined bs), h .0 .1))
   pieces-joined (b ∷ bs) (suc k) h l =
@@ -44,7 +44,7 @@ module _ (span : List ℕ → ℕ) where
     shorter : (bytes : List ℕ) (k : ℕ) → length bytes ≤ suc k → length (drop (span bytes) bytes) ≤ k
     shorter bytes k l = omega (arith, length-drop (span bytes) bytes, some bytes)
 
-    pub joined-pieces : (k : ℕ) (bytes : List ℕ) → length bytes ≤ k → joined (cutUp span k bytes) ≡ bytes
+    pub joined-pieces : (k : ℕ) (bytes : List ℕ) → length bytes ≤ k → joined (splitList span k bytes) ≡ bytes
     joined-pieces zero [] l = ap joined (cut-none 0)
     joined-pieces zero (a ∷ bytes) l = absurd (not-suc-le-zero l)
     joined-pieces (suc k) [] l = ap joined (cut-none (suc k))
@@ -54,7 +54,7 @@ module _ (span : List ℕ → ℕ) where
         ∙ ap (λ r. take n (a ∷ bytes) ++ r) (joined-pieces k (drop n (a ∷ bytes)) (shorter (a ∷ bytes) k l))
         ∙ take-append-drop n (a ∷ bytes)
 
-    cut-fuel : (k k′ : ℕ) (bytes : List ℕ) → length bytes ≤ k → length bytes ≤ k′ → cutUp span k bytes ≡ cutUp span k′ bytes
+    cut-fuel : (k k′ : ℕ) (bytes : List ℕ) → length bytes ≤ k → length bytes ≤ k′ → splitList span k bytes ≡ splitList span k′ bytes
     cut-fuel zero k′ [] l l′ = cut-none 0 ∙ sym (cut-none k′)
     cut-fuel zero k′ (a ∷ bytes) l l′ = absurd (not-suc-le-zero l)
     cut-fuel (suc k) k′ [] l l′ = cut-none (suc k) ∙ sym (cut-none k′)
@@ -66,7 +66,7 @@ module _ (span : List ℕ → ℕ) where
         ∙ sym (cut-step k′ (a ∷ bytes) (omega arith))
 
     pub cut-more : (k k′ : ℕ) (bytes : List ℕ) → 0 < length bytes → length bytes ≤ k → length (drop (span bytes) bytes) ≤ k′
-        → cutUp span k bytes ≡ take (span bytes) bytes ∷ cutUp span k′ (drop (span bytes) bytes)
+        → splitList span k bytes ≡ take (span bytes) bytes ∷ splitList span k′ (drop (span bytes) bytes)
     cut-more zero k′ bytes h l l′ = absurd (omega arith)
     cut-more (suc k) k′ bytes h l l′ =
         cut-step k bytes h

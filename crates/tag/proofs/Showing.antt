@@ -10,7 +10,7 @@ use borrow.Author.Tests.{ltb-false, le-leb, lt-ltb, le-ltb}
 use lib.ListN.{length, drop, length-append}
 use lib.Seq.{take-append-seam}
 use Rattle.tag.specs.Bytes.{overwrite}
-use Rattle.tag.specs.Reading.{What, message, empty, being-written, Report, Reading, unreadable, reads, tooShort, Answer, refusal, answer, answerOf, gatheredInto, part, shown, Held, broken, heldOf}
+use Rattle.tag.specs.Reading.{Content, message, empty, being-written, Report, Reading, unreadable, reads, tooShort, Answer, refusal, answer, answerOf, gatheredInto, part, shown, Held, broken, heldOf}
 use Rattle.tag.specs.TagType.{TagType, held}
 use Rattle.tag.specs.Answers.{heldBy, oldHeld, isMessage}
 use Rattle.tag.proofs.Logic.{nope}
@@ -65,10 +65,10 @@ old-is a had part h e q n = ap (λ b. oldHeld b part) e ∙ old-held a part (λ 
 module _ (T : TagType) (L : Laws T) where
   pub shown-part : (i buffer : List ℕ) (p : Report) → (T .reading) i ≡ reads p → tooShort (length buffer) p ≡ false
       → shown i (gatheredInto buffer (reads p)) (answerOf (length buffer) (reads p)) ≡ p .bytes
-  shown-part i buffer p e f = rw f (go (p .what) refl (p .interrupted) refl)
+  shown-part i buffer p e f = rw f (go (p .content) refl (p .interrupted) refl)
     where
-      go : (w : What) → p .what ≡ w → (b : Bool) → p .interrupted ≡ b
-          → shown i (cond (p .interrupted) (overwrite (p .bytes) buffer) buffer) (answer (p .what) (p .address) (length (p .bytes)) (p .interrupted) (p .writable)) ≡ p .bytes
+      go : (w : Content) → p .content ≡ w → (b : Bool) → p .interrupted ≡ b
+          → shown i (cond (p .interrupted) (overwrite (p .bytes) buffer) buffer) (answer (p .content) (p .address) (length (p .bytes)) (p .interrupted) (p .writable)) ≡ p .bytes
       go message q true r =
           let l : length (p .bytes) ≤ length buffer = ltb-false (length buffer) (length (p .bytes)) (rw r at f) in
           rw (q, r) (part-front (p .bytes) buffer l)

@@ -10,23 +10,23 @@ use native.Mathlib.Omega.{arith}
 use borrow.Author.Tests.{not-true, not-false}
 use lib.ListN.{length, take, drop, length-drop, drop-of-length-le}
 use Rattle.tag.specs.Refusals.{unfinished}
-use Rattle.tag.specs.Stores.{Store, Command, ill, stores, formed, puts, done}
-use Rattle.tag.specs.TagType.{TagType, held, cutUp}
+use Rattle.tag.specs.Stores.{Store, Command, malformed, stores, formed, puts, tagAfter}
+use Rattle.tag.specs.TagType.{TagType, held, splitList}
 use Rattle.tag.specs.Judge.{accepted, refused, Task, holdsAs, readsAs, keeps, fault, judge, task}
 use Rattle.tag.specs.Answers.{oldHeld}
 use Rattle.tag.specs.Views.Judging.{Piece, Applied, Tested}
 use Rattle.tag.proofs.Logic.{true-false}
 use Rattle.tag.proofs.Pieces.{cut-none, cut-more}
-use Rattle.tag.proofs.Judging.{fault-ill, fault-change, fault-misread, fault-none, judge-next, judge-stop, judge-good, judge-bad}
+use Rattle.tag.proofs.Judging.{fault-malformed, fault-change, fault-misread, fault-none, judge-next, judge-stop, judge-good, judge-bad}
 
 -- ---- a command's fault
 
-formed-ill : (c : Command) → formed c ≡ false → c ≡ ill
-formed-ill ill q = refl
-formed-ill (stores ss) q = absurd (true-false refl q)
+formed-malformed : (c : Command) → formed c ≡ false → c ≡ malformed
+formed-malformed malformed q = refl
+formed-malformed (stores ss) q = absurd (true-false refl q)
 
 formed-stores : (c : Command) → formed c ≡ true → (ss : List Store) × (c ≡ stores ss)
-formed-stores ill q = absurd (true-false q refl)
+formed-stores malformed q = absurd (true-false q refl)
 formed-stores (stores ss) q = (ss, refl)
 
 -- a command's bytes, given to j, leave j′
@@ -37,15 +37,15 @@ module _ (T : TagType) (i m j bytes : List ℕ) (r : Bool) (j′ : List ℕ) (gi
   abbrev c : Command
   c = (T .command) i bytes
 
-  pub step-ill : not r ≡ true → Tested T i m j bytes 20 j′
-  step-ill q = (sym (ap (fault t j) (formed-ill c (sym (given .0) ∙ not-true r q)) ∙ fault-ill t j), given .1)
+  pub step-malformed : not r ≡ true → Tested T i m j bytes 20 j′
+  step-malformed q = (sym (ap (fault t j) (formed-malformed c (sym (given .0) ∙ not-true r q)) ∙ fault-malformed t j), given .1)
 
   module _ (old : List ℕ) (had : Bool) (old-is : oldHeld had old ≡ held T i) (q : not r ≡ false) where
     e : (ss : List Store) × (c ≡ stores ss)
     e = formed-stores c (sym (given .0) ∙ not-false r q)
 
     stored : j′ ≡ puts j (e .0)
-    stored = given .1 ∙ ap (done j) (e .1)
+    stored = given .1 ∙ ap (tagAfter j) (e .1)
 
     module _ (kept : Bool) (k : kept ≡ keeps t j′) where
       keeps-is : (b : Bool) → kept ≡ b → keeps t (puts j (e .0)) ≡ b
@@ -69,11 +69,11 @@ module _ (T : TagType) (i m j bytes : List ℕ) (r : Bool) (j′ : List ℕ) (gi
 module _ (T : TagType) (i list : List ℕ) where
   -- the commands from a place on
   abbrev pub from : ℕ → List Command
-  from at = map ((T .command) i) (cutUp ((T .span) i) (length list) (drop at list))
+  from at = map ((T .command) i) (splitList ((T .span) i) (length list) (drop at list))
 
   from-end : (at : ℕ) → length list ≤ at → from at ≡ []
   from-end at h =
-      ap (λ r. map ((T .command) i) (cutUp ((T .span) i) (length list) r)) (drop-of-length-le list h)
+      ap (λ r. map ((T .command) i) (splitList ((T .span) i) (length list) r)) (drop-of-length-le list h)
       ∙ ap (map ((T .command) i)) (cut-none ((T .span) i) (length list))
 
   -- no command is left: the verdict is by what the tag holds
@@ -93,8 +93,8 @@ module _ (T : TagType) (i list : List ℕ) where
         ap (map ((T .command) i))
         (cut-more ((T .span) i) some (length list) (length list) r (omega (arith, length-drop at list)) (omega (arith, length-drop at list))
         (omega (arith, length-drop at list, length-drop ((T .span) i r) r)))
-        ∙ ap (λ x. (T .command) i x ∷ map ((T .command) i) (cutUp ((T .span) i) (length list) (drop ((T .span) i r) r))) (p .cut-is ∙ sym is)
-        ∙ ap (λ x. (T .command) i piece ∷ map ((T .command) i) (cutUp ((T .span) i) (length list) x)) (p .rest-is)
+        ∙ ap (λ x. (T .command) i x ∷ map ((T .command) i) (splitList ((T .span) i) (length list) (drop ((T .span) i r) r))) (p .cut-is ∙ sym is)
+        ∙ ap (λ x. (T .command) i piece ∷ map ((T .command) i) (splitList ((T .span) i) (length list) x)) (p .rest-is)
 
     module _ (m : List ℕ) (n : ℕ) (j : List ℕ) (f : ℕ) (j′ : List ℕ) (q : Tested T i m j piece f j′) where
       pub turn-stop : (f ≡ 0 → ⊥) → judge (task T i m) n j (from at) ≡ refused f n
@@ -107,5 +107,5 @@ module _ (T : TagType) (i list : List ℕ) where
       turn-next z =
           ap (judge (task T i m) n j) from-next
           ∙ judge-next (task T i m) n j ((T .command) i piece) (from (at + size)) (sym (q .0) ∙ z)
-          ∙ ap (λ k. judge (task T i m) k (done j ((T .command) i piece)) (from (at + size))) (sym (add-one n))
+          ∙ ap (λ k. judge (task T i m) k (tagAfter j ((T .command) i piece)) (from (at + size))) (sym (add-one n))
           ∙ ap (λ x. judge (task T i m) (n + 1) x (from (at + size))) (sym (q .1))

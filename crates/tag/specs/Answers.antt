@@ -4,8 +4,8 @@
 use mathlib.Core.Bool.{Bool, true, false, cond}
 use mathlib.Core.List.{List}
 use Prim.Native.Nat.{ℕ}
-use Rattle.tag.specs.declared.What as code
-use Rattle.tag.specs.declared.What.the-variants as what
+use Rattle.tag.specs.declared.Content as code
+use Rattle.tag.specs.declared.Content.the-variants as content
 use Rattle.tag.specs.declared.ReadAnswer.{ReadAnswer}
 use Rattle.tag.specs.declared.ReadAnswer.the-variants as read
 use Rattle.tag.specs.declared.CountAnswer.{CountAnswer}
@@ -15,20 +15,20 @@ use Rattle.tag.specs.declared.JudgeAnswer.the-variants as judged
 use Rattle.tag.specs.declared.ModelAnswer.{ModelAnswer}
 use Rattle.tag.specs.declared.ModelAnswer.the-variants as modelled
 use Rattle.tag.specs.Refusals.{Refusal, refusalAt}
-use Rattle.tag.specs.Reading.{What, message, empty, being-written, Answer, refusal, answer, Held, broken, nothing, holds, heldAs}
-use Rattle.tag.specs.TagType.{Output, withheld, output}
+use Rattle.tag.specs.Reading.{Content, message, empty, being-written, Answer, refusal, answer, Held, broken, nothing, holds, heldAs}
+use Rattle.tag.specs.TagType.{Output, refused-output, output}
 use Rattle.tag.specs.Judge.{Verdict, accepted, refused}
-use Rattle.tag.specs.Model.{Modelled, unstored, stored}
+use Rattle.tag.specs.Model.{Modelled, refused-storing, stored}
 
-abbrev pub whatOf : code.What → What
-whatOf what.Message = message
-whatOf what.Empty = empty
-whatOf what.BeingWritten = being-written
+abbrev pub contentOf : code.Content → Content
+contentOf content.Message = message
+contentOf content.Empty = empty
+contentOf content.BeingWritten = being-written
 
 -- reading
 abbrev pub readAs : ReadAnswer → Answer
 readAs (read.Refused r) = refusal r
-readAs (read.Reads p) = answer (whatOf (p .what)) (p .address .0) (p .length) (p .interrupted) (p .writable)
+readAs (read.Reads p) = answer (contentOf (p .content)) (p .address .0) (p .length) (p .interrupted) (p .writable)
 
 -- what a call returns: a refusal, or what it gives on success
 pub data Returned (A : Type 0) : Type 0 where
@@ -41,7 +41,7 @@ refusesOne r = refuses (refusalAt r 0)
 
 -- writing and encoding give a number
 abbrev pub countOf : Output → Returned ℕ
-countOf (withheld r) = refusesOne r
+countOf (refused-output r) = refusesOne r
 countOf (output n bytes) = gives n
 
 abbrev pub countAs : CountAnswer → Returned ℕ
@@ -55,7 +55,7 @@ verdictAs (judged.Accepted n) = accepted n
 
 -- the model gives only that it stored
 abbrev pub storingOf : Modelled → Returned (Unit {0})
-storingOf (unstored r) = refusesOne r
+storingOf (refused-storing r) = refusesOne r
 storingOf (stored j) = gives tt
 
 abbrev pub modelAs : ModelAnswer → Returned (Unit {0})
@@ -66,7 +66,7 @@ modelAs modelled.Stored = gives tt
 
 abbrev pub heldBy : Answer → List ℕ → Held
 heldBy (refusal r) part = broken
-heldBy (answer what a n interrupted w) part = heldAs what part
+heldBy (answer content a n interrupted w) part = heldAs content part
 
 -- the old message, if there was one
 abbrev pub oldHeld : Bool → List ℕ → Held

@@ -9,7 +9,7 @@ use lib.ListN.{length, getD}
 use Rattle.tag.specs.Bytes.{byte}
 use Rattle.tag.specs.Refusals.{malformed-command, protected-byte, misread, unfinished}
 use Rattle.tag.specs.Reading.{Report, reads, nothing, holds}
-use Rattle.tag.specs.Stores.{Command, ill, done, cut}
+use Rattle.tag.specs.Stores.{Command, malformed, tagAfter, cut}
 use Rattle.tag.specs.TagType.{TagType}
 use Rattle.tag.specs.Judge.{Task}
 
@@ -33,15 +33,15 @@ Kept t j = (a : ℕ) → a < length (t .start) → (t .kept) a ≡ true → byte
 
 -- the three things: every command is well formed; every cut 0 to c is safe, with the protected bytes unchanged; and the last
 -- cut reads as the new message
-pub record Three (t : Task) (cs : List Command) : Type 0 where
-  pub formed : (k : ℕ) → k < length cs → getD cs k ill ≡ ill → ⊥
+pub record SafeList (t : Task) (cs : List Command) : Type 0 where
+  pub formed : (k : ℕ) → k < length cs → getD cs k malformed ≡ malformed → ⊥
   pub safe : (k : ℕ) → k ≤ length cs → Safe t (cut k (t .start) cs)
   pub kept : (k : ℕ) → k ≤ length cs → Kept t (cut k (t .start) cs)
   pub ends : (t .held) (cut (length cs) (t .start) cs) ≡ holds (t .wanted)
 
 -- a tag that a command given to the tag j may leave behind: one, with the whole command stored
 abbrev pub Left : List ℕ → Command → List ℕ → Type 0
-Left j c x = x ≡ done j c
+Left j c x = x ≡ tagAfter j c
 
 abbrev pub KeptBy : Task → List ℕ → Command → Type 0
 KeptBy t j c = (x : List ℕ) → Left j c x → Kept t x
@@ -51,16 +51,16 @@ SafeBy t j c = (x : List ℕ) → Left j c x → Safe t x
 
 -- what is wrong with a command that is given to the tag j, tested in this order; 0 where nothing is
 pub data Fault (t : Task) (j : List ℕ) (c : Command) : ℕ → Type 0 where
-  none : (c ≡ ill → ⊥) → KeptBy t j c → SafeBy t j c → Fault t j c 0
-  form : c ≡ ill → Fault t j c malformed-command
-  change : (c ≡ ill → ⊥) → (KeptBy t j c → ⊥) → Fault t j c protected-byte
-  reading : (c ≡ ill → ⊥) → KeptBy t j c → (SafeBy t j c → ⊥) → Fault t j c misread
+  none : (c ≡ malformed → ⊥) → KeptBy t j c → SafeBy t j c → Fault t j c 0
+  form : c ≡ malformed → Fault t j c malformed-command
+  change : (c ≡ malformed → ⊥) → (KeptBy t j c → ⊥) → Fault t j c protected-byte
+  reading : (c ≡ malformed → ⊥) → KeptBy t j c → (SafeBy t j c → ⊥) → Fault t j c misread
 
 -- no command before place k is at fault
 abbrev pub Faultless : Task → List Command → ℕ → Type 0
-Faultless t cs k = (l : ℕ) → l < k → Fault t (cut l (t .start) cs) (getD cs l ill) 0
+Faultless t cs k = (l : ℕ) → l < k → Fault t (cut l (t .start) cs) (getD cs l malformed) 0
 
 -- the first fault of a list: a command's, at its position, or 23 with the number of commands
-pub data First (t : Task) (cs : List Command) (r p : ℕ) : Type 0 where
-  of-command : p < length cs → Faultless t cs p → Fault t (cut p (t .start) cs) (getD cs p ill) r → (r ≡ 0 → ⊥) → First t cs r p
-  of-list : p ≡ length cs → r ≡ unfinished → Faultless t cs p → ((t .held) (cut p (t .start) cs) ≡ holds (t .wanted) → ⊥) → First t cs r p
+pub data FirstFault (t : Task) (cs : List Command) (r p : ℕ) : Type 0 where
+  of-command : p < length cs → Faultless t cs p → Fault t (cut p (t .start) cs) (getD cs p malformed) r → (r ≡ 0 → ⊥) → FirstFault t cs r p
+  of-list : p ≡ length cs → r ≡ unfinished → Faultless t cs p → ((t .held) (cut p (t .start) cs) ≡ holds (t .wanted) → ⊥) → FirstFault t cs r p

@@ -9,9 +9,9 @@ use lib.ListN.{length}
 use Rattle.tag.specs.Bytes.{byte, run, same}
 use Rattle.tag.specs.Refusals.{malformed-command, protected-byte, misread, unfinished}
 use Rattle.tag.specs.Reading.{Held, broken, nothing, holds}
-use Rattle.tag.specs.Stores.{Command, ill, stores, done, states}
+use Rattle.tag.specs.Stores.{Command, malformed, stores, tagAfter, states}
 use Rattle.tag.specs.Plan.{Plan, protected}
-use Rattle.tag.specs.TagType.{TagType, held, Writing, unwritten, written, writing, commands}
+use Rattle.tag.specs.TagType.{TagType, held, Writing, refused-write, written, writing, commands}
 
 -- accepted, with the number of commands; or a refusal and the position of the command, counted from 0
 pub data Verdict : Type 0 where
@@ -55,7 +55,7 @@ every test (x ∷ xs) = test x && every test xs
 
 -- the refusal of a command that is given to the tag j, or 0
 unfoldable pub fault : Task → List ℕ → Command → ℕ
-fault t j ill = malformed-command
+fault t j malformed = malformed-command
 fault t j (stores ss) =
     elim (every (keeps t) (states j ss)) [
       | false ↦ protected-byte
@@ -65,7 +65,7 @@ fault t j (stores ss) =
 -- the commands from place n on, with the tag j that those before have left
 unfoldable pub judge : Task → ℕ → List ℕ → List Command → Verdict
 judge t n j [] = elim (holdsAs ((t .held) j) (t .wanted)) [ true ↦ accepted n | false ↦ refused unfinished n ]
-judge t n j (c ∷ cs) = elim (fault t j c) [ zero ↦ judge t (suc n) (done j c) cs | suc r ↦ refused (suc r) n ]
+judge t n j (c ∷ cs) = elim (fault t j c) [ zero ↦ judge t (suc n) (tagAfter j c) cs | suc r ↦ refused (suc r) n ]
 
 abbrev pub taskOf : TagType → List ℕ → List ℕ → Plan → Task
 taskOf T i m p = record { held = held T; start = i; wanted = m; kept = protected p }
@@ -76,7 +76,7 @@ task T i m = taskOf T i m ((T .plan) i m)
 
 -- refusals 1 to 11 first, with position 0; then the list's commands
 abbrev pub judgeBy : TagType → List ℕ → List ℕ → List ℕ → Writing → Verdict
-judgeBy T i m bytes (unwritten r) = refused r 0
+judgeBy T i m bytes (refused-write r) = refused r 0
 judgeBy T i m bytes (written p) = judge (taskOf T i m p) 0 i (commands T i bytes)
 
 -- the answer of `judge`, for a tag, a message and the bytes of a list

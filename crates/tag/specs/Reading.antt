@@ -10,12 +10,12 @@ use Rattle.tag.specs.Bytes.{overwrite}
 use Rattle.tag.specs.Refusals.{short-gathering-buffer}
 
 -- which it is
-pub data What : Type 0 where
-  message empty being-written : What
+pub data Content : Type 0 where
+  message empty being-written : Content
 
 -- what a tag that reads says of itself; without a message `bytes` is empty and `address` is 0
 pub record Report : Type 0 where
-  pub what : What
+  pub content : Content
   pub bytes : List ℕ
   pub address : ℕ
   -- a skipped address lies between the message's first and last byte
@@ -35,7 +35,7 @@ refusalNumber (reads p) = 0
 -- the answer of `read`: a refusal; or which it is, address, length, interrupted, writable
 pub data Answer : Type 0 where
   refusal : ℕ → Answer
-  answer : What → ℕ → ℕ → Bool → Bool → Answer
+  answer : Content → ℕ → ℕ → Bool → Bool → Answer
 
 -- an interrupted message that is longer than the gathering buffer
 abbrev pub tooShort : ℕ → Report → Bool
@@ -46,7 +46,7 @@ abbrev pub answerOf : ℕ → Reading → Answer
 answerOf room (unreadable r) = refusal r
 answerOf room (reads p) =
     cond (tooShort room p) (refusal short-gathering-buffer)
-    (answer (p .what) (p .address) (length (p .bytes)) (p .interrupted) (p .writable))
+    (answer (p .content) (p .address) (length (p .bytes)) (p .interrupted) (p .writable))
 
 -- the gathering buffer afterwards: gathering changes only its front, and only if the message is interrupted and fits
 abbrev pub gatheredInto : List ℕ → Reading → List ℕ
@@ -72,11 +72,11 @@ pub data Held : Type 0 where
   nothing : Held
   holds : List ℕ → Held
 
-abbrev pub heldAs : What → List ℕ → Held
+abbrev pub heldAs : Content → List ℕ → Held
 heldAs message m = holds m
 heldAs empty m = nothing
 heldAs being-written m = nothing
 
 abbrev pub heldOf : Reading → Held
 heldOf (unreadable r) = broken
-heldOf (reads p) = heldAs (p .what) (p .bytes)
+heldOf (reads p) = heldAs (p .content) (p .bytes)

@@ -13,12 +13,12 @@ pub record Store : Type 0 where
 
 -- a command is what it stores, or it is not well formed
 pub data Command : Type 0 where
-  ill : Command
+  malformed : Command
   stores : List Store → Command
 
 -- is a command well formed
 abbrev pub formed : Command → Bool
-formed ill = false
+formed malformed = false
 formed (stores ss) = true
 
 -- an image with a store made, with several made in order
@@ -30,9 +30,9 @@ puts j [] = j
 puts j (s ∷ ss) = puts (put j s) ss
 
 -- a tag after a command: its data stored, all else kept; a command that is not well formed stores nothing
-abbrev pub done : List ℕ → Command → List ℕ
-done j ill = j
-done j (stores ss) = puts j ss
+abbrev pub tagAfter : List ℕ → Command → List ℕ
+tagAfter j malformed = j
+tagAfter j (stores ss) = puts j ss
 
 -- the tags that a command may leave behind: one, with the whole command stored
 abbrev pub states : List ℕ → List Store → List (List ℕ)
@@ -42,4 +42,4 @@ states j ss = puts j ss ∷ []
 abbrev pub cut : ℕ → List ℕ → List Command → List ℕ
 cut zero j cs = j
 cut (suc k) j [] = j
-cut (suc k) j (c ∷ cs) = cut k (done j c) cs
+cut (suc k) j (c ∷ cs) = cut k (tagAfter j c) cs

@@ -33,7 +33,7 @@ held T i = heldOf ((T .reading) i)
 
 -- writing is refused, with one of 1 to 11, or it has a plan
 pub data Writing : Type 0 where
-  unwritten : ℕ → Writing
+  refused-write : ℕ → Writing
   written : Plan → Writing
 
 -- 9, 10, 11, in this order
@@ -46,10 +46,10 @@ checksOf T i m p =
 
 abbrev pub planned : Plan → Checked → Writing
 planned p fine = written p
-planned p (fault r) = unwritten r
+planned p (fault r) = refused-write r
 
 abbrev pub writingBy : TagType → List ℕ → List ℕ → Reading → Writing
-writingBy T i m (unreadable r) = unwritten r
+writingBy T i m (unreadable r) = refused-write r
 writingBy T i m (reads p) = planned ((T .plan) i m) (firstOf (checksOf T i m p))
 
 unfoldable pub writing : TagType → List ℕ → List ℕ → Writing
@@ -66,38 +66,38 @@ listBytes T p i = joined (map (T .encoded) (list p i))
 
 -- what is written to a buffer, with the number that is returned; or a refusal
 pub data Output : Type 0 where
-  withheld : ℕ → Output
+  refused-output : ℕ → Output
   output : ℕ → List ℕ → Output
 
 -- 12 if the bytes do not fit
 abbrev pub fitted : ℕ → ℕ → List ℕ → Output
-fitted room n bytes = cond (leb (length bytes) room) (output n bytes) (withheld short-buffer)
+fitted room n bytes = cond (leb (length bytes) room) (output n bytes) (refused-output short-buffer)
 
 -- a refusal changes no byte of the buffer
 abbrev pub outputInto : List ℕ → Output → List ℕ
-outputInto buffer (withheld r) = buffer
+outputInto buffer (refused-output r) = buffer
 outputInto buffer (output n bytes) = overwrite bytes buffer
 
 -- the answer of `write`, by the length of the list buffer: the number of commands
 abbrev pub writeBy : TagType → ℕ → List ℕ → Writing → Output
-writeBy T room i (unwritten r) = withheld r
+writeBy T room i (refused-write r) = refused-output r
 writeBy T room i (written p) = fitted room (length (list p i)) (listBytes T p i)
 
 abbrev pub write : TagType → ℕ → List ℕ → List ℕ → Output
 write T room i m = writeBy T room i (writing T i m)
 
 -- a list's bytes cut into commands from the front, each taking the bytes of its span; a rest too short is the last one
-unfoldable pub cutUp : (List ℕ → ℕ) → ℕ → List ℕ → List (List ℕ)
-cutUp span zero bytes = []
-cutUp span (suc fuel) bytes =
+unfoldable pub splitList : (List ℕ → ℕ) → ℕ → List ℕ → List (List ℕ)
+splitList span zero bytes = []
+splitList span (suc fuel) bytes =
     elim (eqb (length bytes) 0) [
       | true ↦ []
-      | false ↦ take (span bytes) bytes ∷ cutUp span fuel (drop (span bytes) bytes)
+      | false ↦ take (span bytes) bytes ∷ splitList span fuel (drop (span bytes) bytes)
     ]
 
 -- a span is at least 1, so that there are at most as many commands as bytes
 abbrev pub pieces : TagType → List ℕ → List ℕ → List (List ℕ)
-pieces T i bytes = cutUp ((T .span) i) (length bytes) bytes
+pieces T i bytes = splitList ((T .span) i) (length bytes) bytes
 
 -- the commands of a list's bytes, by the tag handed in
 abbrev pub commands : TagType → List ℕ → List ℕ → List Command

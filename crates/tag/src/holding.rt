@@ -1,8 +1,8 @@
 // What the judge asks of a tag that was read: by the answer of reading and the part shown.
 
+use crate::Content;
 use crate::ReadAnswer;
 use crate::Report;
-use crate::What;
 use crate::slices;
 ghost use mathlib.Core.Path.{_≡_};
 ghost use mathlib.Core.Bool.{_||_};
@@ -17,11 +17,11 @@ pub fn is_message(answer: ReadAnswer) -> bool
     match answer {
         ReadAnswer::Refused(_) => false,
         ReadAnswer::Reads(report) => {
-            let what = report.what;
-            match what {
-                What::Message => true,
-                What::Empty => false,
-                What::BeingWritten => false,
+            let content = report.content;
+            match content {
+                Content::Message => true,
+                Content::Empty => false,
+                Content::BeingWritten => false,
             }
         }
     }
@@ -31,11 +31,11 @@ pub fn is_message(answer: ReadAnswer) -> bool
 fn holds_of(report: Report, shown: &[u8], message: &[u8]) -> bool
     ensures { λ r. ⌜ r ≡ holdsAs (heldBy (readAs (ReadAnswer.Reads report)) (now (shown .entry))) (now (message .entry)) ⌝ }
 {
-    let what = report.what;
-    match what {
-        What::Message => slices::same(message, shown),
-        What::Empty => false,
-        What::BeingWritten => false,
+    let content = report.content;
+    match content {
+        Content::Message => slices::same(message, shown),
+        Content::Empty => false,
+        Content::BeingWritten => false,
     }
 }
 
@@ -66,11 +66,11 @@ fn is_either(shown: &[u8], new: &[u8], old: &[u8], had: bool) -> bool
 fn is_safe_of(report: Report, shown: &[u8], new: &[u8], old: &[u8], had: bool) -> bool
     ensures { λ r. ⌜ r ≡ readsAs (now (new .entry)) (oldHeld had (now (old .entry))) (heldBy (readAs (ReadAnswer.Reads report)) (now (shown .entry))) ⌝ }
 {
-    let what = report.what;
-    match what {
-        What::Message => is_either(shown, new, old, had),
-        What::Empty => true,
-        What::BeingWritten => true,
+    let content = report.content;
+    match content {
+        Content::Message => is_either(shown, new, old, had),
+        Content::Empty => true,
+        Content::BeingWritten => true,
     }
 }
 

@@ -39,7 +39,7 @@ impl Block {
 }
 
 // Which of the three a tag that reads is.
-pub enum What {
+pub enum Content {
     Message,
     Empty,
     BeingWritten,
@@ -47,7 +47,7 @@ pub enum What {
 
 // What a tag that reads says of itself. Without a message, address and length are 0.
 pub struct Report {
-    pub what: What,
+    pub content: Content,
     pub address: Address,
     pub length: usize,
     pub interrupted: bool,

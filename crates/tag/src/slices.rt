@@ -1,8 +1,8 @@
 // Parts of lent slices, whether two slices are equal, and storing one in another.
 
+use crate::Content;
 use crate::ReadAnswer;
 use crate::Report;
-use crate::What;
 ghost use mathlib.Core.Path.{_≡_};
 ghost use mathlib.Core.Bool.{cond};
 ghost use Prim.Native.Nat.{_+_, _≤_};
@@ -32,19 +32,19 @@ fn part<'a>(s: &'a [u8], start: usize, len: usize) -> &'a [u8]
 fn shown_of<'a>(image: &'a [u8], gathered: &'a [u8], report: Report) -> &'a [u8]
     ensures { λ r. ⌜ now r ≡ shown (now (image .entry)) (now (gathered .entry)) (readAs (ReadAnswer.Reads report)) ⌝ }
 {
-    let what = report.what;
+    let content = report.content;
     let start = report.address.0;
     let len = report.length;
-    match what {
-        What::Message => {
+    match content {
+        Content::Message => {
             if report.interrupted {
                 part(gathered, 0, len)
             } else {
                 part(image, start, len)
             }
         }
-        What::Empty => &image[0..0],
-        What::BeingWritten => &image[0..0],
+        Content::Empty => &image[0..0],
+        Content::BeingWritten => &image[0..0],
     }
 }
 

@@ -17,7 +17,7 @@ use Rattle.tag.proofs.Images.{length-overlay}
 use Rattle.tag.proofs.Addresses.{Above, above-less, above-hi, above-take, above-length, map-out, overlay-reads}
 use Rattle.tlv.specs.Walk.{len, longBy, lengthBy, lengthOf}
 use Rattle.tlv.proofs.Sizes.{Sized}
-use Rattle.tlv_tag.specs.Update.{fitsIn, lengthField, content, lengthAt}
+use Rattle.tlv_tag.specs.Update.{fitsIn, lengthField, tlvBytes, lengthAt}
 
 -- ---- room
 
@@ -105,12 +105,12 @@ module _ (hi : ℕ) where
 
   -- the bound on hi keeps the length in the three-byte form's range
   pub written : (us m i : List ℕ) (x : ℕ) → Above hi x us → hi ≤ length i → hi ≤ 65534 → fitsIn (length m) (length us) ≡ true
-      → Written us m (overlay us (content m) i)
+      → Written us m (overlay us (tlvBytes m) i)
   unfolding lengthField
   written us m i x h l w f = go (fits-is (length m) (length us) f)
     where
       go : ((leb (length m) 254 ≡ true) × (1 + length m ≤ length us)) ⊎ ((leb (length m) 254 ≡ false) × (3 + length m ≤ length us))
-          → Written us m (overlay us (content m) i)
+          → Written us m (overlay us (tlvBytes m) i)
       go (inl c) = rw (c .0, lengthField) (written-short us m (0xFE ∷ []) i x h l (c .0) (c .1))
       go (inr c) =
           rw (c .0, lengthField)
@@ -122,15 +122,15 @@ pub above-first : (hi x : ℕ) (us : List ℕ) → Above hi x us → 0 < length 
 above-first hi x [] h l = absurd (omega arith)
 above-first hi x (y ∷ us) h l = (h .0, above-hi hi y us (h .1))
 
-content-cons : (m : List ℕ) → (v : ℕ) × (vs : List ℕ) × (content m ≡ v ∷ vs)
+tlv-bytes-cons : (m : List ℕ) → (v : ℕ) × (vs : List ℕ) × (tlvBytes m ≡ v ∷ vs)
 unfolding lengthField
-content-cons m = go (leb (length m) 254) refl
+tlv-bytes-cons m = go (leb (length m) 254) refl
   where
-    go : (b : Bool) → leb (length m) 254 ≡ b → (v : ℕ) × (vs : List ℕ) × (content m ≡ v ∷ vs)
+    go : (b : Bool) → leb (length m) 254 ≡ b → (v : ℕ) × (vs : List ℕ) × (tlvBytes m ≡ v ∷ vs)
     go true q = (length m, m ++ 0xFE ∷ [], rw (q, lengthField))
     go false q = (0xFF, length m / 256 ∷ length m % 256 ∷ (m ++ 0xFE ∷ []), rw (q, lengthField))
 
 -- it is one of the bytes to set
-pub first-set : (us m : List ℕ) → 0 < length us → isSet us (content m) (lengthAt us) ≡ true
+pub first-set : (us m : List ℕ) → 0 < length us → isSet us (tlvBytes m) (lengthAt us) ≡ true
 first-set [] m l = absurd (omega arith)
-first-set (x ∷ us) m l = let (v, vs, e) = content-cons m in rw e (or-l (eqb x x) (isSet us vs x) (eq-eqb x x refl))
+first-set (x ∷ us) m l = let (v, vs, e) = tlv-bytes-cons m in rw e (or-l (eqb x x) (isSet us vs x) (eq-eqb x x refl))

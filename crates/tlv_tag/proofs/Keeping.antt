@@ -20,12 +20,12 @@ use Rattle.tlv.specs.Views.Table.{noneSkipped, usableIn}
 use Rattle.tlv.specs.Views.Walks.{ahead, Within}
 use Rattle.tlv.proofs.Usable.{set-usable}
 use Rattle.tlv_tag.specs.declared.kept.Extent.{Extent}
-use Rattle.tlv_tag.specs.Views.Update.{contentLength}
+use Rattle.tlv_tag.specs.Views.Update.{tlvBytesLength}
 use Rattle.tlv_tag.specs.Views.Kept.{Bounded}
 
 -- the bytes set lie below the usable address that comes after as many others
-pub set-below : (t : List ℕ) (w : Walk) → Within t w → (n k z : ℕ) → k ≡ contentLength n → z ≡ getD (ahead t w) k (w .end .0)
-    → (vs : List ℕ) (a : ℕ) → length vs ≡ contentLength n → isSet (ahead t w) vs a ≡ usableIn t (w .at .0) z a
+pub set-below : (t : List ℕ) (w : Walk) → Within t w → (n k z : ℕ) → k ≡ tlvBytesLength n → z ≡ getD (ahead t w) k (w .end .0)
+    → (vs : List ℕ) (a : ℕ) → length vs ≡ tlvBytesLength n → isSet (ahead t w) vs a ≡ usableIn t (w .at .0) z a
 set-below t w h n k z f e vs a l =
     set-usable t (w .at .0) (w .end .0 - w .at .0) (w .end .0) (omega (arith, h .ordered)) vs a
     ∙ ap (λ s. usableIn t (w .at .0) s a) (ap (λ x. getD (ahead t w) x (w .end .0)) (l ∙ sym f) ∙ sym e)

@@ -7,6 +7,6 @@ pub mod Refusals
 pub mod Planning
 pub mod Fitting
 pub mod Reading
-pub mod Content
+pub mod TlvBytes
 pub mod Preparing
 pub mod Keeping

@@ -7,7 +7,7 @@ use Prim.Native.Nat.{ℕ}
 use lib.Dec.{eqb}
 use lib.ListN.{length}
 use Rattle.tag.specs.Stores.{Store, Command}
-use Rattle.tag.specs.TagType.{Writing, unwritten, written, writing, planned}
+use Rattle.tag.specs.TagType.{Writing, refused-write, written, writing, planned}
 use Rattle.tag.specs.Refusals.{empty-message, not-writable, message-too-long}
 use Rattle.tag.specs.Checks.{check, Checked, firstOf}
 use Rattle.tlv_tag.specs.Message.{TlvTag, View, refuse, view, viewed, reading}
@@ -18,7 +18,7 @@ use Rattle.tlv_tag.proofs.Writes.{report-writable}
 
 -- what the space is for writing
 abbrev pub writingIn : ℕ → List ℕ → List ℕ → Space → Writing
-writingIn z i m (no-space r) = unwritten r
+writingIn z i m (no-space r) = refused-write r
 writingIn z i m (space us) = written (planBy z us i m)
 
 -- the three tests in order, as a list and as a choice

@@ -17,9 +17,9 @@ use Rattle.tlv.specs.declared.walk.Walk.{Walk}
 use Rattle.tlv.specs.Views.Walks.{ahead}
 use Rattle.tlv.specs.Views.Values.{BlocksMarked}
 use Rattle.tlv.proofs.Usable.{from, At, from-first, from-end}
-use Rattle.tlv_tag.specs.Update.{content, lengthAt, planBy}
-use Rattle.tlv_tag.specs.Views.Update.{contentLength}
-use Rattle.tlv_tag.proofs.Content.{length-content}
+use Rattle.tlv_tag.specs.Update.{tlvBytes, lengthAt, planBy}
+use Rattle.tlv_tag.specs.Views.Update.{tlvBytesLength}
+use Rattle.tlv_tag.proofs.TlvBytes.{length-tlv-bytes}
 
 -- ---- the first length byte
 
@@ -37,17 +37,17 @@ first-usable t w f p e l =
 -- ---- the marks, g the guard block
 
 module _ (z : ℕ) (us i m before after : List ℕ) (g : ℕ) (zeros : before ≡ replicate (length before) 0) (same : length after ≡ length before)
-    (is : BlocksMarked z (contentLength (length m)) us before after) (guard : g ≡ lengthAt us / z) where
+    (is : BlocksMarked z (tlvBytesLength (length m)) us before after) (guard : g ≡ lengthAt us / z) where
   -- the blocks that hold a byte to set
-  marked-touches : (b : ℕ) → b < length before → byte after b ≡ cond (touches z us (content m) b) 1 0
+  marked-touches : (b : ℕ) → b < length before → byte after b ≡ cond (touches z us (tlvBytes m) b) 1 0
   marked-touches b l =
       let e : byte before b ≡ 0 = ap (λ k. byte k b) zeros ∙ getD-replicate (length before) b 0 0 l in
-      is (content m) b (length-content m) l ∙ rw e
+      is (tlvBytes m) b (length-tlv-bytes m) l ∙ rw e
 
   -- and with the guard block's mark taken away
   pub marked-between : (b : ℕ) → b < length before → byte (set after g 0) b ≡ cond (between (planBy z us i m) b) 1 0
   marked-between b l = rw (← guard) (go (ℕ-discrete b g))
     where
-      go : Dec (b ≡ g) → byte (set after g 0) b ≡ cond (not (eqb b g) && touches z us (content m) b) 1 0
+      go : Dec (b ≡ g) → byte (set after g 0) b ≡ cond (not (eqb b g) && touches z us (tlvBytes m) b) 1 0
       go (yes e) = rw (e, getD-set-same after g 0 0 (omega arith), eq-eqb g g refl)
       go (no n) = rw (getD-set-other after g b 0 0 n, ne-eqb b g n) (marked-touches b l)

@@ -56,7 +56,7 @@ module _ (i us buffer : List ℕ) (p : code.Report) (room : p .length ≤ length
 -- what is reported of a message that was measured
 report-measured : (b : Bool) (i us : List ℕ) (n : ℕ) → 1 ≤ n → n ≤ length us
     → reportOf b i (take n us) ≡ record {
-      what = message;
+      content = message;
       bytes = map (byte i) (take n us);
       address = getD us 0 0;
       interrupted = not (consecutive (take n us));
@@ -76,7 +76,7 @@ module _ (w : Bool) (i us : List ℕ) where
   value-short n l = rw (lt-leb n (length us) l)
 
   pub value-measured : (n a : ℕ) (b : Bool) → 1 ≤ n → n ≤ length us → at a b ≡ measured n us
-      → valueReading w i n us ≡ reads (record { what = message; bytes = map (byte i) (take n us); address = a; interrupted = b; writable = w })
+      → valueReading w i n us ≡ reads (record { content = message; bytes = map (byte i) (take n us); address = a; interrupted = b; writable = w })
   unfolding valueReading measured
   value-measured n a b k l e =
       let q = rw (le-leb n (length us) l) at e in

@@ -10,7 +10,7 @@ use borrow.Author.Tests.{eqb-true, le-leb, not-false}
 use lib.Dec.{eqb}
 use lib.ListN.{length, take, drop, length-map}
 use Rattle.tag.specs.Bytes.{byte, run, consecutive}
-use Rattle.tag.specs.Reading.{What, message, Report, Reading, reads, part}
+use Rattle.tag.specs.Reading.{Content, message, Report, Reading, reads, part}
 use Rattle.tag.proofs.Logic.{and-l, and-r, nope}
 use Rattle.tag.proofs.Addresses.{Above, above-length, above-take}
 use Rattle.tag.proofs.Runs.{map-run}
@@ -35,19 +35,19 @@ module _ (T : TlvTag) (laws : TlvLaws T) where
       let (u, n, vs, q, t) = viewBy-is us ms us (lengthOf i us) e′ in
       (p .at, subst (λ l. Above (length i) (p .at) l) t (above-take (length i) n (p .at) vs (length-above (length i) i us vs n q (p .at) (beyond T laws i us p .1))))
 
-  pub wordless : (i : List ℕ) (p : Report) → reading T i ≡ reads p → (p .what ≡ message → ⊥) → p .bytes ≡ []
+  pub wordless : (i : List ℕ) (p : Report) → reading T i ≡ reads p → (p .content ≡ message → ⊥) → p .bytes ≡ []
   wordless i p e n = let (us, ms, q, r) = by-report T i p e in go ms r
     where
       go : (ms : List ℕ) → reportOf ((T .writable) i) i ms ≡ p → p .bytes ≡ []
       go [] r = rw (← r)
       go (a ∷ ms) r = absurd (n (rw (← r)))
 
-  pub in-place : (i : List ℕ) (p : Report) → reading T i ≡ reads p → p .what ≡ message → p .interrupted ≡ false
+  pub in-place : (i : List ℕ) (p : Report) → reading T i ≡ reads p → p .content ≡ message → p .interrupted ≡ false
       → part (p .address) (length (p .bytes)) i ≡ p .bytes
   in-place i p e m f = let (us, ms, q, r) = by-report T i p e in let (x, h) = message-above i us ms q in go x ms r h
     where
       go : (x : ℕ) (ms : List ℕ) → reportOf ((T .writable) i) i ms ≡ p → Above (length i) x ms → part (p .address) (length (p .bytes)) i ≡ p .bytes
-      go x [] r h = let z : _≡_ {A = What} Rattle.tag.specs.Reading.empty message = ap (λ s. s .what) r ∙ m in absurd (nope (cc))
+      go x [] r h = let z : _≡_ {A = Content} Rattle.tag.specs.Reading.empty message = ap (λ s. s .content) r ∙ m in absurd (nope (cc))
       go x (a ∷ ms) r h =
           let c : consecutive (a ∷ ms) ≡ true = not-false (consecutive (a ∷ ms)) (ap (λ s. s .interrupted) r ∙ f) in
           let n = length (a ∷ ms) in

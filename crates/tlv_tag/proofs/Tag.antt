@@ -25,7 +25,7 @@ use Rattle.tlv.specs.Walk.{Length, bad, len, lengthBy, lengthOf, Found, lost, f
 use Rattle.tlv.proofs.Locality.{find-above, find-same}
 use Rattle.tlv.proofs.Sizes.{length-size}
 use Rattle.tlv_tag.specs.Message.{TlvTag, View, refuse, view, viewBy, viewed, reportOf, readingOf, reading}
-use Rattle.tlv_tag.specs.Update.{usable, fitsIn, content, lengthAt}
+use Rattle.tlv_tag.specs.Update.{usable, fitsIn, tlvBytes, lengthAt}
 use Rattle.tlv_tag.proofs.Field.{Written, written, fits-less, fits-of, above-first}
 
 -- ---- a message TLV by its length field
@@ -212,23 +212,23 @@ module _ (T : TlvTag) (laws : TlvLaws T) where
 
   -- what writing sets
   module _ (i m us : List ℕ) (r : Ready T i m us) where
-    pub new-agrees : (x : ℕ) → x ≤ r .placed .at → byte (overlay us (content m) i) x ≡ byte i x
+    pub new-agrees : (x : ℕ) → x ≤ r .placed .at → byte (overlay us (tlvBytes m) i) x ≡ byte i x
     new-agrees x l =
-        overlay-out us (content m) i x (above-unset (length i) us (content m) (r .placed .at) x (beyond i us (r .placed) .1) l)
+        overlay-out us (tlvBytes m) i x (above-unset (length i) us (tlvBytes m) (r .placed .at) x (beyond i us (r .placed) .1) l)
 
-    pub reads-new : heldOf (reading T (overlay us (content m) i)) ≡ holds m
+    pub reads-new : heldOf (reading T (overlay us (tlvBytes m) i)) ≡ holds m
     reads-new =
-        let j = overlay us (content m) i in
+        let j = overlay us (tlvBytes m) i in
         let p = r .placed in
         let b : length i ≤ 65534 = bounds i us p .1 in
         let w : Written us m j = written (length i) us m i (p .at) (beyond i us p .1) (omega arith) b (r .room) in
-        same-held i us p j (length-overlay us (content m) i) new-agrees ∙ view-written ((T .writable) j) us m j w (r .some-bytes)
+        same-held i us p j (length-overlay us (tlvBytes m) i) new-agrees ∙ view-written ((T .writable) j) us m j w (r .some-bytes)
 
     pub some-room : 0 < length us
     some-room = omega (arith, fits-less (length m) (length us) (r .room))
 
     -- a message that fits is held by an image of equal length that agrees wherever no byte is to be set
-    pub long-enough : (length (overlay us (content m) i) ≡ length i)
-        × ((x : ℕ) → not (isSet us (content m) x) ≡ true → byte (overlay us (content m) i) x ≡ byte i x)
-        × (heldOf (reading T (overlay us (content m) i)) ≡ holds m)
-    long-enough = (length-overlay us (content m) i, overlay-out us (content m) i, reads-new)
+    pub long-enough : (length (overlay us (tlvBytes m) i) ≡ length i)
+        × ((x : ℕ) → not (isSet us (tlvBytes m) x) ≡ true → byte (overlay us (tlvBytes m) i) x ≡ byte i x)
+        × (heldOf (reading T (overlay us (tlvBytes m) i)) ≡ holds m)
+    long-enough = (length-overlay us (tlvBytes m) i, overlay-out us (tlvBytes m) i, reads-new)

@@ -21,7 +21,7 @@ use Rattle.tag.proofs.Blocks.{block-of}
 use Rattle.tag.proofs.Writes.{Sound}
 use Rattle.tag.proofs.Laws.{Near}
 use Rattle.tlv_tag.specs.Message.{TlvTag, viewed, reportOf, reading}
-use Rattle.tlv_tag.specs.Update.{usable, fitsIn, content, lengthAt, plan}
+use Rattle.tlv_tag.specs.Update.{usable, fitsIn, tlvBytes, lengthAt, plan}
 use Rattle.tlv_tag.specs.Tag.{tagOf}
 use Rattle.tlv_tag.proofs.Field.{first-set}
 use Rattle.tlv_tag.proofs.Tag as tlv
@@ -62,20 +62,20 @@ module _ (K : TlvTag) (laws : TlvLaws K) (command : List ℕ → List ℕ → Co
     front = tlv.front K laws i (room K i) at some
 
     -- up to the type byte every tag in between is as it was
-    agrees : (j : List ℕ) → Between (inBlock (K .block) (plan K i m .guard)) i (plan K i m .closed) (overlay us (content m) i) j
+    agrees : (j : List ℕ) → Between (inBlock (K .block) (plan K i m .guard)) i (plan K i m .closed) (overlay us (tlvBytes m) i) j
         → (x : ℕ) → x ≤ at .at → byte j x ≡ byte i x
     agrees j b x l = go (b .1 x (omega (arith, front)))
       where
-        go : Cell (inBlock (K .block) (plan K i m .guard)) i (plan K i m .closed) (overlay us (content m) i) j x → byte j x ≡ byte i x
+        go : Cell (inBlock (K .block) (plan K i m .guard)) i (plan K i m .closed) (overlay us (tlvBytes m) i) j x → byte j x ≡ byte i x
         go (shut q e) = e ∙ getD-set-other i (lengthAt us) x 0 0 (omega (arith, front .0))
         go (old q e) = e
         go (fresh q e) = e ∙ tlv.new-agrees K laws i m us (prepared i m r) x l
 
-    quiet : (j : List ℕ) → Between (inBlock (K .block) (plan K i m .guard)) i (plan K i m .closed) (overlay us (content m) i) j
+    quiet : (j : List ℕ) → Between (inBlock (K .block) (plan K i m .guard)) i (plan K i m .closed) (overlay us (tlvBytes m) i) j
         → Rattle.tag.specs.TagType.held T j ≡ nothing
     quiet j b = tlv.first-quiet K laws i us at j (b .0) (agrees j b) some (go (b .1 (lengthAt us) (front .1)))
       where
-        go : Cell (inBlock (K .block) (plan K i m .guard)) i (plan K i m .closed) (overlay us (content m) i) j (lengthAt us) → byte j (lengthAt us) ≡ 0
+        go : Cell (inBlock (K .block) (plan K i m .guard)) i (plan K i m .closed) (overlay us (tlvBytes m) i) j (lengthAt us) → byte j (lengthAt us) ≡ 0
         go (shut q e) = e ∙ getD-set-same i (lengthAt us) 0 0 (front .1)
         go (old q e) = absurd (true-false (block-of (K .block) (lengthAt us) (laws .block-pos)) q)
         go (fresh q e) = absurd (true-false (block-of (K .block) (lengthAt us) (laws .block-pos)) q)
@@ -104,7 +104,7 @@ module _ (K : TlvTag) (laws : TlvLaws K) (command : List ℕ → List ℕ → Co
 
     module _ (j : List ℕ) (n : Near T i m j) where
       near : (x : ℕ) → x ≤ at .at → byte j x ≡ byte i x
-      near x l = n .kept x (omega (arith, front)) (above-unset (length i) us (content m) (at .at) x (tlv.beyond K laws i us at .1) l)
+      near x l = n .kept x (omega (arith, front)) (above-unset (length i) us (tlvBytes m) (at .at) x (tlv.beyond K laws i us at .1) l)
 
       pub same-room : room K j ≡ room K i
       same-room = usable-is K j us (tlv.same-placed K laws i us at j (n .same-length) near) (n .readable)

@@ -44,9 +44,9 @@ viewed T i = viewAfter T i (firstOf ((T .checks) i))
 
 -- length 0 reads as empty; else the message is its value bytes, skipped addresses left out
 abbrev pub reportOf : Bool → List ℕ → List ℕ → Report
-reportOf w i [] = record { what = empty; bytes = []; address = 0; interrupted = false; writable = w }
+reportOf w i [] = record { content = empty; bytes = []; address = 0; interrupted = false; writable = w }
 reportOf w i (a ∷ ms) = record {
-  what = message;
+  content = message;
   bytes = map (byte i) (a ∷ ms);
   address = a;
   interrupted = not (consecutive (a ∷ ms));

@@ -22,8 +22,8 @@ unfoldable pub lengthField : ℕ → List ℕ
 lengthField n = cond (leb n 254) (n ∷ []) (0xFF ∷ n / 256 ∷ n % 256 ∷ [])
 
 -- the bytes to set, at the usable addresses in order: length, message, and FEh if an address is left for it
-abbrev pub content : List ℕ → List ℕ
-content m = lengthField (length m) ++ (m ++ 0xFE ∷ [])
+abbrev pub tlvBytes : List ℕ → List ℕ
+tlvBytes m = lengthField (length m) ++ (m ++ 0xFE ∷ [])
 
 -- the address of the first length byte
 abbrev pub lengthAt : List ℕ → ℕ
@@ -33,7 +33,7 @@ lengthAt us = getD us 0 0
 abbrev pub planBy : ℕ → List ℕ → List ℕ → List ℕ → Plan
 planBy z us i m = record {
   addresses = us;
-  values = content m;
+  values = tlvBytes m;
   size = z;
   width = 1;
   guard = lengthAt us / z;

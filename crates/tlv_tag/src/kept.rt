@@ -33,7 +33,7 @@ pub fn extent_of(w: Walk, n: usize, table: &[u16]) -> Extent
     ensures bounded { λ r. ⌜ Bounded (now (table .entry)) (w .end .0) r ⌝ }
 {
     let first = w.at;
-    let stop = value::nth(w, update::content_length(n), table);
+    let stop = value::nth(w, update::tlv_bytes_length(n), table);
     let skips = !table::none_skipped(table, first, stop);
     Extent { first, stop, skips }
 }

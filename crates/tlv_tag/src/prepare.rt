@@ -45,8 +45,8 @@ fn prepare_at(
     ensures { λ r. ⌜ Prepared size (ahead (now (table .entry)) w) (now (image .entry)) (now (message .entry)) (now (new .exit)) (now (marks .exit)) (r .0) ⌝ }
 {
     copy_image(image, new);
-    update::set_content(w, message, table, new);
-    update::mark_content(w, message.len(), size, table, marks);
+    update::set_tlv_bytes(w, message, table, new);
+    update::mark_tlv_bytes(w, message.len(), size, table, marks);
     let first = table::next_usable(table, w.at, w.end);
     let guard = first.block(size);
     let b = guard.0;

@@ -1,9 +1,9 @@
 // Reading the message of a tag that has a TLV area, once the tag's own tests have passed.
 
 use tag::Address;
+use tag::Content;
 use tag::ReadAnswer;
 use tag::Report;
-use tag::What;
 use tag::refusals;
 use tlv::find::Found;
 use tlv::length::Field;
@@ -54,7 +54,7 @@ fn read_value(
 {
     if n == 0 {
         return ReadAnswer::Reads(Report {
-            what: What::Empty,
+            content: Content::Empty,
             address: Address(0),
             length: 0,
             interrupted: false,
@@ -65,7 +65,7 @@ fn read_value(
         Value::Short => ReadAnswer::Refused(refusals::BAD_LENGTH),
         Value::At(address, interrupted) => {
             let report = Report {
-                what: What::Message,
+                content: Content::Message,
                 address,
                 length: n,
                 interrupted,

@@ -9,8 +9,8 @@ ghost use lib.ListN.{length, drop};
 ghost use Rattle.tag.specs.Bytes.{overlay};
 ghost use Rattle.tlv.specs.Views.Walks.{ahead, Placed, Within, Along};
 ghost use Rattle.tlv.specs.Views.Values.{BlocksMarked};
-ghost use Rattle.tlv_tag.specs.Update.{lengthField, content};
-ghost use Rattle.tlv_tag.specs.Views.Update.{contentLength};
+ghost use Rattle.tlv_tag.specs.Update.{lengthField, tlvBytes};
+ghost use Rattle.tlv_tag.specs.Views.Update.{tlvBytesLength};
 
 // Sets the length in its shortest form, and hands back the walk past it.
 fn set_length(w: Walk, n: usize, table: &[u16], image: &mut [u8]) -> Walk
@@ -28,9 +28,9 @@ fn set_length(w: Walk, n: usize, table: &[u16], image: &mut [u8]) -> Walk
 }
 
 // Sets length, message and FEh in the image.
-pub(crate) fn set_content(w: Walk, message: &[u8], table: &[u16], image: &mut [u8])
+pub(crate) fn set_tlv_bytes(w: Walk, message: &[u8], table: &[u16], image: &mut [u8])
     requires { ⌜ Placed (now image) (now table) w × (length (now message) ≤ 65534) ⌝ }
-    ensures { λ _. ⌜ now (image .exit) ≡ overlay (ahead (now (table .entry)) w) (content (now (message .entry))) (now (image .entry)) ⌝ }
+    ensures { λ _. ⌜ now (image .exit) ≡ overlay (ahead (now (table .entry)) w) (tlvBytes (now (message .entry))) (now (image .entry)) ⌝ }
 {
     let after_length = set_length(w, message.len(), table, image);
     let after_message = value::set_bytes(after_length, message, table, image);
@@ -39,9 +39,9 @@ pub(crate) fn set_content(w: Walk, message: &[u8], table: &[u16], image: &mut [u
 }
 
 // How many bytes that is for a message of `n` bytes, where there is room for all.
-pub(crate) fn content_length(n: usize) -> usize
+pub(crate) fn tlv_bytes_length(n: usize) -> usize
     requires { ⌜ n ≤ 65534 ⌝ }
-    ensures { λ r. ⌜ r ≡ contentLength n ⌝ }
+    ensures { λ r. ⌜ r ≡ tlvBytesLength n ⌝ }
 {
     if n <= 254 {
         return n + 2;
@@ -50,9 +50,9 @@ pub(crate) fn content_length(n: usize) -> usize
 }
 
 // Marks each block of `size` bytes that holds a byte to set for a message of `n` bytes.
-pub(crate) fn mark_content(w: Walk, n: usize, size: usize, table: &[u16], marks: &mut [u8])
+pub(crate) fn mark_tlv_bytes(w: Walk, n: usize, size: usize, table: &[u16], marks: &mut [u8])
     requires { ⌜ Within (now table) w × (n ≤ 65534) × (0 < size) × (w .end .0 ≤ size * length (now marks)) ⌝ }
-    ensures { λ _. ⌜ BlocksMarked size (contentLength n) (ahead (now (table .entry)) w) (now (marks .entry)) (now (marks .exit)) ⌝ }
+    ensures { λ _. ⌜ BlocksMarked size (tlvBytesLength n) (ahead (now (table .entry)) w) (now (marks .entry)) (now (marks .exit)) ⌝ }
 {
-    value::mark_blocks(w, content_length(n), size, table, marks);
+    value::mark_blocks(w, tlv_bytes_length(n), size, table, marks);
 }

@@ -7,7 +7,7 @@ use mathlib.Core.List.{List}
 use Prim.Native.Nat.{ℕ}
 use lib.ListN.{length}
 use Rattle.tag.specs.Checks.{fault, firstOf}
-use Rattle.tag.specs.TagType.{unwritten, written, writing}
+use Rattle.tag.specs.TagType.{refused-write, written, writing}
 use Rattle.tlv_tag.specs.Message.{View, refuse, viewAfter, viewed}
 use Rattle.tlv_tag.specs.Update.{planBy}
 use Rattle.tlv_tag.specs.Views.Space.{no-space, space, spaceOf}
@@ -26,7 +26,7 @@ by-view i m v e =
     ∙ ap (λ x. writingIn 4 i m (spaceOf ((memory .writable) i) (length m) x)) e
 
 -- a check fails
-pub refused-writing : (i m : List ℕ) (r : ℕ) → fault r ≡ firstOf ((memory .checks) i) → writing type2 i m ≡ unwritten r
+pub refused-writing : (i m : List ℕ) (r : ℕ) → fault r ≡ firstOf ((memory .checks) i) → writing type2 i m ≡ refused-write r
 unfolding viewed
 refused-writing i m r e = by-view i m (refuse r) (ap (viewAfter memory i) (sym e))
 
@@ -36,7 +36,7 @@ module _ (i m : List ℕ) (end : ℕ) (w : Bool) (h : Inside i end w) where
       by-view i m (areaView i 16 end) (inside-view i end w h)
       ∙ ap (λ b. writingIn 4 i m (spaceOf b (length m) (areaView i 16 end))) (sym (h .area .access))
 
-  pub no-space-writing : (r : ℕ) → no-space r ≡ spaceOf w (length m) (areaView i 16 end) → writing type2 i m ≡ unwritten r
+  pub no-space-writing : (r : ℕ) → no-space r ≡ spaceOf w (length m) (areaView i 16 end) → writing type2 i m ≡ refused-write r
   no-space-writing r e = inside-writing ∙ ap (writingIn 4 i m) (sym e)
 
   pub space-writing : (us : List ℕ) → space us ≡ spaceOf w (length m) (areaView i 16 end) → writing type2 i m ≡ written (planBy 4 us i m)

@@ -11,7 +11,7 @@ use lib.ListN.{length, drop, length-drop}
 use lib.Seq.{getD-drop}
 use Rattle.tag.specs.Bytes.{byte}
 use Rattle.tag.specs.Refusals.{positioned, malformed-command, short-buffer}
-use Rattle.tag.specs.TagType.{withheld, output}
+use Rattle.tag.specs.TagType.{refused-output, output}
 use Rattle.tag.proofs.Logic.{and-three}
 use Rattle.type2.specs.Codec.{nameable, commandBytes, encode, wellFormed, undecoded, decoded, decode}
 
@@ -61,11 +61,11 @@ carried bs h =
 -- ---- the three answers of encoding
 
 pub encode-unnamed : (blocks b : ℕ) (bytes : List ℕ) (room : ℕ) → nameable blocks b ≡ false
-    → encode blocks b bytes room ≡ withheld malformed-command
+    → encode blocks b bytes room ≡ refused-output malformed-command
 encode-unnamed blocks b bytes room n = rw n
 
 pub encode-short : (blocks b : ℕ) (bytes : List ℕ) (room : ℕ) → nameable blocks b ≡ true → length bytes ≡ 4 → room < 6
-    → encode blocks b bytes room ≡ withheld short-buffer
+    → encode blocks b bytes room ≡ refused-output short-buffer
 encode-short blocks b bytes room n l h = rw (n, lt-leb (length (commandBytes b bytes)) room (omega arith))
 
 pub encode-written : (blocks b : ℕ) (bytes : List ℕ) (room : ℕ) → nameable blocks b ≡ true → length bytes ≡ 4 → 6 ≤ room
@@ -78,6 +78,6 @@ pub decode-formed : (blocks : ℕ) (bs : List ℕ) → wellFormed blocks bs ≡ 
 unfolding decode
 decode-formed blocks bs h = rw h
 
-pub decode-ill : (blocks : ℕ) (bs : List ℕ) → wellFormed blocks bs ≡ false → decode blocks bs ≡ undecoded (positioned malformed-command 0)
+pub decode-malformed : (blocks : ℕ) (bs : List ℕ) → wellFormed blocks bs ≡ false → decode blocks bs ≡ undecoded (positioned malformed-command 0)
 unfolding decode
-decode-ill blocks bs h = rw h
+decode-malformed blocks bs h = rw h

@@ -13,10 +13,10 @@ use Rattle.tlv.specs.declared.walk.Walk.{Walk}
 use Rattle.tlv.specs.Views.Table.{usableIn}
 use Rattle.tlv.specs.Views.Walks.{ahead}
 use Rattle.tlv_tag.specs.declared.kept.Extent.{Extent}
-use Rattle.tlv_tag.specs.Update.{content}
+use Rattle.tlv_tag.specs.Update.{tlvBytes}
 use Rattle.tlv_tag.specs.Views.Space.{Room}
 use Rattle.tlv_tag.specs.Views.Kept.{Bounded, Extends}
-use Rattle.tlv_tag.proofs.Content.{length-content}
+use Rattle.tlv_tag.proofs.TlvBytes.{length-tlv-bytes}
 use Rattle.type2.specs.Type2.{type2}
 use Rattle.type2.specs.Views.Kept.{Covered}
 
@@ -24,7 +24,7 @@ pub covered : (i m table : List ℕ) (w : Walk) (e : Extent) → Room i table (l
     → Extends table (ahead table w) (length m) e → Bounded table (w .end .0) e → Covered i m table e
 covered i m table w e room us extends b = record {
   bounded = record { ordered = b .ordered; below = omega (arith, b .below, room .placed .in-image); in-table = b .in-table; skips-is = b .skips-is };
-  sets-are = λ a. ap (λ vs. isSet vs (content m) a) (sym us) ∙ extends (content m) a (length-content m);
+  sets-are = λ a. ap (λ vs. isSet vs (tlvBytes m) a) (sym us) ∙ extends (tlvBytes m) a (length-tlv-bytes m);
 }
 
 pub kept-is : (i m table j : List ℕ) (e : Extent) → Covered i m table e

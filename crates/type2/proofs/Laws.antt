@@ -17,7 +17,7 @@ use Rattle.tag.proofs.Blocks.{in-block, block-of}
 use Rattle.tag.proofs.Sending.{Named, Sized, Nameable, list-good, touch-bounds}
 use Rattle.tag.proofs.Laws.{Laws, Sent}
 use Rattle.tlv_tag.specs.Message.{viewed}
-use Rattle.tlv_tag.specs.Update.{usable, content, lengthAt, plan}
+use Rattle.tlv_tag.specs.Update.{usable, tlvBytes, lengthAt, plan}
 use Rattle.tlv_tag.proofs.Tag as tlv
 use Rattle.tlv_tag.proofs.Writes as writes
 use Rattle.tlv_tag.proofs.Shown.{wordless, in-place}
@@ -55,7 +55,7 @@ module _ (i m : List ℕ) (r : Ready type2 i m) where
       record {
         guard-good = name-block (lengthAt us / 4) (lengthAt us) (omega (arith, beyond .0)) up (block-of 4 (lengthAt us) (omega arith));
         touched-good = λ b l g e.
-            let (y, after, before, q) = touch-bounds 4 (length i) (place .at) us (content m) b (beyond .1) e in
+            let (y, after, before, q) = touch-bounds 4 (length i) (place .at) us (tlvBytes m) b (beyond .1) e in
             name-block b y (omega (arith, beyond .0)) before q;
       }
 

@@ -7,8 +7,8 @@ use lib.Dec.{leb, ltb, eqb}
 use lib.ListN.{length, drop}
 use Rattle.tag.specs.Bytes.{byte}
 use Rattle.tag.specs.Refusals.{Refusal, positioned, malformed-command}
-use Rattle.tag.specs.Stores.{Store, Command, ill, stores}
-use Rattle.tag.specs.TagType.{Output, withheld, fitted}
+use Rattle.tag.specs.Stores.{Store, Command, malformed, stores}
+use Rattle.tag.specs.TagType.{Output, refused-output, fitted}
 
 -- may a command name the block: at least 4, inside the image, and a byte
 abbrev pub nameable : ℕ → ℕ → Bool
@@ -19,7 +19,7 @@ commandBytes b bytes = 0xA2 ∷ b ∷ bytes
 
 -- the command written to a buffer with this much room: 20, then 12, else the number of bytes
 abbrev pub encode : ℕ → ℕ → List ℕ → ℕ → Output
-encode blocks b bytes room = cond (nameable blocks b) (fitted room 6 (commandBytes b bytes)) (withheld malformed-command)
+encode blocks b bytes room = cond (nameable blocks b) (fitted room 6 (commandBytes b bytes)) (refused-output malformed-command)
 
 -- a command read: the block and its bytes, or a refusal
 pub data Decoded : Type 0 where
@@ -36,7 +36,7 @@ decode blocks bs = cond (wellFormed blocks bs) (decoded (byte bs 1) (drop 2 bs))
 
 -- what a command stores: one block
 abbrev pub commandOf : Decoded → Command
-commandOf (undecoded r) = ill
+commandOf (undecoded r) = malformed
 commandOf (decoded b bytes) = stores (record { at = 4 * b; bytes = bytes } ∷ [])
 
 -- the bytes of a command that stores one block

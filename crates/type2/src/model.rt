@@ -13,7 +13,7 @@ ghost use Prim.Native.Nat.{_*_, _/_};
 ghost use lib.ListN.{length, drop};
 ghost use lib.Seq.{sets};
 ghost use Rattle.tag.specs.Bytes.{byte};
-ghost use Rattle.tag.specs.Stores.{done};
+ghost use Rattle.tag.specs.Stores.{tagAfter};
 ghost use Rattle.tag.specs.Contracts.{Took};
 ghost use Rattle.type2.specs.Codec.{wellFormed};
 ghost use Rattle.type2.specs.Type2.{type2};
@@ -32,7 +32,7 @@ fn store_block(image: &mut [u8], command: &[u8])
 // Stores what the command says, and answers whether it is well formed; nothing is stored if it is not.
 pub fn take_command(image: &mut [u8], command: &[u8]) -> bool
     ensures is { λ r. ⌜ r ≡ wellFormed (length (now (image .entry)) / 4) (now (command .entry)) ⌝ }
-    ensures stored { λ _. ⌜ now (image .exit) ≡ done (now (image .entry)) ((type2 .command) (now (image .entry)) (now (command .entry))) ⌝ }
+    ensures stored { λ _. ⌜ now (image .exit) ≡ tagAfter (now (image .entry)) ((type2 .command) (now (image .entry)) (now (command .entry))) ⌝ }
 {
     if commands::is_command_for(command, image) {
         store_block(image, command);

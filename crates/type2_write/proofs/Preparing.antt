@@ -7,7 +7,7 @@ use Prim.Native.Nat.{ℕ, _/_, _≤_}
 use native.Mathlib.Omega.{arith}
 use lib.ListN.{length}
 use Rattle.tag.specs.declared.Address.{Address}
-use Rattle.tag.specs.TagType.{unwritten, written, writing, writeBy}
+use Rattle.tag.specs.TagType.{refused-write, written, writing, writeBy}
 use Rattle.tlv_tag.specs.declared.prepare.Preparation as code
 use Rattle.tlv_tag.specs.declared.prepare.Preparation.the-variants as answer
 use Rattle.tlv_tag.specs.Update.{lengthAt, planBy}
@@ -46,7 +46,7 @@ module _ (i m : List ℕ) (end : ℕ) (w : Bool) (h : Inside i end w) where
 
   -- the new image and the marks afterwards, and the answer
   module _ (new marks : List ℕ) (r : code.Preparation) (p : PreparedIn 4 (spaceOf w (length m) (areaView i 16 end)) i m new marks r) where
-    pub refused : (k : ℕ) → r ≡ answer.Refused k → writing type2 i m ≡ unwritten k
+    pub refused : (k : ℕ) → r ≡ answer.Refused k → writing type2 i m ≡ refused-write k
     refused k e = no-space-writing i m end w h k (subst (PreparedIn 4 (spaceOf w (length m) (areaView i 16 end)) i m new marks) e p)
 
     module _ (a : Address) (e : r ≡ answer.At a) (as-long : length new ≡ length i) (marks-long : length marks ≡ 256) where

@@ -74,8 +74,8 @@ named-some nbw nmaxb bs h =
 
 -- ---- commands
 
-pub length-opening : (number : List ℕ) → length (opening number) ≡ 4 + length number
-length-opening number = omega (arith, length-append number (0x01 ∷ 0x09 ∷ 0x00 ∷ []))
+pub length-opening : (idm : List ℕ) → length (opening idm) ≡ 4 + length idm
+length-opening idm = omega (arith, length-append idm (0x01 ∷ 0x09 ∷ 0x00 ∷ []))
 
 -- what follows the count
 pub past-count : (o : List ℕ) (c : ℕ) (rest : List ℕ) → length o ≡ 12 → drop 13 (o ++ c ∷ rest) ≡ rest
@@ -89,15 +89,15 @@ opened o nbw nmaxb c rest l =
     rw (take-at o (c ∷ rest) 12 l, same-refl o, getD-at o c rest 0 12 l, past-count o c rest l)
 
 -- the opening, the count and the rest, which the definition groups otherwise
-pub grouped : (number bs bytes : List ℕ) → commandBytes number bs bytes ≡ opening number ++ length bs ∷ (namesBytes bs ++ bytes)
-grouped number bs bytes = append-assoc (opening number) (length bs ∷ namesBytes bs) bytes
+pub grouped : (idm bs bytes : List ℕ) → commandBytes idm bs bytes ≡ opening idm ++ length bs ∷ (namesBytes bs ++ bytes)
+grouped idm bs bytes = append-assoc (opening idm) (length bs ∷ namesBytes bs) bytes
 
-pub decode-encode : (number : List ℕ) (nbw nmaxb : ℕ) (bs bytes : List ℕ) → length number ≡ 8 → wellNamed nbw nmaxb bs ≡ true
-    → length bytes ≡ 16 * length bs → decode number nbw nmaxb (commandBytes number bs bytes) ≡ decoded bs bytes
+pub decode-encode : (idm : List ℕ) (nbw nmaxb : ℕ) (bs bytes : List ℕ) → length idm ≡ 8 → wellNamed nbw nmaxb bs ≡ true
+    → length bytes ≡ 16 * length bs → decode idm nbw nmaxb (commandBytes idm bs bytes) ≡ decoded bs bytes
 unfolding decode decodeBy
-decode-encode number nbw nmaxb bs bytes n h l =
-    ap (decode number nbw nmaxb) (grouped number bs bytes)
-    ∙ opened (opening number) nbw nmaxb (length bs) (namesBytes bs ++ bytes) (omega (arith, length-opening number))
+decode-encode idm nbw nmaxb bs bytes n h l =
+    ap (decode idm nbw nmaxb) (grouped idm bs bytes)
+    ∙ opened (opening idm) nbw nmaxb (length bs) (namesBytes bs ++ bytes) (omega (arith, length-opening idm))
     ∙ rw (names-bytes bs bytes, decodeBy, h, eq-eqb (length bytes) (16 * length bs) l)
 
 -- what was decoded by its names
@@ -121,15 +121,15 @@ decoded-names nbw nmaxb (names cs r) bs bytes e = go (wellNamed nbw nmaxb cs && 
         )
 
 -- what decodes opens as our commands do, and past that are the names
-decoded-opening : (number : List ℕ) (nbw nmaxb : ℕ) (all bs bytes : List ℕ) → decode number nbw nmaxb all ≡ decoded bs bytes
-    → (take 12 all ≡ opening number) × (decodeBy nbw nmaxb (namesOf (byte all 12) (drop 13 all)) ≡ decoded bs bytes)
+decoded-opening : (idm : List ℕ) (nbw nmaxb : ℕ) (all bs bytes : List ℕ) → decode idm nbw nmaxb all ≡ decoded bs bytes
+    → (take 12 all ≡ opening idm) × (decodeBy nbw nmaxb (namesOf (byte all 12) (drop 13 all)) ≡ decoded bs bytes)
 unfolding decode
-decoded-opening number nbw nmaxb all bs bytes e = go (same (take 12 all) (opening number)) refl
+decoded-opening idm nbw nmaxb all bs bytes e = go (same (take 12 all) (opening idm)) refl
   where
-    go : (q : Bool) → same (take 12 all) (opening number) ≡ q
-        → (take 12 all ≡ opening number) × (decodeBy nbw nmaxb (namesOf (byte all 12) (drop 13 all)) ≡ decoded bs bytes)
+    go : (q : Bool) → same (take 12 all) (opening idm) ≡ q
+        → (take 12 all ≡ opening idm) × (decodeBy nbw nmaxb (namesOf (byte all 12) (drop 13 all)) ≡ decoded bs bytes)
     go false q = let z : undecoded (positioned malformed-command 0) ≡ decoded bs bytes = rw q at e in absurd (nope (cc))
-    go true q = (same-eq (take 12 all) (opening number) q, rw q at e)
+    go true q = (same-eq (take 12 all) (opening idm) q, rw q at e)
 
 -- a byte that is not 0 lies inside its list
 inside : (l : List ℕ) (n : ℕ) → 0 < byte l n → n < length l
@@ -138,38 +138,38 @@ inside (a ∷ l) zero h = omega arith
 inside (a ∷ l) (suc n) h = omega (arith, inside l n h)
 
 -- a count of 0 does not decode, so that the count is there, and with it all twelve bytes of the opening
-pub encode-decode : (number : List ℕ) (nbw nmaxb : ℕ) (all bs bytes : List ℕ) → decode number nbw nmaxb all ≡ decoded bs bytes
-    → (wellNamed nbw nmaxb bs ≡ true) × (length bytes ≡ 16 * length bs) × (all ≡ commandBytes number bs bytes) × (length number ≡ 8)
-encode-decode number nbw nmaxb all bs bytes e =
-    let o = decoded-opening number nbw nmaxb all bs bytes e in
+pub encode-decode : (idm : List ℕ) (nbw nmaxb : ℕ) (all bs bytes : List ℕ) → decode idm nbw nmaxb all ≡ decoded bs bytes
+    → (wellNamed nbw nmaxb bs ≡ true) × (length bytes ≡ 16 * length bs) × (all ≡ commandBytes idm bs bytes) × (length idm ≡ 8)
+encode-decode idm nbw nmaxb all bs bytes e =
+    let o = decoded-opening idm nbw nmaxb all bs bytes e in
     let d = decoded-names nbw nmaxb (namesOf (byte all 12) (drop 13 all)) bs bytes (o .1) in
     let n = names-is (byte all 12) (drop 13 all) bs bytes (d .0) in
     let some : 1 ≤ length bs = named-some nbw nmaxb bs (d .1) in
     let long : 12 < length all = inside all 12 (omega (arith, n .0)) in
-    let parts : all ≡ opening number ++ length bs ∷ (namesBytes bs ++ bytes) = split-at all 12 0 long ∙ rw (o .0, n .1, ← n .0) in (
+    let parts : all ≡ opening idm ++ length bs ∷ (namesBytes bs ++ bytes) = split-at all 12 0 long ∙ rw (o .0, n .1, ← n .0) in (
       d .1,
       d .2,
-      parts ∙ sym (grouped number bs bytes),
-      omega (arith, length-take 12 all, ap length (o .0), length-opening number),
+      parts ∙ sym (grouped idm bs bytes),
+      omega (arith, length-take 12 all, ap length (o .0), length-opening idm),
     )
 
-pub length-command : (number bs bytes : List ℕ) → length number ≡ 8 → length bytes ≡ 16 * length bs
-    → length (commandBytes number bs bytes) ≡ 13 + 18 * length bs
-length-command number bs bytes n l =
+pub length-command : (idm bs bytes : List ℕ) → length idm ≡ 8 → length bytes ≡ 16 * length bs
+    → length (commandBytes idm bs bytes) ≡ 13 + 18 * length bs
+length-command idm bs bytes n l =
     omega (
       arith,
-      length-append (opening number ++ length bs ∷ namesBytes bs) bytes,
-      length-append (opening number) (length bs ∷ namesBytes bs),
-      length-opening number,
+      length-append (opening idm ++ length bs ∷ namesBytes bs) bytes,
+      length-append (opening idm) (length bs ∷ namesBytes bs),
+      length-opening idm,
       length-names bs,
     )
 
 -- the count stands at byte 12, whatever follows the command
-pub count-at : (number bs bytes r : List ℕ) → length number ≡ 8 → byte (commandBytes number bs bytes ++ r) 12 ≡ length bs
-count-at number bs bytes r n =
-    ap (λ l. byte (l ++ r) 12) (grouped number bs bytes)
-    ∙ ap (λ l. byte l 12) (append-assoc (opening number) (length bs ∷ (namesBytes bs ++ bytes)) r)
-    ∙ getD-at (opening number) (length bs) (namesBytes bs ++ bytes ++ r) 0 12 (omega (arith, length-opening number))
+pub count-at : (idm bs bytes r : List ℕ) → length idm ≡ 8 → byte (commandBytes idm bs bytes ++ r) 12 ≡ length bs
+count-at idm bs bytes r n =
+    ap (λ l. byte (l ++ r) 12) (grouped idm bs bytes)
+    ∙ ap (λ l. byte l 12) (append-assoc (opening idm) (length bs ∷ (namesBytes bs ++ bytes)) r)
+    ∙ getD-at (opening idm) (length bs) (namesBytes bs ++ bytes ++ r) 0 12 (omega (arith, length-opening idm))
 
 -- ---- what a command can carry
 
@@ -207,32 +207,32 @@ stored-stores (b ∷ bs) bytes l =
 length-sent : (ss : List Store) → Each (Whole 16) ss → length (storedBytes ss) ≡ 16 * length (blocksOf ss)
 length-sent ss h = omega (arith, length-stored ss h, length-map ss (blockNumber 16))
 
-pub sent : (number : List ℕ) (nbw nmaxb : ℕ) (ss : List Store) → length number ≡ 8 → Sendable nbw nmaxb ss
-    → commandOf (decode number nbw nmaxb (encoded number ss)) ≡ stores ss
-sent number nbw nmaxb ss n h =
-    ap commandOf (decode-encode number nbw nmaxb (blocksOf ss) (storedBytes ss) n (h .1) (length-sent ss (h .0)))
+pub sent : (idm : List ℕ) (nbw nmaxb : ℕ) (ss : List Store) → length idm ≡ 8 → Sendable nbw nmaxb ss
+    → commandOf (decode idm nbw nmaxb (encoded idm ss)) ≡ stores ss
+sent idm nbw nmaxb ss n h =
+    ap commandOf (decode-encode idm nbw nmaxb (blocksOf ss) (storedBytes ss) n (h .1) (length-sent ss (h .0)))
     ∙ ap stores (stores-stored ss (h .0))
 
-pub span-sent : (number : List ℕ) (nbw nmaxb : ℕ) (ss : List Store) → length number ≡ 8 → Sendable nbw nmaxb ss → (r : List ℕ)
-    → span (encoded number ss ++ r) ≡ length (encoded number ss)
-span-sent number nbw nmaxb ss n h r =
+pub span-sent : (idm : List ℕ) (nbw nmaxb : ℕ) (ss : List Store) → length idm ≡ 8 → Sendable nbw nmaxb ss → (r : List ℕ)
+    → span (encoded idm ss ++ r) ≡ length (encoded idm ss)
+span-sent idm nbw nmaxb ss n h r =
     omega (
       arith,
-      count-at number (blocksOf ss) (storedBytes ss) r n,
-      length-command number (blocksOf ss) (storedBytes ss) n (length-sent ss (h .0)),
+      count-at idm (blocksOf ss) (storedBytes ss) r n,
+      length-command idm (blocksOf ss) (storedBytes ss) n (length-sent ss (h .0)),
     )
 
-pub some-sent : (number : List ℕ) (ss : List Store) → 0 < length (encoded number ss)
-some-sent number ss = omega arith
+pub some-sent : (idm : List ℕ) (ss : List Store) → 0 < length (encoded idm ss)
+some-sent idm ss = omega arith
 
-pub decode-sendable : (number : List ℕ) (nbw nmaxb : ℕ) (all : List ℕ) (ss : List Store) → commandOf (decode number nbw nmaxb all) ≡ stores ss
-    → Sendable nbw nmaxb ss × (encoded number ss ≡ all) × (length number ≡ 8)
-decode-sendable number nbw nmaxb all ss e = go (decode number nbw nmaxb all) refl
+pub decode-sendable : (idm : List ℕ) (nbw nmaxb : ℕ) (all : List ℕ) (ss : List Store) → commandOf (decode idm nbw nmaxb all) ≡ stores ss
+    → Sendable nbw nmaxb ss × (encoded idm ss ≡ all) × (length idm ≡ 8)
+decode-sendable idm nbw nmaxb all ss e = go (decode idm nbw nmaxb all) refl
   where
-    go : (d : Decoded) → decode number nbw nmaxb all ≡ d → Sendable nbw nmaxb ss × (encoded number ss ≡ all) × (length number ≡ 8)
+    go : (d : Decoded) → decode idm nbw nmaxb all ≡ d → Sendable nbw nmaxb ss × (encoded idm ss ≡ all) × (length idm ≡ 8)
     go (undecoded r) q = absurd (nope (cc))
     go (decoded bs bytes) q =
-        let h = encode-decode number nbw nmaxb all bs bytes q in
+        let h = encode-decode idm nbw nmaxb all bs bytes q in
         let all-stores : ss ≡ storesOf bs bytes = cc in
         let w = stored-stores bs bytes (h .1) in
         rw all-stores ((w .0, rw (w .1) (h .0)), rw (w .1, w .2) (sym (h .2)), h .3)

@@ -47,6 +47,6 @@ between-count i m r =
     counted-run (between (plan i m)) 1 (blocksFor (length m)) (length i / 16) (omega (arith, inside i m r))
     (between-guard i m) (between-on i m) (λ b l u. between-past i m b l)
 
-pub list-count : (number i m : List ℕ) → Ready (type3 number) i m
+pub list-count : (idm i m : List ℕ) → Ready (type3 idm) i m
     → length (list (plan i m) i) ≡ 2 + (blocksFor (length m) + (blocksPerCommand (byte i 2) - 1)) / blocksPerCommand (byte i 2)
-list-count number i m r = length-list (plan i m) i ∙ rw (between-count i m (ready-room number i m r))
+list-count idm i m r = length-list (plan i m) i ∙ rw (between-count i m (ready-room idm i m r))

@@ -8,7 +8,7 @@ use lib.Dec.{eqb}
 use lib.ListN.{length}
 use Rattle.tag.specs.Refusals.{empty-message, not-writable, message-too-long}
 use Rattle.tag.specs.Checks.{Checked, check, fine, fault, firstOf}
-use Rattle.tag.specs.TagType.{unwritten, written, planned, writingBy, writing}
+use Rattle.tag.specs.TagType.{refused-write, written, planned, writingBy, writing}
 use Rattle.type3.specs.declared.read.Attributes.{Attributes}
 use Rattle.type3.specs.Attributes.{attributes, attributeChecks, mayWrite}
 use Rattle.type3.specs.Update.{fits, plan}
@@ -17,20 +17,20 @@ use Rattle.type3.specs.Views.Attributes.{faultAs, Readable}
 use Rattle.type3.specs.Views.Space.{refusalFor}
 use Rattle.type3.proofs.Message.{unread, passes-reads, reads-writable}
 
-module _ (number i m : List ℕ) where
-  pub writing-unread : (r : ℕ) → firstOf (attributeChecks (length i) (attributes i)) ≡ fault r → writing (type3 number) i m ≡ unwritten r
+module _ (idm i m : List ℕ) where
+  pub writing-unread : (r : ℕ) → firstOf (attributeChecks (length i) (attributes i)) ≡ fault r → writing (type3 idm) i m ≡ refused-write r
   unfolding writing
-  writing-unread r e = ap (writingBy (type3 number) i m) (unread i r e)
+  writing-unread r e = ap (writingBy (type3 idm) i m) (unread i r e)
 
   -- the tests that are left for a tag that reads
   abbrev left : Checked
   left = firstOf (check (not (eqb (length m) 0)) empty-message ∷ check (mayWrite i) not-writable ∷ check (fits i (length m)) message-too-long ∷ [])
 
-  writing-left : firstOf (attributeChecks (length i) (attributes i)) ≡ fine → writing (type3 number) i m ≡ planned (plan i m) left
+  writing-left : firstOf (attributeChecks (length i) (attributes i)) ≡ fine → writing (type3 idm) i m ≡ planned (plan i m) left
   unfolding writing
   writing-left e =
       let (p, q) = passes-reads i e in
-      ap (writingBy (type3 number) i m) q ∙ rw (reads-writable i p q)
+      ap (writingBy (type3 idm) i m) q ∙ rw (reads-writable i p q)
 
   module _ (a : Attributes) (known : Readable i a) where
     left-is : left ≡ faultAs (refusalFor a (length m))
@@ -44,12 +44,12 @@ module _ (number i m : List ℕ) where
         go false true false = refl
         go false true true = refl
 
-    pub writing-refused : (r : ℕ) → r ≡ refusalFor a (length m) → (r ≡ 0 → ⊥) → writing (type3 number) i m ≡ unwritten r
+    pub writing-refused : (r : ℕ) → r ≡ refusalFor a (length m) → (r ≡ 0 → ⊥) → writing (type3 idm) i m ≡ refused-write r
     writing-refused r e n = writing-left (known .passes) ∙ ap (planned (plan i m)) (left-is ∙ ap faultAs (sym e)) ∙ go r n
       where
-        go : (r : ℕ) → (r ≡ 0 → ⊥) → planned (plan i m) (faultAs r) ≡ unwritten r
+        go : (r : ℕ) → (r ≡ 0 → ⊥) → planned (plan i m) (faultAs r) ≡ refused-write r
         go zero h = absurd (h refl)
         go (suc r) h = refl
 
-    pub writing-planned : (r : ℕ) → r ≡ refusalFor a (length m) → r ≡ 0 → writing (type3 number) i m ≡ written (plan i m)
+    pub writing-planned : (r : ℕ) → r ≡ refusalFor a (length m) → r ≡ 0 → writing (type3 idm) i m ≡ written (plan i m)
     writing-planned r e z = writing-left (known .passes) ∙ ap (planned (plan i m)) (left-is ∙ ap faultAs (sym e ∙ z))

@@ -50,7 +50,7 @@ names-numbers (suc k) (t ∷ b ∷ r) h l =
 
 -- ---- what a frame says
 
-module _ (number : List ℕ) (nbw : ℕ) (bytes : List ℕ) (h : framed number nbw bytes ≡ true) where
+module _ (idm : List ℕ) (nbw : ℕ) (bytes : List ℕ) (h : framed idm nbw bytes ≡ true) where
   -- how many blocks it may have, and how many bytes they ask for
   abbrev allowed : Bool
   allowed = leb 1 (byte bytes 12) && leb (byte bytes 12) (blocksPerCommand nbw)
@@ -58,12 +58,12 @@ module _ (number : List ℕ) (nbw : ℕ) (bytes : List ℕ) (h : framed number n
   abbrev sized : Bool
   sized = eqb (length bytes) (13 + 18 * byte bytes 12)
 
-  frame-tests : (allowed && sized ≡ true) × (same (take 12 bytes) (opening number) ≡ true) × (marked (byte bytes 12) (drop 13 bytes) ≡ true)
+  frame-tests : (allowed && sized ≡ true) × (same (take 12 bytes) (opening idm) ≡ true) × (marked (byte bytes 12) (drop 13 bytes) ≡ true)
   unfolding framedBy
-  frame-tests = and-three (allowed && sized) (same (take 12 bytes) (opening number)) (marked (byte bytes 12) (drop 13 bytes)) h
+  frame-tests = and-three (allowed && sized) (same (take 12 bytes) (opening idm)) (marked (byte bytes 12) (drop 13 bytes)) h
 
-  frame-opening : take 12 bytes ≡ opening number
-  frame-opening = same-eq (take 12 bytes) (opening number) (frame-tests .1)
+  frame-opening : take 12 bytes ≡ opening idm
+  frame-opening = same-eq (take 12 bytes) (opening idm) (frame-tests .1)
 
   frame-count : allowed ≡ true
   frame-count = and-l allowed sized (frame-tests .0)
@@ -75,7 +75,7 @@ module _ (number : List ℕ) (nbw : ℕ) (bytes : List ℕ) (h : framed number n
   }
 
   -- framed bytes are those of the command that they carry
-  framed-bytes : bytes ≡ commandBytes number (numbers (byte bytes 12) (drop 13 bytes)) (drop (13 + 2 * byte bytes 12) bytes)
+  framed-bytes : bytes ≡ commandBytes idm (numbers (byte bytes 12) (drop 13 bytes)) (drop (13 + 2 * byte bytes 12) bytes)
   framed-bytes =
       let b = byte bytes 12 in
       let bs = numbers b (drop 13 bytes) in
@@ -84,65 +84,65 @@ module _ (number : List ℕ) (nbw : ℕ) (bytes : List ℕ) (h : framed number n
       let named : drop 13 bytes ≡ namesBytes bs ++ rest = names-numbers b (drop 13 bytes) (frame-tests .2) (omega (arith, frame, length-drop 13 bytes)) in
       split-at bytes 12 0 long
       ∙ ap (λ o. o ++ b ∷ drop 13 bytes) frame-opening
-      ∙ ap (λ r. opening number ++ b ∷ r) named
-      ∙ ap (λ c. opening number ++ c ∷ (namesBytes bs ++ rest)) (sym (length-numbers b (drop 13 bytes)))
-      ∙ sym (grouped number bs rest)
-      ∙ ap (commandBytes number bs) (drop-drop (2 * b) 13 bytes)
+      ∙ ap (λ r. opening idm ++ b ∷ r) named
+      ∙ ap (λ c. opening idm ++ c ∷ (namesBytes bs ++ rest)) (sym (length-numbers b (drop 13 bytes)))
+      ∙ sym (grouped idm bs rest)
+      ∙ ap (commandBytes idm bs) (drop-drop (2 * b) 13 bytes)
 
-  decode-framed : (nmaxb : ℕ) → length number ≡ 8 → nameable nmaxb (numbers (byte bytes 12) (drop 13 bytes)) ≡ true
-      → decode number nbw nmaxb bytes ≡ carried bytes
+  decode-framed : (nmaxb : ℕ) → length idm ≡ 8 → nameable nmaxb (numbers (byte bytes 12) (drop 13 bytes)) ≡ true
+      → decode idm nbw nmaxb bytes ≡ carried bytes
   decode-framed nmaxb n k =
       let b = byte bytes 12 in
       let bs = numbers b (drop 13 bytes) in
       let e : length bs ≡ b = length-numbers b (drop 13 bytes) in
       let w : wellNamed nbw nmaxb bs ≡ true = and-both (ap (λ m. leb 1 m && leb m (blocksPerCommand nbw)) e ∙ frame-count) k in
       let l : length (drop (13 + 2 * b) bytes) ≡ 16 * length bs = omega (arith, frame, length-drop (13 + 2 * b) bytes) in
-      ap (decode number nbw nmaxb) framed-bytes ∙ decode-encode number nbw nmaxb bs (drop (13 + 2 * b) bytes) n w l
+      ap (decode idm nbw nmaxb) framed-bytes ∙ decode-encode idm nbw nmaxb bs (drop (13 + 2 * b) bytes) n w l
 
 -- ---- a command's bytes are framed
 
-module _ (number : List ℕ) (nbw nmaxb : ℕ) (bs bytes : List ℕ) (n : length number ≡ 8) (s : length bytes ≡ 16 * length bs) (w : wellNamed nbw nmaxb bs ≡ true) where
-  o-length : length (opening number) ≡ 12
-  o-length = omega (arith, length-opening number)
+module _ (idm : List ℕ) (nbw nmaxb : ℕ) (bs bytes : List ℕ) (n : length idm ≡ 8) (s : length bytes ≡ 16 * length bs) (w : wellNamed nbw nmaxb bs ≡ true) where
+  o-length : length (opening idm) ≡ 12
+  o-length = omega (arith, length-opening idm)
 
-  command-count : byte (commandBytes number bs bytes) 12 ≡ length bs
-  command-count = ap (λ l. byte l 12) (sym (append-nil (commandBytes number bs bytes))) ∙ count-at number bs bytes [] n
+  command-count : byte (commandBytes idm bs bytes) 12 ≡ length bs
+  command-count = ap (λ l. byte l 12) (sym (append-nil (commandBytes idm bs bytes))) ∙ count-at idm bs bytes [] n
 
-  command-rest : drop 13 (commandBytes number bs bytes) ≡ namesBytes bs ++ bytes
-  command-rest = ap (drop 13) (grouped number bs bytes) ∙ past-count (opening number) (length bs) (namesBytes bs ++ bytes) o-length
+  command-rest : drop 13 (commandBytes idm bs bytes) ≡ namesBytes bs ++ bytes
+  command-rest = ap (drop 13) (grouped idm bs bytes) ∙ past-count (opening idm) (length bs) (namesBytes bs ++ bytes) o-length
 
-  command-opening : take 12 (commandBytes number bs bytes) ≡ opening number
-  command-opening = ap (take 12) (grouped number bs bytes) ∙ take-at (opening number) (length bs ∷ (namesBytes bs ++ bytes)) 12 o-length
+  command-opening : take 12 (commandBytes idm bs bytes) ≡ opening idm
+  command-opening = ap (take 12) (grouped idm bs bytes) ∙ take-at (opening idm) (length bs ∷ (namesBytes bs ++ bytes)) 12 o-length
 
-  command-framed : framed number nbw (commandBytes number bs bytes) ≡ true
+  command-framed : framed idm nbw (commandBytes idm bs bytes) ≡ true
   unfolding framedBy
   command-framed =
-      ap (λ b. framedBy number nbw b (commandBytes number bs bytes)) command-count
+      ap (λ b. framedBy idm nbw b (commandBytes idm bs bytes)) command-count
       ∙ and-both
       (
       and-both
       (
       and-both (and-l (leb 1 (length bs) && leb (length bs) (blocksPerCommand nbw)) (nameable nmaxb bs) w)
-      (eq-eqb (length (commandBytes number bs bytes)) (13 + 18 * length bs) (length-command number bs bytes n s))
+      (eq-eqb (length (commandBytes idm bs bytes)) (13 + 18 * length bs) (length-command idm bs bytes n s))
       )
-      (ap (λ l. same l (opening number)) command-opening ∙ same-refl (opening number))
+      (ap (λ l. same l (opening idm)) command-opening ∙ same-refl (opening idm))
       )
       (ap (marked (length bs)) command-rest ∙ marked-names bs bytes)
 
-  command-numbers : numbers (byte (commandBytes number bs bytes) 12) (drop 13 (commandBytes number bs bytes)) ≡ bs
+  command-numbers : numbers (byte (commandBytes idm bs bytes) 12) (drop 13 (commandBytes idm bs bytes)) ≡ bs
   command-numbers =
-      ap (λ b. numbers b (drop 13 (commandBytes number bs bytes))) command-count ∙ ap (numbers (length bs)) command-rest ∙ numbers-names bs bytes
+      ap (λ b. numbers b (drop 13 (commandBytes idm bs bytes))) command-count ∙ ap (numbers (length bs)) command-rest ∙ numbers-names bs bytes
 
 -- ---- what decodes
 
-decoded-framed : (number : List ℕ) (nbw nmaxb : ℕ) (all bs bytes : List ℕ) → decode number nbw nmaxb all ≡ decoded bs bytes
-    → (framed number nbw all ≡ true) × (nameable nmaxb (numbers (byte all 12) (drop 13 all)) ≡ true)
-decoded-framed number nbw nmaxb all bs bytes e =
-    let h = encode-decode number nbw nmaxb all bs bytes e in
+decoded-framed : (idm : List ℕ) (nbw nmaxb : ℕ) (all bs bytes : List ℕ) → decode idm nbw nmaxb all ≡ decoded bs bytes
+    → (framed idm nbw all ≡ true) × (nameable nmaxb (numbers (byte all 12) (drop 13 all)) ≡ true)
+decoded-framed idm nbw nmaxb all bs bytes e =
+    let h = encode-decode idm nbw nmaxb all bs bytes e in
     let named : nameable nmaxb bs ≡ true = and-r (leb 1 (length bs) && leb (length bs) (blocksPerCommand nbw)) (nameable nmaxb bs) (h .0) in (
-      ap (framed number nbw) (h .2) ∙ command-framed number nbw nmaxb bs bytes (h .3) (h .1) (h .0),
+      ap (framed idm nbw) (h .2) ∙ command-framed idm nbw nmaxb bs bytes (h .3) (h .1) (h .0),
       ap (λ l. nameable nmaxb (numbers (byte l 12) (drop 13 l))) (h .2)
-          ∙ ap (nameable nmaxb) (command-numbers number nbw nmaxb bs bytes (h .3) (h .1) (h .0))
+          ∙ ap (nameable nmaxb) (command-numbers idm nbw nmaxb bs bytes (h .3) (h .1) (h .0))
           ∙ named,
     )
 
@@ -156,52 +156,52 @@ undecoded-by nbw nmaxb (names cs t) r e = go (wellNamed nbw nmaxb cs && eqb (len
     go false q = let z : undecoded (positioned malformed-command 0) ≡ undecoded r = rw q at e in cc
     go true q = let z : decoded cs t ≡ undecoded r = rw q at e in absurd (nope (cc))
 
-undecoded-is : (number : List ℕ) (nbw nmaxb : ℕ) (all : List ℕ) (r : Refusal) → decode number nbw nmaxb all ≡ undecoded r → r ≡ positioned malformed-command 0
+undecoded-is : (idm : List ℕ) (nbw nmaxb : ℕ) (all : List ℕ) (r : Refusal) → decode idm nbw nmaxb all ≡ undecoded r → r ≡ positioned malformed-command 0
 unfolding decode
-undecoded-is number nbw nmaxb all r e = go (same (take 12 all) (opening number)) refl
+undecoded-is idm nbw nmaxb all r e = go (same (take 12 all) (opening idm)) refl
   where
-    go : (q : Bool) → same (take 12 all) (opening number) ≡ q → r ≡ positioned malformed-command 0
+    go : (q : Bool) → same (take 12 all) (opening idm) ≡ q → r ≡ positioned malformed-command 0
     go false q = let z : undecoded (positioned malformed-command 0) ≡ undecoded r = rw q at e in cc
     go true q = undecoded-by nbw nmaxb (namesOf (byte all 12) (drop 13 all)) r (rw q at e)
 
-module _ (number : List ℕ) (nbw nmaxb : ℕ) (all : List ℕ) where
+module _ (idm : List ℕ) (nbw nmaxb : ℕ) (all : List ℕ) where
   -- whether a command decodes, by its tests
-  pub is-command-by : length number ≡ 8
-      → isCommand (decode number nbw nmaxb all) ≡ framed number nbw all && nameable nmaxb (numbers (byte all 12) (drop 13 all))
-  is-command-by n = go (decode number nbw nmaxb all) refl (framed number nbw all) refl (nameable nmaxb (numbers (byte all 12) (drop 13 all))) refl
+  pub is-command-by : length idm ≡ 8
+      → isCommand (decode idm nbw nmaxb all) ≡ framed idm nbw all && nameable nmaxb (numbers (byte all 12) (drop 13 all))
+  is-command-by n = go (decode idm nbw nmaxb all) refl (framed idm nbw all) refl (nameable nmaxb (numbers (byte all 12) (drop 13 all))) refl
     where
-      go : (d : Decoded) → decode number nbw nmaxb all ≡ d → (f : Bool) → framed number nbw all ≡ f
+      go : (d : Decoded) → decode idm nbw nmaxb all ≡ d → (f : Bool) → framed idm nbw all ≡ f
           → (k : Bool) → nameable nmaxb (numbers (byte all 12) (drop 13 all)) ≡ k → isCommand d ≡ f && k
       go (decoded bs bytes) q f p k r =
-          let h = decoded-framed number nbw nmaxb all bs bytes q in
+          let h = decoded-framed idm nbw nmaxb all bs bytes q in
           let p′ : f ≡ true = sym p ∙ h .0 in
           let r′ : k ≡ true = sym r ∙ h .1 in
           rw (p′, r′)
       go (undecoded u) q false p k r = refl
       go (undecoded u) q true p false r = refl
       go (undecoded u) q true p true r =
-          let z : undecoded u ≡ carried all = sym q ∙ decode-framed number nbw all p nmaxb n r in
+          let z : undecoded u ≡ carried all = sym q ∙ decode-framed idm nbw all p nmaxb n r in
           absurd (nope (cc))
 
-  pub decode-refused : isCommand (decode number nbw nmaxb all) ≡ false → decode number nbw nmaxb all ≡ undecoded (positioned malformed-command 0)
-  decode-refused h = go (decode number nbw nmaxb all) refl
+  pub decode-refused : isCommand (decode idm nbw nmaxb all) ≡ false → decode idm nbw nmaxb all ≡ undecoded (positioned malformed-command 0)
+  decode-refused h = go (decode idm nbw nmaxb all) refl
     where
-      go : (d : Decoded) → decode number nbw nmaxb all ≡ d → decode number nbw nmaxb all ≡ undecoded (positioned malformed-command 0)
-      go (undecoded r) q = q ∙ ap undecoded (undecoded-is number nbw nmaxb all r q)
+      go : (d : Decoded) → decode idm nbw nmaxb all ≡ d → decode idm nbw nmaxb all ≡ undecoded (positioned malformed-command 0)
+      go (undecoded r) q = q ∙ ap undecoded (undecoded-is idm nbw nmaxb all r q)
       go (decoded bs bytes) q = absurd (true-false (ap isCommand q) h)
 
   -- what decodes is framed, and decodes to what it carries in place
-  pub decode-carried : isCommand (decode number nbw nmaxb all) ≡ true
-      → (decode number nbw nmaxb all ≡ carried all) × (framed number nbw all ≡ true) × (nameable nmaxb (numbers (byte all 12) (drop 13 all)) ≡ true)
-  decode-carried h = go (decode number nbw nmaxb all) refl
+  pub decode-carried : isCommand (decode idm nbw nmaxb all) ≡ true
+      → (decode idm nbw nmaxb all ≡ carried all) × (framed idm nbw all ≡ true) × (nameable nmaxb (numbers (byte all 12) (drop 13 all)) ≡ true)
+  decode-carried h = go (decode idm nbw nmaxb all) refl
     where
-      go : (d : Decoded) → decode number nbw nmaxb all ≡ d
-          → (decode number nbw nmaxb all ≡ carried all) × (framed number nbw all ≡ true) × (nameable nmaxb (numbers (byte all 12) (drop 13 all)) ≡ true)
+      go : (d : Decoded) → decode idm nbw nmaxb all ≡ d
+          → (decode idm nbw nmaxb all ≡ carried all) × (framed idm nbw all ≡ true) × (nameable nmaxb (numbers (byte all 12) (drop 13 all)) ≡ true)
       go (undecoded r) q = absurd (true-false h (ap isCommand q))
       go (decoded bs bytes) q =
-          let k = decoded-framed number nbw nmaxb all bs bytes q in
-          let n = encode-decode number nbw nmaxb all bs bytes q in
-          (decode-framed number nbw all (k .0) nmaxb (n .3) (k .1), k .0, k .1)
+          let k = decoded-framed idm nbw nmaxb all bs bytes q in
+          let n = encode-decode idm nbw nmaxb all bs bytes q in
+          (decode-framed idm nbw all (k .0) nmaxb (n .3) (k .1), k .0, k .1)
 
 -- a command by its parts
 pub same-command : {n m : ℕ} {x u : List Block} {y v : List ℕ} → n ≡ m → x ≡ u → y ≡ v
@@ -214,8 +214,8 @@ pub carried-viewed : (bytes : List ℕ) → Framed bytes
 carried-viewed bytes f =
     let b = byte bytes 12 in
     let ns = numbers b (drop 13 bytes) in
-    let sixteens = drop (13 + 2 * b) bytes in
-    let k : length sixteens ≡ 16 * length ns = omega (arith, length-drop (13 + 2 * b) bytes, length-numbers b (drop 13 bytes)) in
-    ap (λ l. decoded l (take (16 * length ns) (overwrite sixteens (replicate 128 0))))
+    let blockdata = drop (13 + 2 * b) bytes in
+    let k : length blockdata ≡ 16 * length ns = omega (arith, length-drop (13 + 2 * b) bytes, length-numbers b (drop 13 bytes)) in
+    ap (λ l. decoded l (take (16 * length ns) (overwrite blockdata (replicate 128 0))))
     (ap (take (length ns)) (numbers-back (overwrite ns (replicate 8 0))) ∙ take-at ns (drop (length ns) (replicate 8 0)) (length ns) refl)
-    ∙ ap (decoded ns) (take-at sixteens (drop (length sixteens) (replicate 128 0)) (16 * length ns) k)
+    ∙ ap (decoded ns) (take-at blockdata (drop (length blockdata) (replicate 128 0)) (16 * length ns) k)

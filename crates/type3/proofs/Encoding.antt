@@ -11,7 +11,7 @@ use lib.ListN.{length, take, drop, length-append, length-take, length-drop}
 use lib.Seq.{sets, drop-cons, drop-drop, take-add, length-take-le}
 use Rattle.tag.specs.Bytes.{byte, same, overwrite}
 use Rattle.tag.specs.Refusals.{malformed-command, short-buffer}
-use Rattle.tag.specs.TagType.{withheld, output}
+use Rattle.tag.specs.TagType.{refused-output, output}
 use Rattle.tag.proofs.Logic.{and-l, and-r}
 use Rattle.tag.proofs.Same.{same-append}
 use Rattle.tag.proofs.Storing.{sets-append, sets-front}
@@ -31,14 +31,14 @@ first-twelve bytes h =
     ap (take 12) (drop-cons bytes 0 0 (omega arith))
     ∙ ap (λ r. byte bytes 0 ∷ r) (take-add 8 3 (drop 1 bytes) ∙ ap (λ r. take 8 (drop 1 bytes) ++ take 3 r) (drop-drop 8 1 bytes ∙ last))
 
-pub opens-by : (bytes number : List ℕ) → 12 ≤ length bytes → length number ≡ 8
-    → same (take 12 bytes) (opening number)
-    ≡ eqb (byte bytes 0) 0x08 && (same (take 8 (drop 1 bytes)) number && (eqb (byte bytes 9) 0x01 && (eqb (byte bytes 10) 0x09 && (eqb (byte bytes 11) 0x00 && true))))
-opens-by bytes number h n =
-    let e : length (take 8 (drop 1 bytes)) ≡ length number = omega (arith, length-take 8 (drop 1 bytes), length-drop 1 bytes) in
-    ap (λ l. same l (opening number)) (first-twelve bytes h)
+pub opens-by : (bytes idm : List ℕ) → 12 ≤ length bytes → length idm ≡ 8
+    → same (take 12 bytes) (opening idm)
+    ≡ eqb (byte bytes 0) 0x08 && (same (take 8 (drop 1 bytes)) idm && (eqb (byte bytes 9) 0x01 && (eqb (byte bytes 10) 0x09 && (eqb (byte bytes 11) 0x00 && true))))
+opens-by bytes idm h n =
+    let e : length (take 8 (drop 1 bytes)) ≡ length idm = omega (arith, length-take 8 (drop 1 bytes), length-drop 1 bytes) in
+    ap (λ l. same l (opening idm)) (first-twelve bytes h)
     ∙ ap (λ q. eqb (byte bytes 0) 0x08 && q)
-    (same-append (take 8 (drop 1 bytes)) (byte bytes 9 ∷ byte bytes 10 ∷ byte bytes 11 ∷ []) number (0x01 ∷ 0x09 ∷ 0x00 ∷ []) e)
+    (same-append (take 8 (drop 1 bytes)) (byte bytes 9 ∷ byte bytes 10 ∷ byte bytes 11 ∷ []) idm (0x01 ∷ 0x09 ∷ 0x00 ∷ []) e)
 
 -- ---- how many blocks a command may name
 
@@ -68,60 +68,60 @@ well-named-by nbw nmaxb n bs h = go (leb n (length bs)) refl
 
 -- ---- a command written: the opening with the count, the names, the blocks' bytes
 
-pub command-stored : (l number bs bytes : List ℕ) → length number ≡ 8 → length bytes ≡ 16 * length bs → 13 + 18 * length bs ≤ length l
-    → sets (sets (sets l 0 (opening number ++ (length bs ∷ []))) 13 (namesBytes bs)) (13 + 2 * length bs) bytes
-    ≡ overwrite (commandBytes number bs bytes) l
-command-stored l number bs bytes n s h =
-    let o = opening number ++ length bs ∷ [] in
-    let names-from : 0 + length o ≡ 13 = omega (arith, length-append (opening number) (length bs ∷ []), length-opening number) in
-    let front : o ++ namesBytes bs ≡ opening number ++ length bs ∷ namesBytes bs = append-assoc (opening number) (length bs ∷ []) (namesBytes bs) in
+pub command-stored : (l idm bs bytes : List ℕ) → length idm ≡ 8 → length bytes ≡ 16 * length bs → 13 + 18 * length bs ≤ length l
+    → sets (sets (sets l 0 (opening idm ++ (length bs ∷ []))) 13 (namesBytes bs)) (13 + 2 * length bs) bytes
+    ≡ overwrite (commandBytes idm bs bytes) l
+command-stored l idm bs bytes n s h =
+    let o = opening idm ++ length bs ∷ [] in
+    let names-from : 0 + length o ≡ 13 = omega (arith, length-append (opening idm) (length bs ∷ []), length-opening idm) in
+    let front : o ++ namesBytes bs ≡ opening idm ++ length bs ∷ namesBytes bs = append-assoc (opening idm) (length bs ∷ []) (namesBytes bs) in
     let bytes-from : 0 + length (o ++ namesBytes bs) ≡ 13 + 2 * length bs = omega (arith, length-append o (namesBytes bs), length-names bs) in
     ap (λ at. sets (sets (sets l 0 o) at (namesBytes bs)) (13 + 2 * length bs) bytes) (sym names-from)
     ∙ ap (λ t. sets t (13 + 2 * length bs) bytes) (sym (sets-append o (namesBytes bs) l 0))
     ∙ ap (λ at. sets (sets l 0 (o ++ namesBytes bs)) at bytes) (sym bytes-from)
     ∙ sym (sets-append (o ++ namesBytes bs) bytes l 0)
     ∙ ap (λ f. sets l 0 (f ++ bytes)) front
-    ∙ sets-front (commandBytes number bs bytes) l (omega (arith, length-command number bs bytes n s))
+    ∙ sets-front (commandBytes idm bs bytes) l (omega (arith, length-command idm bs bytes n s))
 
 -- ---- the three answers of encoding
 
-pub encode-unnamed : (number : List ℕ) (nbw nmaxb n : ℕ) (bs bytes : List ℕ) (room : ℕ)
-    → leb n (length bs) && wellNamed nbw nmaxb (take n bs) ≡ false → encode number nbw nmaxb n bs bytes room ≡ withheld malformed-command
-encode-unnamed number nbw nmaxb n bs bytes room h = go (leb n (length bs)) refl
+pub encode-unnamed : (idm : List ℕ) (nbw nmaxb n : ℕ) (bs bytes : List ℕ) (room : ℕ)
+    → leb n (length bs) && wellNamed nbw nmaxb (take n bs) ≡ false → encode idm nbw nmaxb n bs bytes room ≡ refused-output malformed-command
+encode-unnamed idm nbw nmaxb n bs bytes room h = go (leb n (length bs)) refl
   where
-    go : (q : Bool) → leb n (length bs) ≡ q → encode number nbw nmaxb n bs bytes room ≡ withheld malformed-command
+    go : (q : Bool) → leb n (length bs) ≡ q → encode idm nbw nmaxb n bs bytes room ≡ refused-output malformed-command
     go false q = rw q
     go true q =
         let k : wellNamed nbw nmaxb (take n bs) ≡ false = rw q at h in
         rw (q, k)
 
-module _ (number : List ℕ) (nbw nmaxb n : ℕ) (bs bytes : List ℕ) (room : ℕ) where
+module _ (idm : List ℕ) (nbw nmaxb n : ℕ) (bs bytes : List ℕ) (room : ℕ) where
   -- the blocks used, and their bytes
-  length-used : length number ≡ 8 → n ≤ length bs → 16 * n ≤ length bytes
-      → length (commandBytes number (take n bs) (take (16 * n) bytes)) ≡ 13 + 18 * n
+  length-used : length idm ≡ 8 → n ≤ length bs → 16 * n ≤ length bytes
+      → length (commandBytes idm (take n bs) (take (16 * n) bytes)) ≡ 13 + 18 * n
   length-used e h s =
       let k : length (take n bs) ≡ n = length-take-le n bs h in
       let m : length (take (16 * n) bytes) ≡ 16 * length (take n bs) = omega (arith, length-take-le (16 * n) bytes s) in
-      length-command number (take n bs) (take (16 * n) bytes) e m ∙ rw k
+      length-command idm (take n bs) (take (16 * n) bytes) e m ∙ rw k
 
-  pub encode-short : length number ≡ 8 → length bytes ≡ 128 → length bs ≡ 8 → leb n (length bs) && wellNamed nbw nmaxb (take n bs) ≡ true
-      → room < 13 + 18 * n → encode number nbw nmaxb n bs bytes room ≡ withheld short-buffer
+  pub encode-short : length idm ≡ 8 → length bytes ≡ 128 → length bs ≡ 8 → leb n (length bs) && wellNamed nbw nmaxb (take n bs) ≡ true
+      → room < 13 + 18 * n → encode idm nbw nmaxb n bs bytes room ≡ refused-output short-buffer
   encode-short e s b h r =
       let l : n ≤ length bs = leb-true n (length bs) (and-l (leb n (length bs)) (wellNamed nbw nmaxb (take n bs)) h) in
       let w : wellNamed nbw nmaxb (take n bs) ≡ true = and-r (leb n (length bs)) (wellNamed nbw nmaxb (take n bs)) h in
-      let k : leb (length (commandBytes number (take n bs) (take (16 * n) bytes))) room ≡ false
-      = lt-leb (length (commandBytes number (take n bs) (take (16 * n) bytes))) room (omega (arith, length-used e l (omega arith))) in
+      let k : leb (length (commandBytes idm (take n bs) (take (16 * n) bytes))) room ≡ false
+      = lt-leb (length (commandBytes idm (take n bs) (take (16 * n) bytes))) room (omega (arith, length-used e l (omega arith))) in
       rw (le-leb n (length bs) l, w, k)
 
-  pub encode-written : length number ≡ 8 → length bytes ≡ 128 → length bs ≡ 8 → leb n (length bs) && wellNamed nbw nmaxb (take n bs) ≡ true
+  pub encode-written : length idm ≡ 8 → length bytes ≡ 128 → length bs ≡ 8 → leb n (length bs) && wellNamed nbw nmaxb (take n bs) ≡ true
       → 13 + 18 * n ≤ room
-      → encode number nbw nmaxb n bs bytes room ≡ output (13 + 18 * n) (commandBytes number (take n bs) (take (16 * n) bytes))
+      → encode idm nbw nmaxb n bs bytes room ≡ output (13 + 18 * n) (commandBytes idm (take n bs) (take (16 * n) bytes))
   encode-written e s b h r =
       let l : n ≤ length bs = leb-true n (length bs) (and-l (leb n (length bs)) (wellNamed nbw nmaxb (take n bs)) h) in
       let w : wellNamed nbw nmaxb (take n bs) ≡ true = and-r (leb n (length bs)) (wellNamed nbw nmaxb (take n bs)) h in
-      let k : leb (length (commandBytes number (take n bs) (take (16 * n) bytes))) room ≡ true
-      = le-leb (length (commandBytes number (take n bs) (take (16 * n) bytes))) room (omega (arith, length-used e l (omega arith))) in
-      rw (le-leb n (length bs) l, w, k) (ap (λ m. output (13 + 18 * m) (commandBytes number (take n bs) (take (16 * n) bytes))) (length-take-le n bs l))
+      let k : leb (length (commandBytes idm (take n bs) (take (16 * n) bytes))) room ≡ true
+      = le-leb (length (commandBytes idm (take n bs) (take (16 * n) bytes))) room (omega (arith, length-used e l (omega arith))) in
+      rw (le-leb n (length bs) l, w, k) (ap (λ m. output (13 + 18 * m) (commandBytes idm (take n bs) (take (16 * n) bytes))) (length-take-le n bs l))
 
 -- what encoding goes on with: the first n blocks are at most eight, and a command may name them
 pub record Used (nmaxb n : ℕ) (bs : List ℕ) : Type 0 where

@@ -59,5 +59,5 @@ set-is i m a =
     let e : 11 + suc (suc (suc (suc (suc n)))) ≡ 16 + n = omega arith in
     ap (λ b. eqb 9 a || b) (run-set 11 (suc (suc (suc (suc (suc n))))) (drop 1 (values i m)) a (omega (arith, length-body m)) ∙ rw e)
 
-pub kept-is : (number i m j : List ℕ) → equalAt (λ a. not (setFor (length m) a)) i j (run 0 (length i)) ≡ keeps (task (type3 number) i m) j
-kept-is number i m j = equal-same (λ a. not (setFor (length m) a)) _ i j 0 (length i) (λ a l u. ap not (sym (set-is i m a)))
+pub kept-is : (idm i m j : List ℕ) → equalAt (λ a. not (setFor (length m) a)) i j (run 0 (length i)) ≡ keeps (task (type3 idm) i m) j
+kept-is idm i m j = equal-same (λ a. not (setFor (length m) a)) _ i j 0 (length i) (λ a l u. ap not (sym (set-is i m a)))

@@ -32,10 +32,10 @@ use Rattle.type3.proofs.Update.{quiet, closed-length, closed-kept, abov
 
 -- ---- a tag that is ready
 
-module _ (number i m : List ℕ) (r : Ready (type3 number) i m) where
+module _ (idm i m : List ℕ) (r : Ready (type3 idm) i m) where
   pub ready-room : HasRoom i m
   ready-room = record {
-    passes = reads-passes i (ready-reads (type3 number) i m r);
+    passes = reads-passes i (ready-reads (type3 idm) i m r);
     some-bytes = r .some-bytes;
     room = r .room;
   }
@@ -46,7 +46,7 @@ module _ (number i m : List ℕ) (r : Ready (type3 number) i m) where
   pub some-width : 0 < blocksPerCommand (byte i 2)
   some-width = omega (arith, leb-true 1 (byte i 2) (and-r (eqb (byte i 10) 0x01) (leb 1 (byte i 2)) ready-writable))
 
-  plan-sound : Sound (type3 number) i m (plan i m)
+  plan-sound : Sound (type3 idm) i m (plan i m)
   plan-sound = record {
     blockwise = record {
       some-size = omega arith;
@@ -81,37 +81,37 @@ sendable nbw nmaxb hi ss l w s = (
     count : length (blocksOf ss) ≡ length ss
     count = length-map ss (blockNumber 16)
 
-module _ (number i m : List ℕ) (eight : length number ≡ 8) (r : Ready (type3 number) i m) where
+module _ (idm i m : List ℕ) (eight : length idm ≡ 8) (r : Ready (type3 idm) i m) where
   plan-nameable : Nameable (plan i m) i (λ b. b ≤ nmaxbOf i)
   plan-nameable = record {
     guard-good = omega arith;
-    touched-good = λ b l n e. omega (arith, touched-most i m b e, few-blocks i m (ready-room number i m r));
+    touched-good = λ b l n e. omega (arith, touched-most i m b e, few-blocks i m (ready-room idm i m r));
   }
 
-  list-sent : Each (Sent (type3 number) i) (list (plan i m) i)
+  list-sent : Each (Sent (type3 idm) i) (list (plan i m) i)
   list-sent = each-of _ _ (list (plan i m) i) command-sent
-      (list-good (plan i m) i (plan-sound number i m r .blockwise) (λ b. b ≤ nmaxbOf i) plan-nameable)
+      (list-good (plan i m) i (plan-sound idm i m r .blockwise) (λ b. b ≤ nmaxbOf i) plan-nameable)
     where
-      command-sent : (ss : List Store) → Each (Named 16 (λ b. b ≤ nmaxbOf i)) ss × Sized 16 (blocksPerCommand (byte i 2)) (length i / 16) ss → Sent (type3 number) i ss
+      command-sent : (ss : List Store) → Each (Named 16 (λ b. b ≤ nmaxbOf i)) ss × Sized 16 (blocksPerCommand (byte i 2)) (length i / 16) ss → Sent (type3 idm) i ss
       command-sent ss h =
-          let b = bounds i (ready-room number i m r .passes) in
+          let b = bounds i (ready-room idm i m r .passes) in
           let s : Sendable (byte i 2) (nmaxbOf i) ss = sendable (byte i 2) (nmaxbOf i) (length i / 16) ss (omega (arith, b .short, b .reach)) (h .0) (h .1) in
           record {
-            taken = sent number (byte i 2) (nmaxbOf i) ss eight s;
-            some-bytes = some-sent number ss;
-            whole = span-sent number (byte i 2) (nmaxbOf i) ss eight s;
+            taken = sent idm (byte i 2) (nmaxbOf i) ss eight s;
+            some-bytes = some-sent idm ss;
+            whole = span-sent idm (byte i 2) (nmaxbOf i) ss eight s;
           }
 
 -- ---- a tag that a list may leave
 
-module _ (number i m j : List ℕ) (r : Ready (type3 number) i m) (n : Near (type3 number) i m j) where
+module _ (idm i m j : List ℕ) (r : Ready (type3 idm) i m) (n : Near (type3 idm) i m j) where
   near-agrees : Agrees j i
-  near-agrees = kept-agrees i m j (omega (arith, inside i m (ready-room number i m r))) (n .kept)
+  near-agrees = kept-agrees i m j (omega (arith, inside i m (ready-room idm i m r))) (n .kept)
 
-  near-ready : Ready (type3 number) j m
+  near-ready : Ready (type3 idm) j m
   near-ready = go (reading j) refl
     where
-      go : (v : Reading) → reading j ≡ v → Ready (type3 number) j m
+      go : (v : Reading) → reading j ≡ v → Ready (type3 idm) j m
       go (unreadable f) q = absurd (n .readable (rw q))
       go (reads p) q =
           let same-2 : byte j 2 ≡ byte i 2 = near-agrees 2 refl in
@@ -119,7 +119,7 @@ module _ (number i m j : List ℕ) (r : Ready (type3 number) i m) (n : Near (typ
           record {
             report = p;
             reads-as = q;
-            writable = reads-writable j p q ∙ rw (same-2, same-10) (ready-writable number i m r);
+            writable = reads-writable j p q ∙ rw (same-2, same-10) (ready-writable idm i m r);
             some-bytes = r .some-bytes;
             room = rw (same-nmaxb j i near-agrees) (r .room);
           }
@@ -127,18 +127,18 @@ module _ (number i m j : List ℕ) (r : Ready (type3 number) i m) (n : Near (typ
   near-values : values j m ≡ values i m
   near-values = ap (λ s. valuesBy (length m) (s + lnSum (length m)) (body m)) (same-sum j i near-agrees)
 
-  near-command : (bytes : List ℕ) → commandOf (decode number (byte j 2) (nmaxbOf j) bytes) ≡ commandOf (decode number (byte i 2) (nmaxbOf i) bytes)
+  near-command : (bytes : List ℕ) → commandOf (decode idm (byte j 2) (nmaxbOf j) bytes) ≡ commandOf (decode idm (byte i 2) (nmaxbOf i) bytes)
   near-command bytes = let same-2 : byte j 2 ≡ byte i 2 = near-agrees 2 refl in rw (same-2, same-nmaxb j i near-agrees)
 
-pub type3-laws : (number : List ℕ) → length number ≡ 8 → Laws (type3 number)
-type3-laws number eight = record {
-  sound = plan-sound number;
-  still-ready = λ i m j r n. near-ready number i m j r n;
+pub type3-laws : (idm : List ℕ) → length idm ≡ 8 → Laws (type3 idm)
+type3-laws idm eight = record {
+  sound = plan-sound idm;
+  still-ready = λ i m j r n. near-ready idm i m j r n;
   same-addresses = λ i m j r n. refl;
-  same-values = λ i m j r n. near-values number i m j r n;
-  same-command = λ i m j r n. near-command number i m j r n;
+  same-values = λ i m j r n. near-values idm i m j r n;
+  same-command = λ i m j r n. near-command idm i m j r n;
   numbered = numbered;
   wordless = wordless;
   in-place = in-place;
-  sent = λ i m r. list-sent number i m eight r;
+  sent = λ i m r. list-sent idm i m eight r;
 }

@@ -10,9 +10,9 @@ use lib.ListN.{length}
 use Rattle.tag.specs.Bytes.{byte}
 use Rattle.tag.specs.Refusals.{positioned, malformed-command}
 use Rattle.tag.specs.Checks.{fine, fault, firstOf}
-use Rattle.tag.specs.Stores.{Store, ill, stores, formed, done}
+use Rattle.tag.specs.Stores.{Store, malformed, stores, formed, tagAfter}
 use Rattle.tag.specs.Views.Judging.{Applied}
-use Rattle.tag.specs.Model.{unstored, stored, given, modelBy, model}
+use Rattle.tag.specs.Model.{refused-storing, stored, given, modelBy, model}
 use Rattle.tag.proofs.Logic.{true-false}
 use Rattle.type3.specs.Attributes.{nmaxbOf, attributes, attributeChecks}
 use Rattle.type3.specs.Codec.{Decoded, undecoded, decoded, decode, storesOf, commandOf}
@@ -23,24 +23,24 @@ use Rattle.type3.proofs.Message.{unread, passes-reads}
 
 -- ---- which commands are taken
 
-module _ (n : ℕ) (number : List ℕ) (nbw nmaxb : ℕ) (bytes : List ℕ) where
-  pub decode-past : n / 16 ≤ nmaxb → decodeFor n number nbw nmaxb bytes ≡ undecoded (positioned malformed-command 0)
+module _ (n : ℕ) (idm : List ℕ) (nbw nmaxb : ℕ) (bytes : List ℕ) where
+  pub decode-past : n / 16 ≤ nmaxb → decodeFor n idm nbw nmaxb bytes ≡ undecoded (positioned malformed-command 0)
   decode-past l = rw (le-ltb nmaxb (n / 16) l)
 
-  pub decode-inside : nmaxb < n / 16 → decodeFor n number nbw nmaxb bytes ≡ decode number nbw nmaxb bytes
+  pub decode-inside : nmaxb < n / 16 → decodeFor n idm nbw nmaxb bytes ≡ decode idm nbw nmaxb bytes
   decode-inside l = rw (lt-ltb nmaxb (n / 16) l)
 
   -- by the Nbw and the Nmaxb of a tag, which reach no further than the image
   pub decode-by : (i : List ℕ) → nbw ≡ byte i 2 → nmaxb ≡ nmaxbOf i → 16 * (1 + nmaxb) ≤ n
-      → decodeFor n number nbw nmaxb bytes ≡ decode number (byte i 2) (nmaxbOf i) bytes
+      → decodeFor n idm nbw nmaxb bytes ≡ decode idm (byte i 2) (nmaxbOf i) bytes
   decode-by i p q l =
-      decode-inside (omega arith) ∙ ap (λ x. decode number x nmaxb bytes) p ∙ ap (λ x. decode number (byte i 2) x bytes) q
+      decode-inside (omega arith) ∙ ap (λ x. decode idm x nmaxb bytes) p ∙ ap (λ x. decode idm (byte i 2) x bytes) q
 
 -- ---- a command by whether it decodes
 
-pub ill-command : (d : Decoded) → isCommand d ≡ false → commandOf d ≡ ill
-ill-command (undecoded r) q = refl
-ill-command (decoded bs bytes) q = absurd (true-false refl q)
+pub malformed-is : (d : Decoded) → isCommand d ≡ false → commandOf d ≡ malformed
+malformed-is (undecoded r) q = refl
+malformed-is (decoded bs bytes) q = absurd (true-false refl q)
 
 pub some-command : (d : Decoded) → isCommand d ≡ true → (ss : List Store) × (commandOf d ≡ stores ss)
 some-command (undecoded r) q = absurd (true-false q refl)
@@ -51,32 +51,32 @@ formed-is (undecoded r) = refl
 formed-is (decoded bs bytes) = refl
 
 -- by a tag of the same length as the one handed in, whose Nbw and Nmaxb they are
-pub applied : (number i j bytes : List ℕ) → length j ≡ length i → (nbw nmaxb : ℕ) → nbw ≡ byte i 2 → nmaxb ≡ nmaxbOf i → 16 * (1 + nmaxb) ≤ length i
-    → (r : Bool) (after : List ℕ) → r ≡ isCommand (decodeFor (length j) number nbw nmaxb bytes)
-    → after ≡ done j (commandOf (decodeFor (length j) number nbw nmaxb bytes)) → Applied (type3 number) i j bytes r after
-applied number i j bytes size nbw nmaxb p q reach r after e f =
-    let by : decodeFor (length j) number nbw nmaxb bytes ≡ decode number (byte i 2) (nmaxbOf i) bytes =
-    decode-by (length j) number nbw nmaxb bytes i p q (omega arith) in (
-      e ∙ ap isCommand by ∙ sym (formed-is (decode number (byte i 2) (nmaxbOf i) bytes)),
-      f ∙ ap (λ d. done j (commandOf d)) by,
+pub applied : (idm i j bytes : List ℕ) → length j ≡ length i → (nbw nmaxb : ℕ) → nbw ≡ byte i 2 → nmaxb ≡ nmaxbOf i → 16 * (1 + nmaxb) ≤ length i
+    → (r : Bool) (after : List ℕ) → r ≡ isCommand (decodeFor (length j) idm nbw nmaxb bytes)
+    → after ≡ tagAfter j (commandOf (decodeFor (length j) idm nbw nmaxb bytes)) → Applied (type3 idm) i j bytes r after
+applied idm i j bytes size nbw nmaxb p q reach r after e f =
+    let by : decodeFor (length j) idm nbw nmaxb bytes ≡ decode idm (byte i 2) (nmaxbOf i) bytes =
+    decode-by (length j) idm nbw nmaxb bytes i p q (omega arith) in (
+      e ∙ ap isCommand by ∙ sym (formed-is (decode idm (byte i 2) (nmaxbOf i) bytes)),
+      f ∙ ap (λ d. tagAfter j (commandOf d)) by,
     )
 
 -- ---- the three answers of the model
 
-module _ (number i bytes : List ℕ) where
+module _ (idm i bytes : List ℕ) where
   abbrev d : Decoded
-  d = decode number (byte i 2) (nmaxbOf i) bytes
+  d = decode idm (byte i 2) (nmaxbOf i) bytes
 
-  pub model-refused : (r : ℕ) → firstOf (attributeChecks (length i) (attributes i)) ≡ fault r → model (type3 number) i bytes ≡ unstored r
+  pub model-refused : (r : ℕ) → firstOf (attributeChecks (length i) (attributes i)) ≡ fault r → model (type3 idm) i bytes ≡ refused-storing r
   model-refused r e = ap (λ v. modelBy i v (commandOf d)) (unread i r e)
 
-  model-given : firstOf (attributeChecks (length i) (attributes i)) ≡ fine → model (type3 number) i bytes ≡ given i (commandOf d)
+  model-given : firstOf (attributeChecks (length i) (attributes i)) ≡ fine → model (type3 idm) i bytes ≡ given i (commandOf d)
   model-given e = ap (λ v. modelBy i v (commandOf d)) (passes-reads i e .1)
 
-  pub model-ill : firstOf (attributeChecks (length i) (attributes i)) ≡ fine → isCommand d ≡ false → model (type3 number) i bytes ≡ unstored malformed-command
-  model-ill e q = model-given e ∙ ap (given i) (ill-command d q)
+  pub model-malformed : firstOf (attributeChecks (length i) (attributes i)) ≡ fine → isCommand d ≡ false → model (type3 idm) i bytes ≡ refused-storing malformed-command
+  model-malformed e q = model-given e ∙ ap (given i) (malformed-is d q)
 
-  pub model-stored : firstOf (attributeChecks (length i) (attributes i)) ≡ fine → isCommand d ≡ true → model (type3 number) i bytes ≡ stored (done i (commandOf d))
+  pub model-stored : firstOf (attributeChecks (length i) (attributes i)) ≡ fine → isCommand d ≡ true → model (type3 idm) i bytes ≡ stored (tagAfter i (commandOf d))
   model-stored e q =
       let (ss, p) = some-command d q in
       model-given e ∙ rw p

@@ -11,7 +11,7 @@ use lib.ListN.{length, take, drop, length-drop}
 use lib.Seq.{length-take-le}
 use Rattle.tag.specs.Bytes.{byte}
 use Rattle.tag.specs.Checks.{Checked, fine, fault, firstOf}
-use Rattle.tag.specs.Reading.{What, message, empty, being-written, Report, reads, part}
+use Rattle.tag.specs.Reading.{Content, message, empty, being-written, Report, reads, part}
 use Rattle.tag.proofs.Logic.{nope}
 use Rattle.tag.proofs.Checks.{fine-all}
 use Rattle.type3.specs.Attributes.{attributes, attributeChecks, mayWrite}
@@ -32,7 +32,7 @@ view-inside i n e = go (firstOf (attributeChecks (length i) (attributes i))) ref
         let c : Passes i = fine-all (attributeChecks (length i) (attributes i)) p in
         omega (arith, l, ln-fits i c, bounds i c .reach)
 
-pub wordless : (i : List ℕ) (p : Report) → reading i ≡ reads p → (p .what ≡ message → ⊥) → p .bytes ≡ []
+pub wordless : (i : List ℕ) (p : Report) → reading i ≡ reads p → (p .content ≡ message → ⊥) → p .bytes ≡ []
 unfolding reading
 wordless i p e n = go (viewed i) e
   where
@@ -40,25 +40,25 @@ wordless i p e n = go (viewed i) e
     go (refuse r) f = absurd (nope (cc))
     go busy f = let q : without being-written (mayWrite i) ≡ p = cc in ap (λ x. x .bytes) (sym q)
     go (view zero) f = let q : without empty (mayWrite i) ≡ p = cc in ap (λ x. x .bytes) (sym q)
-    go (view (suc k)) f = let q : withMessage (suc k) i (mayWrite i) ≡ p = cc in absurd (n (ap (λ x. x .what) (sym q)))
+    go (view (suc k)) f = let q : withMessage (suc k) i (mayWrite i) ≡ p = cc in absurd (n (ap (λ x. x .content) (sym q)))
 
-pub in-place : (i : List ℕ) (p : Report) → reading i ≡ reads p → p .what ≡ message → p .interrupted ≡ false
+pub in-place : (i : List ℕ) (p : Report) → reading i ≡ reads p → p .content ≡ message → p .interrupted ≡ false
     → part (p .address) (length (p .bytes)) i ≡ p .bytes
 unfolding reading
 in-place i p e m f = go (viewed i) refl e
   where
-    kind : (w : What) → p .what ≡ w → w ≡ message
+    kind : (w : Content) → p .content ≡ w → w ≡ message
     kind w q = sym q ∙ m
 
     go : (v : View) → viewed i ≡ v → readingOf (mayWrite i) i v ≡ reads p → part (p .address) (length (p .bytes)) i ≡ p .bytes
     go (refuse r) q g = absurd (nope (cc))
     go busy q g =
         let r : without being-written (mayWrite i) ≡ p = cc in
-        let z : being-written ≡ message = kind being-written (ap (λ x. x .what) (sym r)) in
+        let z : being-written ≡ message = kind being-written (ap (λ x. x .content) (sym r)) in
         absurd (nope (cc))
     go (view zero) q g =
         let r : without empty (mayWrite i) ≡ p = cc in
-        let z : empty ≡ message = kind empty (ap (λ x. x .what) (sym r)) in
+        let z : empty ≡ message = kind empty (ap (λ x. x .content) (sym r)) in
         absurd (nope (cc))
     go (view (suc k)) q g =
         let r : withMessage (suc k) i (mayWrite i) ≡ p = cc in

@@ -61,12 +61,12 @@ pub puts-end : (j bytes : List ℕ) (b k : ℕ) → b ≤ k → puts j (storesFr
 unfolding numbers
 puts-end j bytes b k h = let e : b - k ≡ 0 = omega arith in rw e
 
-module _ (number : List ℕ) (nbw nmaxb : ℕ) (bytes : List ℕ) (h : isCommand (decode number nbw nmaxb bytes) ≡ true) where
+module _ (idm : List ℕ) (nbw nmaxb : ℕ) (bytes : List ℕ) (h : isCommand (decode idm nbw nmaxb bytes) ≡ true) where
   -- a well-formed command's blocks lie in the data area
   pub command-storable : (n : ℕ) → 16 * (1 + nmaxb) ≤ n → Storable bytes n
   command-storable n l =
-      let d = decode-carried number nbw nmaxb bytes h in
-      let f : Framed bytes = frame number nbw bytes (d .1) in
+      let d = decode-carried idm nbw nmaxb bytes h in
+      let f : Framed bytes = frame idm nbw bytes (d .1) in
       record {
         few = f .few;
         whole = omega arith;
@@ -84,9 +84,9 @@ module _ (number : List ℕ) (nbw nmaxb : ℕ) (bytes : List ℕ) (h : isCommand
           )
 
   -- and it stores what it carries in place
-  pub command-stores : commandOf (decode number nbw nmaxb bytes) ≡ stores (storesFrom bytes (byte bytes 12) 0)
+  pub command-stores : commandOf (decode idm nbw nmaxb bytes) ≡ stores (storesFrom bytes (byte bytes 12) 0)
   command-stores =
-      let d = decode-carried number nbw nmaxb bytes h in
+      let d = decode-carried idm nbw nmaxb bytes h in
       let b = byte bytes 12 in
       let all : b ≡ b - 0 = omega arith in
       let start : 13 + 2 * b ≡ 13 + 2 * b + 16 * 0 = omega arith in

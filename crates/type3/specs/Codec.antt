@@ -9,8 +9,8 @@ use lib.Dec.{leb, eqb}
 use lib.ListN.{length, take, drop}
 use Rattle.tag.specs.Bytes.{byte, same, has}
 use Rattle.tag.specs.Refusals.{Refusal, positioned, malformed-command}
-use Rattle.tag.specs.Stores.{Store, Command, ill, stores}
-use Rattle.tag.specs.TagType.{Output, withheld, fitted}
+use Rattle.tag.specs.Stores.{Store, Command, malformed, stores}
+use Rattle.tag.specs.TagType.{Output, refused-output, fitted}
 use Rattle.type3.specs.Update.{blocksPerCommand}
 
 -- how a command names a block: 80h and its number, a byte
@@ -55,20 +55,20 @@ wellNamed nbw nmaxb bs = leb 1 (length bs) && leb (length bs) (blocksPerCommand 
 
 -- the bytes up to the block count
 abbrev pub opening : List ℕ → List ℕ
-opening number = 0x08 ∷ number ++ 0x01 ∷ 0x09 ∷ 0x00 ∷ []
+opening idm = 0x08 ∷ idm ++ 0x01 ∷ 0x09 ∷ 0x00 ∷ []
 
 abbrev pub commandBytes : List ℕ → List ℕ → List ℕ → List ℕ
-commandBytes number bs bytes = opening number ++ length bs ∷ namesBytes bs ++ bytes
+commandBytes idm bs bytes = opening idm ++ length bs ∷ namesBytes bs ++ bytes
 
 -- these blocks and their bytes: 20, then 12, else the number of bytes
 abbrev pub encodeBy : List ℕ → ℕ → ℕ → List ℕ → List ℕ → ℕ → Output
-encodeBy number nbw nmaxb bs bytes room =
-    cond (wellNamed nbw nmaxb bs) (fitted room (13 + 18 * length bs) (commandBytes number bs bytes)) (withheld malformed-command)
+encodeBy idm nbw nmaxb bs bytes room =
+    cond (wellNamed nbw nmaxb bs) (fitted room (13 + 18 * length bs) (commandBytes idm bs bytes)) (refused-output malformed-command)
 
 -- the first b of the blocks and 16·b of the bytes, written to a buffer with this much room: 20, then 12, else the number of bytes
 abbrev pub encode : List ℕ → ℕ → ℕ → ℕ → List ℕ → List ℕ → ℕ → Output
-encode number nbw nmaxb b bs bytes room =
-    cond (leb b (length bs)) (encodeBy number nbw nmaxb (take b bs) (take (16 * b) bytes) room) (withheld malformed-command)
+encode idm nbw nmaxb b bs bytes room =
+    cond (leb b (length bs)) (encodeBy idm nbw nmaxb (take b bs) (take (16 * b) bytes) room) (refused-output malformed-command)
 
 -- a command read: the blocks and their bytes, or a refusal
 pub data Decoded : Type 0 where
@@ -82,8 +82,8 @@ decodeBy nbw nmaxb (names bs bytes) =
     cond (wellNamed nbw nmaxb bs && eqb (length bytes) (16 * length bs)) (decoded bs bytes) (undecoded (positioned malformed-command 0))
 
 unfoldable pub decode : List ℕ → ℕ → ℕ → List ℕ → Decoded
-decode number nbw nmaxb bytes =
-    cond (same (take 12 bytes) (opening number)) (decodeBy nbw nmaxb (namesOf (byte bytes 12) (drop 13 bytes))) (undecoded (positioned malformed-command 0))
+decode idm nbw nmaxb bytes =
+    cond (same (take 12 bytes) (opening idm)) (decodeBy nbw nmaxb (namesOf (byte bytes 12) (drop 13 bytes))) (undecoded (positioned malformed-command 0))
 
 -- what a command stores: sixteen bytes for each block
 abbrev pub storesOf : List ℕ → List ℕ → List Store
@@ -91,7 +91,7 @@ storesOf [] bytes = []
 storesOf (b ∷ bs) bytes = record { at = 16 * b; bytes = take 16 bytes } ∷ storesOf bs (drop 16 bytes)
 
 abbrev pub commandOf : Decoded → Command
-commandOf (undecoded r) = ill
+commandOf (undecoded r) = malformed
 commandOf (decoded bs bytes) = stores (storesOf bs bytes)
 
 -- the bytes of a command that stores these blocks
@@ -100,7 +100,7 @@ storedBytes [] = []
 storedBytes (s ∷ ss) = s .bytes ++ storedBytes ss
 
 abbrev pub encoded : List ℕ → List Store → List ℕ
-encoded number ss = commandBytes number (map (λ s. s .at / 16) ss) (storedBytes ss)
+encoded idm ss = commandBytes idm (map (λ s. s .at / 16) ss) (storedBytes ss)
 
 -- how many bytes a command takes, by its own count
 abbrev pub span : List ℕ → ℕ

@@ -41,8 +41,8 @@ commandAs (decoded bs bytes) =
 
 -- `encode`, given our number, Nbw, Nmaxb, a command and a buffer, answers r and leaves the buffer as out
 abbrev pub EncodedTo : List ℕ → ℕ → ℕ → Command → List ℕ → CountAnswer → List ℕ → Type 0
-EncodedTo number nbw nmaxb c buffer r out = PutOut (encode number nbw nmaxb (c .count) (blockNumbers (c .blocks)) (c .bytes)) buffer r out
+EncodedTo idm nbw nmaxb c buffer r out = PutOut (encode idm nbw nmaxb (c .count) (blockNumbers (c .blocks)) (c .bytes)) buffer r out
 
 -- `decode`, given our number, Nbw, Nmaxb and bytes, answers d
 abbrev pub DecodedTo : List ℕ → ℕ → ℕ → List ℕ → code.Decoded → Type 0
-DecodedTo number nbw nmaxb bytes d = (decodedAs d ≡ decode number nbw nmaxb bytes) × (d .command ≡ commandAs (decode number nbw nmaxb bytes))
+DecodedTo idm nbw nmaxb bytes d = (decodedAs d ≡ decode idm nbw nmaxb bytes) × (d .command ≡ commandAs (decode idm nbw nmaxb bytes))

@@ -6,7 +6,7 @@ use Prim.Native.Nat.{ℕ, zero, suc}
 use lib.Dec.{eqb}
 use lib.ListN.{length, take, drop}
 use Rattle.tag.specs.Checks.{Checked, fine, fault, firstOf}
-use Rattle.tag.specs.Reading.{What, message, empty, being-written, Report, Reading, unreadable, reads}
+use Rattle.tag.specs.Reading.{Content, message, empty, being-written, Report, Reading, unreadable, reads}
 use Rattle.type3.specs.Attributes.{Attributes, attributes, attributeChecks, mayWrite}
 
 -- a refusal, being written, or the length of the message
@@ -27,11 +27,11 @@ abbrev pub viewed : List ℕ → View
 viewed i = viewBy (length i) (attributes i)
 
 -- without a message, a message of Ln bytes from block 1; a Type 3 message is never interrupted
-abbrev pub without : What → Bool → Report
-without what w = record { what = what; bytes = []; address = 0; interrupted = false; writable = w }
+abbrev pub without : Content → Bool → Report
+without content w = record { content = content; bytes = []; address = 0; interrupted = false; writable = w }
 
 abbrev pub withMessage : ℕ → List ℕ → Bool → Report
-withMessage n i w = record { what = message; bytes = take n (drop 16 i); address = 16; interrupted = false; writable = w }
+withMessage n i w = record { content = message; bytes = take n (drop 16 i); address = 16; interrupted = false; writable = w }
 
 -- Ln 0 reads as empty
 abbrev pub readingOf : Bool → List ℕ → View → Reading

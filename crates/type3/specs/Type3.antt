@@ -11,11 +11,11 @@ use Rattle.type3.specs.Codec.{decode, commandOf, span, encoded}
 
 -- commands go by Nbw and Nmaxb of the tag handed in
 abbrev pub type3 : List ℕ → TagType
-type3 number = record {
+type3 idm = record {
   reading = reading;
   fits = fits;
   plan = plan;
-  command = λ i bytes. commandOf (decode number (byte i 2) (nmaxbOf i) bytes);
+  command = λ i bytes. commandOf (decode idm (byte i 2) (nmaxbOf i) bytes);
   span = λ i. span;
-  encoded = encoded number;
+  encoded = encoded idm;
 }

@@ -61,19 +61,19 @@ fn countable(count: usize, nbw: usize) -> bool
 }
 
 // The bytes up to the block count, and the count.
-pub fn opening(number: [u8; 8], count: u8) -> [u8; FRONT]
-    ensures { λ r. ⌜ r ≡ opening number ++ (count ∷ []) ⌝ }
+pub fn opening(idm: [u8; 8], count: u8) -> [u8; FRONT]
+    ensures { λ r. ⌜ r ≡ opening idm ++ (count ∷ []) ⌝ }
 {
     [
         0x08,
-        number[0],
-        number[1],
-        number[2],
-        number[3],
-        number[4],
-        number[5],
-        number[6],
-        number[7],
+        idm[0],
+        idm[1],
+        idm[2],
+        idm[3],
+        idm[4],
+        idm[5],
+        idm[6],
+        idm[7],
         0x01,
         0x09,
         0x00,
@@ -82,15 +82,15 @@ pub fn opening(number: [u8; 8], count: u8) -> [u8; FRONT]
 }
 
 // Writes a command whose blocks may be named.
-fn put(number: [u8; 8], blocks: &[usize], sixteens: &[u8], bytes: &mut [u8])
-    requires { ⌜ PutAsked (now blocks) (now sixteens) (now bytes) ⌝ }
-    ensures { λ _. ⌜ now (bytes .exit) ≡ overwrite (commandBytes number (now (blocks .entry)) (now (sixteens .entry))) (now (bytes .entry)) ⌝ }
+fn put(idm: [u8; 8], blocks: &[usize], blockdata: &[u8], bytes: &mut [u8])
+    requires { ⌜ PutAsked (now blocks) (now blockdata) (now bytes) ⌝ }
+    ensures { λ _. ⌜ now (bytes .exit) ≡ overwrite (commandBytes idm (now (blocks .entry)) (now (blockdata .entry))) (now (bytes .entry)) ⌝ }
 {
     let count = blocks.len();
-    let front = opening(number, count as u8);
+    let front = opening(idm, count as u8);
     slices::store(&front, 0, bytes);
     names::put(blocks, bytes);
-    slices::store(sixteens, FRONT + names::LENGTH * count, bytes);
+    slices::store(blockdata, FRONT + names::LENGTH * count, bytes);
 }
 
 // Whether a command may name the first `count` of the blocks.
@@ -108,14 +108,14 @@ fn well_named(count: usize, blocks: &[usize], nbw: usize, nmaxb: usize) -> bool
 fn encode_parts(
     count: usize,
     blocks: &[usize],
-    sixteens: &[u8],
-    number: [u8; 8],
+    blockdata: &[u8],
+    idm: [u8; 8],
     nbw: usize,
     nmaxb: usize,
     bytes: &mut [u8],
 ) -> CountAnswer
-    requires { ⌜ (length (now blocks) ≡ 8) × (length (now sixteens) ≡ 128) ⌝ }
-    ensures { λ r. ⌜ PutOut (encode number nbw nmaxb count (now (blocks .entry)) (now (sixteens .entry))) (now (bytes .entry)) r (now (bytes .exit)) ⌝ }
+    requires { ⌜ (length (now blocks) ≡ 8) × (length (now blockdata) ≡ 128) ⌝ }
+    ensures { λ r. ⌜ PutOut (encode idm nbw nmaxb count (now (blocks .entry)) (now (blockdata .entry))) (now (bytes .entry)) r (now (bytes .exit)) ⌝ }
 {
     if !well_named(count, blocks, nbw, nmaxb) {
         return CountAnswer::Refused(refusals::MALFORMED_COMMAND);
@@ -125,25 +125,25 @@ fn encode_parts(
         return CountAnswer::Refused(refusals::SHORT_BUFFER);
     }
     let filled = read::BLOCK_SIZE * count;
-    put(number, &blocks[..count], &sixteens[..filled], bytes);
+    put(idm, &blocks[..count], &blockdata[..filled], bytes);
     CountAnswer::Count(size)
 }
 
 // Writes the command's bytes to the front of `bytes`: 20 if its blocks may not be named together, 12 if the bytes do not fit.
 pub fn encode(
     command: Command,
-    number: &[u8; 8],
+    idm: &[u8; 8],
     nbw: usize,
     nmaxb: usize,
     bytes: &mut [u8],
 ) -> CountAnswer
-    ensures { λ r. ⌜ EncodedTo (now (number .entry)) nbw nmaxb command (now (bytes .entry)) r (now (bytes .exit)) ⌝ }
+    ensures { λ r. ⌜ EncodedTo (now (idm .entry)) nbw nmaxb command (now (bytes .entry)) r (now (bytes .exit)) ⌝ }
 {
     let count = command.count;
     let named = command.blocks;
     let blocks = names::block_numbers(named);
-    let sixteens = command.bytes;
-    encode_parts(count, &blocks, &sixteens, *number, nbw, nmaxb, bytes)
+    let blockdata = command.bytes;
+    encode_parts(count, &blocks, &blockdata, *idm, nbw, nmaxb, bytes)
 }
 
 // How many bytes of a list its first command takes, by the command's own count.
@@ -158,14 +158,14 @@ pub fn span(list: &[u8]) -> usize
 }
 
 // Whether the first twelve bytes are those of our commands.
-fn opens(bytes: &[u8], number: &[u8]) -> bool
-    requires { ⌜ (12 ≤ length (now bytes)) × (length (now number) ≡ 8) ⌝ }
-    ensures { λ r. ⌜ r ≡ same (take 12 (now (bytes .entry))) (opening (now (number .entry))) ⌝ }
+fn opens(bytes: &[u8], idm: &[u8]) -> bool
+    requires { ⌜ (12 ≤ length (now bytes)) × (length (now idm) ≡ 8) ⌝ }
+    ensures { λ r. ⌜ r ≡ same (take 12 (now (bytes .entry))) (opening (now (idm .entry))) ⌝ }
 {
     if bytes[0] != 0x08 {
         return false;
     }
-    if !slices::same(&bytes[1..9], number) {
+    if !slices::same(&bytes[1..9], idm) {
         return false;
     }
     if bytes[9] != 0x01 {
@@ -178,9 +178,9 @@ fn opens(bytes: &[u8], number: &[u8]) -> bool
 }
 
 // Whether the bytes have a command's count, length, opening and names; the blocks may still be wrong.
-fn is_framed(bytes: &[u8], number: &[u8], nbw: usize) -> bool
-    requires { ⌜ length (now number) ≡ 8 ⌝ }
-    ensures { λ r. ⌜ r ≡ framed (now (number .entry)) nbw (now (bytes .entry)) ⌝ }
+fn is_framed(bytes: &[u8], idm: &[u8], nbw: usize) -> bool
+    requires { ⌜ length (now idm) ≡ 8 ⌝ }
+    ensures { λ r. ⌜ r ≡ framed (now (idm .entry)) nbw (now (bytes .entry)) ⌝ }
 {
     if bytes.len() < FRONT {
         return false;
@@ -192,7 +192,7 @@ fn is_framed(bytes: &[u8], number: &[u8], nbw: usize) -> bool
     if bytes.len() != FRONT + PER_BLOCK * count {
         return false;
     }
-    if !opens(bytes, number) {
+    if !opens(bytes, idm) {
         return false;
     }
     names::marked(bytes, count)
@@ -210,10 +210,10 @@ fn blocks_fit(bytes: &[u8], nmaxb: usize) -> bool
 }
 
 // Whether the bytes are a well-formed command.
-pub(crate) fn is_command(bytes: &[u8], number: &[u8; 8], nbw: usize, nmaxb: usize) -> bool
-    ensures { λ r. ⌜ r ≡ isCommand (decode (now (number .entry)) nbw nmaxb (now (bytes .entry))) ⌝ }
+pub(crate) fn is_command(bytes: &[u8], idm: &[u8; 8], nbw: usize, nmaxb: usize) -> bool
+    ensures { λ r. ⌜ r ≡ isCommand (decode (now (idm .entry)) nbw nmaxb (now (bytes .entry))) ⌝ }
 {
-    if is_framed(bytes, number, nbw) {
+    if is_framed(bytes, idm, nbw) {
         return blocks_fit(bytes, nmaxb);
     }
     false
@@ -229,20 +229,20 @@ fn carried(bytes: &[u8]) -> Command
     names::read(bytes, count, &mut numbers);
     let blocks = names::blocks_of(numbers);
     let start = FRONT + names::LENGTH * count;
-    let mut sixteens = [0u8; MOST_BYTES];
-    slices::store(&bytes[start..], 0, &mut sixteens);
+    let mut blockdata = [0u8; MOST_BYTES];
+    slices::store(&bytes[start..], 0, &mut blockdata);
     Command {
         count,
         blocks,
-        bytes: sixteens,
+        bytes: blockdata,
     }
 }
 
 // Reads a command: 20 if the bytes are not well formed.
-pub fn decode(bytes: &[u8], number: &[u8; 8], nbw: usize, nmaxb: usize) -> Decoded
-    ensures { λ r. ⌜ DecodedTo (now (number .entry)) nbw nmaxb (now (bytes .entry)) r ⌝ }
+pub fn decode(bytes: &[u8], idm: &[u8; 8], nbw: usize, nmaxb: usize) -> Decoded
+    ensures { λ r. ⌜ DecodedTo (now (idm .entry)) nbw nmaxb (now (bytes .entry)) r ⌝ }
 {
-    if is_command(bytes, number, nbw, nmaxb) {
+    if is_command(bytes, idm, nbw, nmaxb) {
         let command = carried(bytes);
         return Decoded {
             refusal: refusals::NONE,

@@ -8,7 +8,7 @@ use tag::ModelAnswer;
 use tag::refusals;
 ghost use mathlib.Core.Path.{_≡_};
 ghost use lib.ListN.{length};
-ghost use Rattle.tag.specs.Stores.{done};
+ghost use Rattle.tag.specs.Stores.{tagAfter};
 ghost use Rattle.tag.specs.Contracts.{Took};
 ghost use Rattle.type3.specs.Codec.{commandOf};
 ghost use Rattle.type3.specs.Views.Framing.{isCommand};
@@ -19,19 +19,19 @@ ghost use Rattle.type3.specs.Views.Model.{decodeFor};
 // the image; nothing is stored if not.
 pub fn take_command(
     image: &mut [u8],
-    number: &[u8; 8],
+    idm: &[u8; 8],
     command: &[u8],
     nbw: usize,
     nmaxb: usize,
 ) -> bool
-    ensures is { λ r. ⌜ r ≡ isCommand (decodeFor (length (now (image .entry))) (now (number .entry)) nbw nmaxb (now (command .entry))) ⌝ }
-    ensures stored { λ _. ⌜ now (image .exit) ≡ done (now (image .entry)) (commandOf (decodeFor (length (now (image .entry))) (now (number .entry)) nbw nmaxb (now (command .entry)))) ⌝ }
+    ensures is { λ r. ⌜ r ≡ isCommand (decodeFor (length (now (image .entry))) (now (idm .entry)) nbw nmaxb (now (command .entry))) ⌝ }
+    ensures stored { λ _. ⌜ now (image .exit) ≡ tagAfter (now (image .entry)) (commandOf (decodeFor (length (now (image .entry))) (now (idm .entry)) nbw nmaxb (now (command .entry)))) ⌝ }
 {
     let end = Address(image.len()).block(read::BLOCK_SIZE);
     if end.0 <= nmaxb {
         return false;
     }
-    if !commands::is_command(command, number, nbw, nmaxb) {
+    if !commands::is_command(command, idm, nbw, nmaxb) {
         return false;
     }
     stores::store_blocks(command, image);
@@ -39,8 +39,8 @@ pub fn take_command(
 }
 
 // Reading's refusals, then 20; else the blocks that the command names are stored, protected or not.
-pub fn model(image: &mut [u8], number: &[u8; 8], command: &[u8]) -> ModelAnswer
-    ensures { λ r. ⌜ Took (type3 (now (number .entry))) (now (image .entry)) (now (command .entry)) r (now (image .exit)) ⌝ }
+pub fn model(image: &mut [u8], idm: &[u8; 8], command: &[u8]) -> ModelAnswer
+    ensures { λ r. ⌜ Took (type3 (now (idm .entry))) (now (image .entry)) (now (command .entry)) r (now (image .exit)) ⌝ }
 {
     let refusal = read::fault(image);
     if refusal != refusals::NONE {
@@ -49,7 +49,7 @@ pub fn model(image: &mut [u8], number: &[u8; 8], command: &[u8]) -> ModelAnswer
     let attributes = read::said(image);
     let nbw = attributes.nbw;
     let nmaxb = attributes.nmaxb;
-    if take_command(image, number, command, nbw, nmaxb) {
+    if take_command(image, idm, command, nbw, nmaxb) {
         return ModelAnswer::Stored;
     }
     ModelAnswer::Refused(refusals::MALFORMED_COMMAND)

@@ -2,9 +2,9 @@
 
 use tag::Address;
 use tag::Block;
+use tag::Content;
 use tag::ReadAnswer;
 use tag::Report;
-use tag::What;
 use tag::numbers;
 use tag::refusals;
 use tag::slices;
@@ -17,7 +17,7 @@ ghost use lib.Dec.{eqb};
 ghost use lib.ListN.{length, drop};
 ghost use Rattle.tag.specs.Checks.{firstOf};
 ghost use Rattle.tag.specs.Reading.{answer};
-ghost use Rattle.tag.specs.Answers.{whatOf};
+ghost use Rattle.tag.specs.Answers.{contentOf};
 ghost use Rattle.tag.specs.Contracts.{Read, Showed};
 ghost use Rattle.type3.specs.Attributes.{attributes, imageLength, flagsDefined, attributeChecks, mayWrite};
 ghost use Rattle.type3.specs.Message.{reading};
@@ -210,15 +210,15 @@ fn report(a: Attributes) -> Report
 {
     let writable = a.writable;
     if a.busy {
-        return without(What::BeingWritten, writable);
+        return without(Content::BeingWritten, writable);
     }
     let length = a.ln;
     if length == 0 {
-        return without(What::Empty, writable);
+        return without(Content::Empty, writable);
     }
     let address = Block(1).address(BLOCK_SIZE);
     Report {
-        what: What::Message,
+        content: Content::Message,
         address,
         length,
         interrupted: false,
@@ -227,11 +227,11 @@ fn report(a: Attributes) -> Report
 }
 
 // A tag without a message.
-fn without(what: What, writable: bool) -> Report
-    ensures { λ r. ⌜ reportAs r ≡ answer (whatOf what) 0 0 false writable ⌝ }
+fn without(content: Content, writable: bool) -> Report
+    ensures { λ r. ⌜ reportAs r ≡ answer (contentOf content) 0 0 false writable ⌝ }
 {
     Report {
-        what,
+        content,
         address: Address(0),
         length: 0,
         interrupted: false,

@@ -20,5 +20,5 @@ pub length-attribute-block : (i : List ℕ) (flag n : ℕ) → length (attribute
 unfolding attributeBlock
 length-attribute-block i flag n = refl
 
-pub length-attribute-command : (number i : List ℕ) (flag n : ℕ) → length number ≡ 8 → length (attributeCommand number i flag n) ≡ 31
-length-attribute-command number i flag n eight = length-command number (0 ∷ []) (attributeBlock i flag n) eight (length-attribute-block i flag n)
+pub length-attribute-command : (idm i : List ℕ) (flag n : ℕ) → length idm ≡ 8 → length (attributeCommand idm i flag n) ≡ 31
+length-attribute-command idm i flag n eight = length-command idm (0 ∷ []) (attributeBlock i flag n) eight (length-attribute-block i flag n)

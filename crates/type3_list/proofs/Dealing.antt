@@ -72,17 +72,17 @@ dealt-part bs w s = go (decLt w (length bs - s))
         let long = length-drop s bs in
         rw e (take-all (length bs - s) (drop s bs) (omega arith) ∙ sym (take-all w (drop s bs) (omega arith)))
 
-module _ (number m : List ℕ) (w : ℕ) (bs : List ℕ) where
-  pub commands-more : (t : ℕ) → messageCommands number m w bs (t + 1) ≡ messageCommands number m w bs t ++ messageCommand number m (take w (drop (w * t) bs))
+module _ (idm m : List ℕ) (w : ℕ) (bs : List ℕ) where
+  pub commands-more : (t : ℕ) → messageCommands idm m w bs (t + 1) ≡ messageCommands idm m w bs t ++ messageCommand idm m (take w (drop (w * t) bs))
   unfolding messageCommands
   commands-more t = rw (add-one t)
 
-  pub length-commands : (t : ℕ) → length number ≡ 8 → length (messageCommands number m w bs t) ≡ 13 * t + 18 * min (w * t) (length bs)
+  pub length-commands : (t : ℕ) → length idm ≡ 8 → length (messageCommands idm m w bs t) ≡ 13 * t + 18 * min (w * t) (length bs)
   unfolding messageCommands
   length-commands zero eight = omega arith
   length-commands (suc t) eight =
-      let before = messageCommands number m w bs t in
+      let before = messageCommands idm m w bs t in
       let part = take w (drop (w * t) bs) in
-      let here = length-command number part (blocksBytes m part) eight (length-blocks m part) in
+      let here = length-command idm part (blocksBytes m part) eight (length-blocks m part) in
       let many : length part ≡ min w (length bs - w * t) = length-take w (drop (w * t) bs) ∙ ap (min w) (length-drop (w * t) bs) in
-      omega (arith, length-append before (messageCommand number m part), here, many, length-commands t eight)
+      omega (arith, length-append before (messageCommand idm m part), here, many, length-commands t eight)

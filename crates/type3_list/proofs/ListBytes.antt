@@ -31,7 +31,7 @@ names-of j (b ∷ us) = let back : 16 * b / 16 ≡ b = omega arith in cc (names-
 
 -- ---- the commands between block 0's two
 
-module _ (number i m : List ℕ) (r : HasRoom i m) where
+module _ (idm i m : List ℕ) (r : HasRoom i m) where
   new : ℕ → Store
   new = blockOf 16 (newImage (plan i m) i)
 
@@ -46,20 +46,20 @@ module _ (number i m : List ℕ) (r : HasRoom i m) where
       )
 
   -- a command that stores some of the message's blocks
-  block-commands : (bs : List ℕ) → Chosen m bs → encoded number (map new bs) ≡ messageCommand number m bs
+  block-commands : (bs : List ℕ) → Chosen m bs → encoded idm (map new bs) ≡ messageCommand idm m bs
   unfolding new
   block-commands bs c = cc (names-of (newImage (plan i m) i) bs, stored-blocks bs (c .from-one) (c .inside))
 
   -- those of the blocks bs, w to a command
-  chunk-bytes : (bs : List ℕ) → Chosen m bs → (w t : ℕ) → joined (map (encoded number) (chunk w t (map new bs))) ≡ messageCommands number m w bs t
+  chunk-bytes : (bs : List ℕ) → Chosen m bs → (w t : ℕ) → joined (map (encoded idm) (chunk w t (map new bs))) ≡ messageCommands idm m w bs t
   unfolding messageCommands
   chunk-bytes bs c w zero = refl
   chunk-bytes bs c w (suc t) =
       let part : take w (drop (w * t) (map new bs)) ≡ map new (take w (drop (w * t) bs))
       = ap (take w) (map-drop new (w * t) bs) ∙ map-take new w (drop (w * t) bs) in
-      ap (λ cs. joined (map (encoded number) cs)) (chunk-more w t (map new bs))
-      ∙ joined-append (encoded number) (chunk w t (map new bs)) (take w (drop (w * t) (map new bs)))
-      ∙ cc (chunk-bytes bs c w t, ap (encoded number) part ∙ block-commands (take w (drop (w * t) bs)) (part-chosen w (w * t) c))
+      ap (λ cs. joined (map (encoded idm) cs)) (chunk-more w t (map new bs))
+      ∙ joined-append (encoded idm) (chunk w t (map new bs)) (take w (drop (w * t) (map new bs)))
+      ∙ cc (chunk-bytes bs c w t, ap (encoded idm) part ∙ block-commands (take w (drop (w * t) bs)) (part-chosen w (w * t) c))
 
   chosen-is : picks (between (plan i m)) 16 (newImage (plan i m) i) 0 (length i / 16) ≡ map new (run 1 (blocksFor (length m)))
   unfolding new
@@ -68,50 +68,50 @@ module _ (number i m : List ℕ) (r : HasRoom i m) where
       (between-guard i m) (between-on i m) (λ b l u. between-past i m b l)
 
   middle-bytes : (w t : ℕ) → w ≡ blocksPerCommand (byte i 2) → t ≡ (blocksFor (length m) + (w - 1)) / w → blocksFor (length m) ≤ 255
-      → joined (map (encoded number) (middle (plan i m) i)) ≡ messageCommands number m w (run 1 (blocksFor (length m))) t
+      → joined (map (encoded idm) (middle (plan i m) i)) ≡ messageCommands idm m w (run 1 (blocksFor (length m))) t
   middle-bytes w t e f few =
       let bs = run 1 (blocksFor (length m)) in
       let many : length (map new bs) ≡ blocksFor (length m) = length-map bs new ∙ length-run (blocksFor (length m)) 1 in
-      ap (λ ss. joined (map (encoded number) (chunks (blocksPerCommand (byte i 2)) ss))) chosen-is
-      ∙ ap (λ v. joined (map (encoded number) (chunks v (map new bs)))) (sym e)
-      ∙ ap (λ k. joined (map (encoded number) (chunk w ((k + (w - 1)) / w) (map new bs)))) many
-      ∙ ap (λ c. joined (map (encoded number) (chunk w c (map new bs)))) (sym f)
+      ap (λ ss. joined (map (encoded idm) (chunks (blocksPerCommand (byte i 2)) ss))) chosen-is
+      ∙ ap (λ v. joined (map (encoded idm) (chunks v (map new bs)))) (sym e)
+      ∙ ap (λ k. joined (map (encoded idm) (chunk w ((k + (w - 1)) / w) (map new bs)))) many
+      ∙ ap (λ c. joined (map (encoded idm) (chunk w c (map new bs)))) (sym f)
       ∙ chunk-bytes bs (all-chosen m few) w t
 
   -- ---- the whole list
 
-  block-command : (j : List ℕ) (flag n : ℕ) → take 16 j ≡ attributeBlock i flag n → encoded number (blockOf 16 j 0 ∷ []) ≡ attributeCommand number i flag n
-  block-command j flag n e = ap (commandBytes number (0 ∷ [])) (append-nil (take 16 j) ∙ e)
+  block-command : (j : List ℕ) (flag n : ℕ) → take 16 j ≡ attributeBlock i flag n → encoded idm (blockOf 16 j 0 ∷ []) ≡ attributeCommand idm i flag n
+  block-command j flag n e = ap (commandBytes idm (0 ∷ [])) (append-nil (take 16 j) ∙ e)
 
   -- its bytes; that Ln is as it was takes that its low bytes are bytes
   pub list-bytes : (w t : ℕ) → w ≡ blocksPerCommand (byte i 2) → t ≡ (blocksFor (length m) + (w - 1)) / w → blocksFor (length m) ≤ 255
       → byte i 12 < 256 → byte i 13 < 256
-      → listBytes (type3 number) (plan i m) i ≡ listAs number i m (attributes i .ln) w t (run 1 (blocksFor (length m)))
+      → listBytes (type3 idm) (plan i m) i ≡ listAs idm i m (attributes i .ln) w t (run 1 (blocksFor (length m)))
   list-bytes w t e f few b12 b13 =
       let bs = run 1 (blocksFor (length m)) in
-      let shut : encoded number (blockOf 16 (closed i) 0 ∷ []) ≡ attributeCommand number i 0x0F (attributes i .ln)
+      let shut : encoded idm (blockOf 16 (closed i) 0 ∷ []) ≡ attributeCommand idm i 0x0F (attributes i .ln)
       = block-command (closed i) 0x0F (attributes i .ln) (closed-block i (omega (arith, inside i m r)) b12 b13) in
-      let opened : encoded number (blockOf 16 (newImage (plan i m) i) 0 ∷ []) ≡ attributeCommand number i 0x00 (length m)
+      let opened : encoded idm (blockOf 16 (newImage (plan i m) i) 0 ∷ []) ≡ attributeCommand idm i 0x00 (length m)
       = block-command (newImage (plan i m) i) 0x00 (length m) (new-block i m r) in
-      let rest = joined-append (encoded number) (middle (plan i m) i) (blockOf 16 (newImage (plan i m) i) 0 ∷ []) in
-      ap (λ x. encoded number (blockOf 16 (closed i) 0 ∷ []) ++ x) rest
+      let rest = joined-append (encoded idm) (middle (plan i m) i) (blockOf 16 (newImage (plan i m) i) 0 ∷ []) in
+      ap (λ x. encoded idm (blockOf 16 (closed i) 0 ∷ []) ++ x) rest
       ∙ cc (shut, middle-bytes w t e f few, opened)
-      ∙ sym (append-assoc (attributeCommand number i 0x0F (attributes i .ln)) (messageCommands number m w bs t) (attributeCommand number i 0x00 (length m)))
+      ∙ sym (append-assoc (attributeCommand idm i 0x0F (attributes i .ln)) (messageCommands idm m w bs t) (attributeCommand idm i 0x00 (length m)))
 
 -- the number of its bytes
-pub length-list-as : (number i m : List ℕ) (ln w t : ℕ) (bs : List ℕ) → length number ≡ 8 → length bs ≤ w * t
-    → length (listAs number i m ln w t bs) ≡ 62 + 13 * t + 18 * length bs
-length-list-as number i m ln w t bs eight enough =
-    let shut = attributeCommand number i 0x0F ln in
-    let body = messageCommands number m w bs t in
-    let opened = attributeCommand number i 0x00 (length m) in
+pub length-list-as : (idm i m : List ℕ) (ln w t : ℕ) (bs : List ℕ) → length idm ≡ 8 → length bs ≤ w * t
+    → length (listAs idm i m ln w t bs) ≡ 62 + 13 * t + 18 * length bs
+length-list-as idm i m ln w t bs eight enough =
+    let shut = attributeCommand idm i 0x0F ln in
+    let body = messageCommands idm m w bs t in
+    let opened = attributeCommand idm i 0x00 (length m) in
     let most : min (w * t) (length bs) ≡ length bs = omega arith in
     omega (
       arith,
       length-append (shut ++ body) opened,
       length-append shut body,
-      length-attribute-command number i 0x0F ln eight,
-      length-attribute-command number i 0x00 (length m) eight,
-      length-commands number m w bs t eight,
+      length-attribute-command idm i 0x0F ln eight,
+      length-attribute-command idm i 0x00 (length m) eight,
+      length-commands idm m w bs t eight,
       most,
     )

@@ -24,11 +24,11 @@ pub const ATTRIBUTE_COMMAND: usize = commands::FRONT + commands::PER_BLOCK;
 // ---- the parts of a command
 
 // The bytes up to the block count, and the count.
-fn put_opening(number: [u8; 8], count: usize, out: &mut [u8])
+fn put_opening(idm: [u8; 8], count: usize, out: &mut [u8])
     requires { ⌜ (count < 256) × (13 ≤ length (now out)) ⌝ }
-    ensures { λ _. ⌜ now (out .exit) ≡ (opening number ++ (count ∷ [])) ++ drop 13 (now (out .entry)) ⌝ }
+    ensures { λ _. ⌜ now (out .exit) ≡ (opening idm ++ (count ∷ [])) ++ drop 13 (now (out .entry)) ⌝ }
 {
-    let front = commands::opening(number, count as u8);
+    let front = commands::opening(idm, count as u8);
     bytes::copy(&front, out);
 }
 
@@ -84,45 +84,38 @@ fn put_attribute_block(image: &[u8], flag: u8, ln: usize, out: &mut [u8])
 // ---- the commands
 
 // Writes block 0 with this WriteFlag and this Ln.
-fn put_attributes(image: &[u8], number: [u8; 8], flag: u8, ln: usize, out: &mut [u8])
+fn put_attributes(image: &[u8], idm: [u8; 8], flag: u8, ln: usize, out: &mut [u8])
     requires { ⌜ (16 ≤ length (now image)) × (ln < 65536) × (31 ≤ length (now out)) ⌝ }
-    ensures { λ _. ⌜ now (out .exit) ≡ attributeCommand number (now (image .entry)) flag ln ++ drop 31 (now (out .entry)) ⌝ }
+    ensures { λ _. ⌜ now (out .exit) ≡ attributeCommand idm (now (image .entry)) flag ln ++ drop 31 (now (out .entry)) ⌝ }
 {
-    put_opening(number, 1, out);
+    put_opening(idm, 1, out);
     put_names(&[0u8], &mut out[commands::FRONT..]);
     put_attribute_block(image, flag, ln, &mut out[ATTRIBUTE_DATA..]);
 }
 
 // Writes the blocks, which one command may store.
-fn put_command(message: &[u8], number: [u8; 8], blocks: &[u8], out: &mut [u8])
+fn put_command(message: &[u8], idm: [u8; 8], blocks: &[u8], out: &mut [u8])
     requires { ⌜ Chosen (now message) (now blocks) × (0 < length (now blocks)) × (length (now blocks) ≤ 8) × (13 + 18 * length (now blocks) ≤ length (now out)) ⌝ }
-    ensures { λ _. ⌜ now (out .exit) ≡ messageCommand number (now (message .entry)) (now (blocks .entry)) ++ drop (13 + 18 * length (now (blocks .entry))) (now (out .entry)) ⌝ }
+    ensures { λ _. ⌜ now (out .exit) ≡ messageCommand idm (now (message .entry)) (now (blocks .entry)) ++ drop (13 + 18 * length (now (blocks .entry))) (now (out .entry)) ⌝ }
 {
     let count = blocks.len();
     let at = commands::FRONT + names::LENGTH * count;
-    put_opening(number, count, out);
+    put_opening(idm, count, out);
     put_names(blocks, &mut out[commands::FRONT..]);
     blocks::put_blocks(message, blocks, &mut out[at..]);
 }
 
 // Writes the blocks, `w` to a command, in `turns` commands.
-fn put_commands(
-    message: &[u8],
-    number: [u8; 8],
-    w: usize,
-    turns: usize,
-    blocks: &[u8],
-    out: &mut [u8],
-)
+fn put_commands(message: &[u8], idm: [u8; 8], w: usize, turns: usize, blocks: &[u8], out: &mut [u8])
     requires { ⌜ Chosen (now message) (now blocks) × Dealt (length (now blocks)) w turns × (13 * turns + 18 * length (now blocks) ≤ length (now out)) ⌝ }
-    ensures { λ _. ⌜ now (out .exit) ≡ messageCommands number (now (message .entry)) w (now (blocks .entry)) turns ++ drop (13 * turns + 18 * length (now (blocks .entry))) (now (out .entry)) ⌝ }
+    ensures { λ _. ⌜ now (out .exit) ≡ messageCommands idm (now (message .entry)) w (now (blocks .entry)) turns ++ drop (13 * turns + 18 * length (now (blocks .entry))) (now (out .entry)) ⌝ }
 {
     let mut at = 0usize;
     let mut skip = 0usize;
     let mut t = 0usize;
     while t < turns {
         let count = numbers::smaller(w, blocks.len() - skip);
-        put_command(message, number, &blocks[skip..skip + count], &mut out[at..]);
+        put_command(message, idm, &blocks[skip..skip + count], &mut out[at..]);
         at += commands::FRONT + commands::PER_BLOCK * count;
         skip += w;
         t += 1;
@@ -135,7 +128,7 @@ fn put_commands(
 pub fn put_list(
     image: &[u8],
     message: &[u8],
-    number: [u8; 8],
+    idm: [u8; 8],
     ln: usize,
     w: usize,
     turns: usize,
@@ -143,19 +136,19 @@ pub fn put_list(
     list: &mut [u8],
 )
     requires { ⌜ Listing (now image) (now message) ln w turns (now blocks) (length (now list)) ⌝ }
-    ensures { λ _. ⌜ now (list .exit) ≡ listAs number (now (image .entry)) (now (message .entry)) ln w turns (now (blocks .entry)) ++ drop (62 + 13 * turns + 18 * length (now (blocks .entry))) (now (list .entry)) ⌝ }
+    ensures { λ _. ⌜ now (list .exit) ≡ listAs idm (now (image .entry)) (now (message .entry)) ln w turns (now (blocks .entry)) ++ drop (62 + 13 * turns + 18 * length (now (blocks .entry))) (now (list .entry)) ⌝ }
 {
     let n = message.len();
     let k = blocks.len();
     let last = ATTRIBUTE_COMMAND + commands::FRONT * turns + commands::PER_BLOCK * k;
-    put_attributes(image, number, 0x0F, ln, list);
+    put_attributes(image, idm, 0x0F, ln, list);
     put_commands(
         message,
-        number,
+        idm,
         w,
         turns,
         blocks,
         &mut list[ATTRIBUTE_COMMAND..],
     );
-    put_attributes(image, number, 0x00, n, &mut list[last..]);
+    put_attributes(image, idm, 0x00, n, &mut list[last..]);
 }

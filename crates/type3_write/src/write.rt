@@ -51,12 +51,12 @@ fn turns_for(k: usize, w: usize) -> usize
 fn write_to(
     image: &[u8],
     message: &[u8],
-    number: [u8; 8],
+    idm: [u8; 8],
     a: Attributes,
     list: &mut [u8],
 ) -> CountAnswer
     requires { ⌜ Readable (now image) a ⌝ }
-    ensures { λ r. ⌜ Wrote (type3 number) (now (image .entry)) (now (message .entry)) (now (list .entry)) r (now (list .exit)) ⌝ }
+    ensures { λ r. ⌜ Wrote (type3 idm) (now (image .entry)) (now (message .entry)) (now (list .entry)) r (now (list .exit)) ⌝ }
 {
     let n = message.len();
     let refusal = space::refusal(a, n);
@@ -72,27 +72,18 @@ fn write_to(
         return CountAnswer::Refused(refusals::SHORT_BUFFER);
     }
     let ln = a.ln;
-    list::put_list(
-        image,
-        message,
-        number,
-        ln,
-        w,
-        turns,
-        &blocks[..between],
-        list,
-    );
+    list::put_list(image, message, idm, ln, w, turns, &blocks[..between], list);
     let count = 2 + turns;
     CountAnswer::Count(count)
 }
 
 // Writes the list for the message to the front of `list`, and answers with the number of its commands.
-pub fn write(image: &[u8], message: &[u8], number: &[u8; 8], list: &mut [u8]) -> CountAnswer
-    ensures { λ r. ⌜ Wrote (type3 (now (number .entry))) (now (image .entry)) (now (message .entry)) (now (list .entry)) r (now (list .exit)) ⌝ }
+pub fn write(image: &[u8], message: &[u8], idm: &[u8; 8], list: &mut [u8]) -> CountAnswer
+    ensures { λ r. ⌜ Wrote (type3 (now (idm .entry))) (now (image .entry)) (now (message .entry)) (now (list .entry)) r (now (list .exit)) ⌝ }
 {
     let checked = read::attributes_of(image);
     match checked {
         Checked::Refused(n) => CountAnswer::Refused(n),
-        Checked::Fine(a) => write_to(image, message, *number, a, list),
+        Checked::Fine(a) => write_to(image, message, *idm, a, list),
     }
 }

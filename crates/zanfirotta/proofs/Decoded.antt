@@ -15,14 +15,14 @@ use Rattle.type3.specs.Views.Framing.{isCommand}
 use Rattle.type3.proofs.Naming.{length-numbers}
 use Rattle.type3.proofs.Decoding.{decode-carried, frame}
 
-pub used-blocks : (number : List ℕ) (nbw nmaxb : ℕ) (all : List ℕ) (d : code.Decoded) → DecodedTo number nbw nmaxb all d → d .refusal ≡ 0
+pub used-blocks : (idm : List ℕ) (nbw nmaxb : ℕ) (all : List ℕ) (d : code.Decoded) → DecodedTo idm nbw nmaxb all d → d .refusal ≡ 0
     → (d .command .count ≤ 8) × (length (take (d .command .count) (blockNumbers (d .command .blocks))) ≡ d .command .count)
-used-blocks number nbw nmaxb all d (e, k) z =
+used-blocks idm nbw nmaxb all d (e, k) z =
     let ns = numbers (byte all 12) (drop 13 all) in
     let used = take (d .command .count) (blockNumbers (d .command .blocks)) in
     let read : decodedAs d ≡ decoded used (take (16 * d .command .count) (d .command .bytes)) = rw (eq-eqb (d .refusal) 0 z) in
-    let (was, ok, named-once) = decode-carried number nbw nmaxb all (ap isCommand (sym e ∙ read)) in
+    let (was, ok, named-once) = decode-carried idm nbw nmaxb all (ap isCommand (sym e ∙ read)) in
     let same : decoded used (take (16 * d .command .count) (d .command .bytes)) ≡ carried all = sym read ∙ e ∙ was in
     let named : used ≡ ns = cc same in
     let n : d .command .count ≡ length ns = ap (λ x. x .count) (k ∙ ap commandAs was) in
-    (omega (arith, length-numbers (byte all 12) (drop 13 all), frame number nbw all ok .few), ap length named ∙ sym n)
+    (omega (arith, length-numbers (byte all 12) (drop 13 all), frame idm nbw all ok .few), ap length named ∙ sym n)

@@ -8,7 +8,7 @@ use Prim.Native.Nat.{ℕ, _+_, _*_, _%_, _^_}
 use lib.Dec.{leb}
 use lib.ListN.{length}
 use Rattle.tag.specs.Bytes.{overwrite}
-use Rattle.tag.specs.Reading.{What, message, empty, being-written, Reading, Answer, refusal, answer, answerOf, gatheredInto}
+use Rattle.tag.specs.Reading.{Content, message, empty, being-written, Reading, Answer, refusal, answer, answerOf, gatheredInto}
 use Rattle.tag.specs.Refusals.{Refusal, plain, positioned, malformed-command}
 use Rattle.tag.specs.TagType.{TagType, Output, outputInto}
 use Rattle.tag.specs.Model.{model, imageAfter}
@@ -45,12 +45,12 @@ packedStoring (gives u) = 0
 
 abbrev pub packedRead : Answer → ℕ
 packedRead (refusal r) = r
-packedRead (answer what a n interrupted w) = 0
+packedRead (answer content a n interrupted w) = 0
 
-abbrev pub kindOf : What → ℕ
-kindOf message = 1
-kindOf empty = 2
-kindOf being-written = 3
+abbrev pub contentNumber : Content → ℕ
+contentNumber message = 1
+contentNumber empty = 2
+contentNumber being-written = 3
 
 abbrev pub flagOf : Bool → ℕ
 flagOf false = 0
@@ -59,7 +59,7 @@ flagOf true = 1
 -- the report afterwards: content, address, length, interrupted, writable; as it was after a refusal
 abbrev pub reportInto : List ℕ → Answer → List ℕ
 reportInto out (refusal r) = out
-reportInto out (answer what a n interrupted w) = kindOf what ∷ a ∷ n ∷ flagOf interrupted ∷ flagOf w ∷ []
+reportInto out (answer content a n interrupted w) = contentNumber content ∷ a ∷ n ∷ flagOf interrupted ∷ flagOf w ∷ []
 
 -- ---- decoding
 
@@ -89,9 +89,9 @@ abbrev pub blocksInto : List ℕ → three.Decoded → List ℕ
 blocksInto old (three.undecoded f) = old
 blocksInto old (three.decoded bs bytes) = overwrite bs old
 
-abbrev pub sixteensInto : List ℕ → three.Decoded → List ℕ
-sixteensInto old (three.undecoded f) = old
-sixteensInto old (three.decoded bs bytes) = overwrite bytes old
+abbrev pub blockdataInto : List ℕ → three.Decoded → List ℕ
+blockdataInto old (three.undecoded f) = old
+blockdataInto old (three.decoded bs bytes) = overwrite bytes old
 
 -- the bytes that the first command of a Type 3 list takes, if the list has them; 20 if it is cut short, as it is in an empty list
 abbrev pub packedSpan : List ℕ → ℕ

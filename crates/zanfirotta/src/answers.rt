@@ -1,16 +1,16 @@
 // The answers of the library as one number, a refusal in the low byte and a count or a position above it.
 
+use tag::Content;
 use tag::CountAnswer;
 use tag::JudgeAnswer;
 use tag::ModelAnswer;
 use tag::ReadAnswer;
 use tag::Report;
-use tag::What;
 ghost use mathlib.Core.Path.{_≡_};
 ghost use mathlib.Core.List.{[]};
 ghost use Rattle.tag.specs.Refusals.{refusalAt};
-ghost use Rattle.tag.specs.Answers.{whatOf, readAs, countAs, verdictAs, modelAs};
-ghost use Rattle.zanfirotta.specs.Packed.{above, packedRefusal, packedCount, packedVerdict, packedStoring, packedRead, kindOf, flagOf, reportInto};
+ghost use Rattle.tag.specs.Answers.{contentOf, readAs, countAs, verdictAs, modelAs};
+ghost use Rattle.zanfirotta.specs.Packed.{above, packedRefusal, packedCount, packedVerdict, packedStoring, packedRead, contentNumber, flagOf, reportInto};
 
 // 2^56: a count below it fits above the low byte.
 const COUNTS: usize = 72057594037927936;
@@ -56,13 +56,13 @@ pub(crate) fn storing(answer: ModelAnswer) -> u64
     }
 }
 
-fn kind(what: What) -> u64
-    ensures { λ r. ⌜ r ≡ kindOf (whatOf what) ⌝ }
+fn content_number(content: Content) -> u64
+    ensures { λ r. ⌜ r ≡ contentNumber (contentOf content) ⌝ }
 {
-    match what {
-        What::Message => 1,
-        What::Empty => 2,
-        What::BeingWritten => 3,
+    match content {
+        Content::Message => 1,
+        Content::Empty => 2,
+        Content::BeingWritten => 3,
     }
 }
 
@@ -76,13 +76,13 @@ fn flag(b: bool) -> u64
 fn report(p: Report) -> [u64; 5]
     ensures { λ r. ⌜ r ≡ reportInto [] (readAs (ReadAnswer.Reads p)) ⌝ }
 {
-    let what = p.what;
+    let content = p.content;
     let interrupted = p.interrupted;
     let writable = p.writable;
     let address = p.address.0;
     let length = p.length;
     [
-        kind(what),
+        content_number(content),
         address as u64,
         length as u64,
         flag(interrupted),

@@ -1,5 +1,5 @@
 // The C interface, as include/zanfirotta.h declares it. No function allocates, and each is total.
 
 mod answers;
-pub mod three;
-pub mod two;
+pub mod type2_calls;
+pub mod type3_calls;

@@ -18,7 +18,7 @@
     } while (0)
 
 static const uint8_t message[3] = {0xD0, 0x00, 0x00};
-static const uint8_t number[8] = {1, 2, 3, 4, 5, 6, 7, 8};
+static const uint8_t idm[8] = {1, 2, 3, 4, 5, 6, 7, 8};
 
 /* An empty Type 2 tag of 64 bytes: the second specimen of docs/01-scope.md. */
 static void empty2(uint8_t image[64])
@@ -79,13 +79,13 @@ static int type3(void)
     int i;
 
     empty3(image);
-    HOLDS(zan_type3_write(image, 48, message, 3, number, list, sizeof list) == 3 * 256);
-    HOLDS(zan_type3_write(image, 48, message, 0, number, list, sizeof list) == ZAN_REFUSED_EMPTY_MESSAGE);
-    HOLDS(zan_type3_judge(image, 48, message, 3, number, list, 93) == 3 * 256);
-    HOLDS(zan_type3_judge(image, 48, message, 3, number, list, 62) == ZAN_REFUSED_UNFINISHED + 2 * 256);
+    HOLDS(zan_type3_write(image, 48, message, 3, idm, list, sizeof list) == 3 * 256);
+    HOLDS(zan_type3_write(image, 48, message, 0, idm, list, sizeof list) == ZAN_REFUSED_EMPTY_MESSAGE);
+    HOLDS(zan_type3_judge(image, 48, message, 3, idm, list, 93) == 3 * 256);
+    HOLDS(zan_type3_judge(image, 48, message, 3, idm, list, 62) == ZAN_REFUSED_UNFINISHED + 2 * 256);
     for (i = 0; i < 3; i++) {
         HOLDS(zan_type3_command_len(list + at, 93 - at) == 31 * 256);
-        HOLDS(zan_type3_model(image, 48, number, list + at, 31) == 0);
+        HOLDS(zan_type3_model(image, 48, idm, list + at, 31) == 0);
         at += 31;
         HOLDS(zan_type3_read(image, 48, &report) == 0);
         HOLDS(report.content == (i < 2 ? ZAN_CONTENT_BEING_WRITTEN : ZAN_CONTENT_MESSAGE));
@@ -94,13 +94,13 @@ static int type3(void)
     HOLDS(zan_type3_command_len(list, 30) == ZAN_REFUSED_MALFORMED_COMMAND);
     HOLDS(report.address == 16 && report.length == 3 && report.writable == 1);
 
-    HOLDS(zan_type3_encode(2, blocks, data, number, 2, 2, bytes, sizeof bytes) == 49 * 256);
+    HOLDS(zan_type3_encode(2, blocks, data, idm, 2, 2, bytes, sizeof bytes) == 49 * 256);
     HOLDS(memcmp(bytes + 12, "\x02\x80\x02\x80\x01\x07", 6) == 0);
-    HOLDS(zan_type3_encode(3, blocks, data, number, 2, 2, bytes, sizeof bytes) == ZAN_REFUSED_MALFORMED_COMMAND);
+    HOLDS(zan_type3_encode(3, blocks, data, idm, 2, 2, bytes, sizeof bytes) == ZAN_REFUSED_MALFORMED_COMMAND);
     blocks[0] = 0;
-    HOLDS(zan_type3_decode(bytes, 49, number, 2, 2, &count, blocks, data) == 0);
+    HOLDS(zan_type3_decode(bytes, 49, idm, 2, 2, &count, blocks, data) == 0);
     HOLDS(count == 2 && blocks[0] == 2 && blocks[1] == 1 && blocks[2] == 9 && data[0] == 7);
-    HOLDS(zan_type3_decode(bytes, 48, number, 2, 2, &count, blocks, data) == ZAN_REFUSED_MALFORMED_COMMAND && count == 2);
+    HOLDS(zan_type3_decode(bytes, 48, idm, 2, 2, &count, blocks, data) == ZAN_REFUSED_MALFORMED_COMMAND && count == 2);
     return 0;
 }
 

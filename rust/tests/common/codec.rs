@@ -52,7 +52,7 @@ pub fn type2(rng: &mut Rng) -> Type2 {
 
 pub struct Type3 {
     pub command: Command,
-    pub number: [u8; 8],
+    pub idm: [u8; 8],
     pub nbw: u64,
     pub nmaxb: u64,
     pub buffer: usize,
@@ -71,7 +71,7 @@ fn random_command(rng: &mut Rng) -> Command {
 }
 
 pub fn type3(rng: &mut Rng) -> Type3 {
-    let number = rng.next().to_be_bytes();
+    let idm = rng.next().to_be_bytes();
     let nbw = match rng.below(8) {
         0 => rng.pick(&[0, 7, 8, 9, 255, 256, 70_000, u64::MAX]),
         1 => rng.next(),
@@ -109,7 +109,7 @@ pub fn type3(rng: &mut Rng) -> Type3 {
             (command.blocks[i % 8] as u8, data)
         })
         .collect();
-    let mut bytes = lists3::bytes(&number, &parts);
+    let mut bytes = lists3::bytes(&idm, &parts);
     match rng.below(16) {
         0 => bytes.truncate(rng.below(bytes.len() + 1)),
         1 => bytes.push(rng.byte()),
@@ -128,7 +128,7 @@ pub fn type3(rng: &mut Rng) -> Type3 {
     };
     Type3 {
         command,
-        number,
+        idm,
         nbw,
         nmaxb,
         buffer,

@@ -7,9 +7,9 @@ use crate::reference::type3;
 /// A command before it is laid out in bytes: what each block is to hold, in order.
 pub type Command = Vec<(u8, [u8; 16])>;
 
-pub fn bytes(number: &[u8; 8], command: &Command) -> Vec<u8> {
+pub fn bytes(idm: &[u8; 8], command: &Command) -> Vec<u8> {
     let mut bytes = vec![0x08];
-    bytes.extend(number);
+    bytes.extend(idm);
     bytes.extend([0x01, 0x09, 0x00, command.len() as u8]);
     bytes.extend(command.iter().flat_map(|(block, _)| [0x80, *block]));
     bytes.extend(command.iter().flat_map(|(_, data)| *data));
@@ -29,9 +29,9 @@ pub fn split(list: &[u8]) -> Vec<Vec<u8>> {
 }
 
 /// Our list for a tag and a message; empty if writing is refused.
-pub fn our_bytes(image: &[u8], message: &[u8], number: &[u8; 8]) -> Vec<u8> {
+pub fn our_bytes(image: &[u8], message: &[u8], idm: &[u8; 8]) -> Vec<u8> {
     let mut list = vec![0; 8000];
-    let count = type3::write(image, message, number, &mut list).unwrap_or(0);
+    let count = type3::write(image, message, idm, &mut list).unwrap_or(0);
     let mut size = 0;
     for _ in 0..count {
         size += type3::command_len(list[size + 12] as usize);
@@ -235,7 +235,7 @@ fn spoil(rng: &mut Rng, image: &[u8], list: &mut Vec<Command>) {
 }
 
 /// A list for the judge of any kind.
-pub fn any(rng: &mut Rng, image: &[u8], message: &[u8], number: &[u8; 8]) -> Vec<u8> {
+pub fn any(rng: &mut Rng, image: &[u8], message: &[u8], idm: &[u8; 8]) -> Vec<u8> {
     let width = image.get(2).map_or(0, |&nbw| nbw.min(8)) as usize;
     let mut list = match rng.below(16) {
         0 => ours(image, message),
@@ -263,7 +263,7 @@ pub fn any(rng: &mut Rng, image: &[u8], message: &[u8], number: &[u8; 8]) -> Vec
     }
     let mut list: Vec<u8> = list
         .iter()
-        .flat_map(|command| bytes(number, command))
+        .flat_map(|command| bytes(idm, command))
         .collect();
     match rng.below(30) {
         0 => list.truncate(rng.below(list.len() + 1)),
@@ -279,8 +279,8 @@ pub fn any(rng: &mut Rng, image: &[u8], message: &[u8], number: &[u8; 8]) -> Vec
 }
 
 /// One command for the model of any kind.
-pub fn command(rng: &mut Rng, image: &[u8], message: &[u8], number: &[u8; 8]) -> Vec<u8> {
-    let list = any(rng, image, message, number);
+pub fn command(rng: &mut Rng, image: &[u8], message: &[u8], idm: &[u8; 8]) -> Vec<u8> {
+    let list = any(rng, image, message, idm);
     let mut commands = Vec::new();
     let mut rest = &list[..];
     while rest.len() >= 13 {
@@ -290,7 +290,7 @@ pub fn command(rng: &mut Rng, image: &[u8], message: &[u8], number: &[u8; 8]) ->
     }
     let mut command = match commands.is_empty() {
         false => commands[rng.below(commands.len())].to_vec(),
-        true => bytes(number, &vec![(rng.byte(), [rng.byte(); 16])]),
+        true => bytes(idm, &vec![(rng.byte(), [rng.byte(); 16])]),
     };
     match rng.below(20) {
         0 => command.truncate(rng.below(command.len() + 1)),

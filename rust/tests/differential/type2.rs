@@ -3,7 +3,7 @@
 use zanfirotta::raw;
 
 use crate::common::{buffer_len, codec, lists2, message, tags2, Lent, Rng, Tally};
-use crate::reference::{type2, Kind};
+use crate::reference::{type2, Content};
 use crate::{number, plain, read_answer, same, same_buffers, same_out};
 
 /// Every length of a message on the specimens and on the tags as they leave the factory.
@@ -58,8 +58,11 @@ pub fn read(cases: u64) {
         same_buffers(index, &again, &wanted, &[&image]);
         assert_eq!(lent_image.slice(), image);
         tally.add(&expected);
-        tally.note("message", expected.is_ok_and(|a| a.kind == Kind::Message));
-        tally.note("empty", expected.is_ok_and(|a| a.kind == Kind::Empty));
+        tally.note(
+            "message",
+            expected.is_ok_and(|a| a.content == Content::Message),
+        );
+        tally.note("empty", expected.is_ok_and(|a| a.content == Content::Empty));
         tally.note("interrupted", expected.is_ok_and(|a| a.interrupted));
         tally.note("read-only", expected.is_ok_and(|a| !a.writable));
     }

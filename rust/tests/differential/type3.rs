@@ -3,7 +3,7 @@
 use zanfirotta::raw;
 
 use crate::common::{buffer_len, codec, lists3, message, tags3, Lent, Rng, Tally};
-use crate::reference::{type3, Kind};
+use crate::reference::{type3, Content};
 use crate::{number, plain, read_answer, same, same_buffers, same_out};
 
 /// The specimens; and every length of a message on a tag as it leaves the factory, with every Nbw
@@ -14,7 +14,7 @@ pub fn every_length() {
         same(0, &got, &type3::read(&image), &[&image]);
     }
     let mut tally = Tally::new("type3 lengths");
-    let our_number = [1, 2, 3, 4, 5, 6, 7, 8];
+    let our_idm = [1, 2, 3, 4, 5, 6, 7, 8];
     for nbw in (0..16).chain([255]) {
         let mut image = tags3::default();
         image[2] = nbw;
@@ -23,13 +23,13 @@ pub fn every_length() {
             let message: Vec<u8> = (0..n).map(|i| (i * 7 + n) as u8).collect();
             let mut wanted = [0xCC; zanfirotta::type3::LIST_MAX];
             let mut list = wanted;
-            let expected = type3::write(&image, &message, &our_number, &mut wanted);
-            let got = zanfirotta::type3::write(&image, &message, &our_number, &mut list);
+            let expected = type3::write(&image, &message, &our_idm, &mut wanted);
+            let got = zanfirotta::type3::write(&image, &message, &our_idm, &mut list);
             same(n as u64, &plain(got), &expected, &[&image, &message]);
             same(n as u64, &list, &wanted, &[&image, &message]);
-            let ours = lists3::our_bytes(&image, &message, &our_number);
+            let ours = lists3::our_bytes(&image, &message, &our_idm);
             if let Ok(count) = expected {
-                let judged = zanfirotta::type3::judge(&image, &message, &our_number, &ours);
+                let judged = zanfirotta::type3::judge(&image, &message, &our_idm, &ours);
                 assert_eq!(judged, Ok(count));
             }
             tally.add(&expected);
@@ -54,10 +54,10 @@ pub fn read(cases: u64) {
             raw::type3_read(&image, out)
         });
         tally.add(&expected);
-        let reads_as = |kind| expected.is_ok_and(|answer| answer.kind == kind);
-        tally.note("message", reads_as(Kind::Message));
-        tally.note("empty", reads_as(Kind::Empty));
-        tally.note("being written", reads_as(Kind::BeingWritten));
+        let reads_as = |content| expected.is_ok_and(|answer| answer.content == content);
+        tally.note("message", reads_as(Content::Message));
+        tally.note("empty", reads_as(Content::Empty));
+        tally.note("being written", reads_as(Content::BeingWritten));
         tally.note("not writable", expected.is_ok_and(|a| !a.writable));
     }
     tally.expect(&[0, 1, 2, 3, 4, 5, 7], cases / 200);
@@ -68,15 +68,15 @@ pub fn write(cases: u64) {
     for index in 0..cases {
         let mut rng = Rng::case(32, index);
         let image = tags3::for_lists(&mut rng);
-        let our_number = rng.next().to_be_bytes();
+        let our_idm = rng.next().to_be_bytes();
         let (old, room) = tags3::message_and_room(&image);
         let message = message(&mut rng, &old, room);
-        let needed = lists3::our_bytes(&image, &message, &our_number).len();
+        let needed = lists3::our_bytes(&image, &message, &our_idm).len();
         let len = buffer_len(&mut rng, needed);
         let mut wanted = Lent::random(&mut rng, len);
         let mut list = wanted.clone();
-        let expected = type3::write(&image, &message, &our_number, wanted.lend());
-        let got = zanfirotta::type3::write(&image, &message, &our_number, list.lend());
+        let expected = type3::write(&image, &message, &our_idm, wanted.lend());
+        let got = zanfirotta::type3::write(&image, &message, &our_idm, list.lend());
         same(index, &plain(got), &expected, &[&image, &message]);
         same_buffers(index, &list, &wanted, &[&image, &message]);
         tally.add(&expected);
@@ -90,15 +90,15 @@ pub fn judge(cases: u64) {
     for index in 0..cases {
         let mut rng = Rng::case(33, index);
         let image = tags3::for_lists(&mut rng);
-        let our_number = rng.next().to_be_bytes();
+        let our_idm = rng.next().to_be_bytes();
         let (old, room) = tags3::message_and_room(&image);
         let message = message(&mut rng, &old, room);
-        let list = lists3::any(&mut rng, &image, &message, &our_number);
-        let expected = type3::judge(&image, &message, &our_number, &list);
-        let got = zanfirotta::type3::judge(&image, &message, &our_number, &list);
+        let list = lists3::any(&mut rng, &image, &message, &our_idm);
+        let expected = type3::judge(&image, &message, &our_idm, &list);
+        let got = zanfirotta::type3::judge(&image, &message, &our_idm, &list);
         same(index, &plain(got), &expected, &[&image, &message, &list]);
         tally.add(&expected);
-        let foreign = list != lists3::our_bytes(&image, &message, &our_number);
+        let foreign = list != lists3::our_bytes(&image, &message, &our_idm);
         tally.note("foreign accepted", expected.is_ok() && foreign);
         let late = expected.is_err_and(|refusal| refusal.position > 0);
         tally.note("refused at a later command", late);
@@ -112,14 +112,14 @@ pub fn model(cases: u64) {
     for index in 0..cases {
         let mut rng = Rng::case(34, index);
         let image = tags3::for_lists(&mut rng);
-        let our_number = rng.next().to_be_bytes();
+        let our_idm = rng.next().to_be_bytes();
         let (old, room) = tags3::message_and_room(&image);
         let message = message(&mut rng, &old, room);
-        let command = lists3::command(&mut rng, &image, &message, &our_number);
+        let command = lists3::command(&mut rng, &image, &message, &our_idm);
         let mut wanted = Lent::holding(&mut rng, &image);
         let mut tag = wanted.clone();
-        let expected = type3::model(wanted.lend(), &our_number, &command);
-        let got = zanfirotta::type3::model(tag.lend(), &our_number, &command);
+        let expected = type3::model(wanted.lend(), &our_idm, &command);
+        let got = zanfirotta::type3::model(tag.lend(), &our_idm, &command);
         same(index, &plain(got), &expected, &[&image, &command]);
         same_buffers(index, &tag, &wanted, &[&image, &command]);
         tally.add(&expected);
@@ -135,13 +135,13 @@ pub fn encode(cases: u64) {
         let (nbw, nmaxb) = (case.nbw, case.nmaxb);
         let mut wanted = Lent::random(&mut rng, case.buffer);
         let mut bytes = wanted.clone();
-        let expected = type3::encode(&case.command, &case.number, nbw, nmaxb, wanted.lend());
+        let expected = type3::encode(&case.command, &case.idm, nbw, nmaxb, wanted.lend());
         let command = zanfirotta::type3::Command {
             count: case.command.count,
             blocks: case.command.blocks,
             data: case.command.data,
         };
-        let got = zanfirotta::type3::encode(&command, &case.number, nbw, nmaxb, bytes.lend());
+        let got = zanfirotta::type3::encode(&command, &case.idm, nbw, nmaxb, bytes.lend());
         same(index, &plain(got), &expected, &[]);
         same_buffers(index, &bytes, &wanted, &[]);
         tally.add(&expected);
@@ -157,8 +157,8 @@ pub fn decode(cases: u64) {
         let case = codec::type3(&mut rng);
         let (bytes, nbw, nmaxb) = (&case.bytes, case.nbw, case.nmaxb);
         let mut wanted = case.held;
-        let expected = type3::decode(bytes, &case.number, nbw, nmaxb, &mut wanted);
-        let got = plain(zanfirotta::type3::decode(bytes, &case.number, nbw, nmaxb));
+        let expected = type3::decode(bytes, &case.idm, nbw, nmaxb, &mut wanted);
+        let got = plain(zanfirotta::type3::decode(bytes, &case.idm, nbw, nmaxb));
         same(index, &got.map(|_| ()), &expected, &[bytes]);
         if let Ok(command) = got {
             let count = command.count as usize;
@@ -169,7 +169,7 @@ pub fn decode(cases: u64) {
         // Entries that are not used keep what they held, and all do after a refusal.
         let mut held = case.held;
         let parts = (&mut held.count, &mut held.blocks, &mut held.data);
-        let answer = raw::type3_decode(bytes, &case.number, nbw, nmaxb, parts);
+        let answer = raw::type3_decode(bytes, &case.idm, nbw, nmaxb, parts);
         same(index, &answer, &number(&expected.map(|_| 0)), &[bytes]);
         same(index, &held, &wanted, &[bytes]);
         tally.add(&expected);

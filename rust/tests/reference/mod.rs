@@ -37,7 +37,7 @@ impl Refusal {
 
 /// What a tag reads as. The discriminants are the numbers of the C interface.
 #[derive(Clone, Copy, Debug, PartialEq, Eq)]
-pub enum Kind {
+pub enum Content {
     Message = 1,
     Empty = 2,
     BeingWritten = 3,
@@ -46,7 +46,7 @@ pub enum Kind {
 /// The answer of reading. Address and length are 0 without a message.
 #[derive(Clone, Copy, Debug, PartialEq, Eq)]
 pub struct ReadAnswer {
-    pub kind: Kind,
+    pub content: Content,
     pub address: u64,
     pub length: u64,
     pub interrupted: bool,
@@ -56,9 +56,9 @@ pub struct ReadAnswer {
 impl ReadAnswer {
     /// The message as a part of the image or, if interrupted, of the gathered copy.
     pub fn message<'a>(&self, image: &'a [u8], gathered: &'a [u8]) -> &'a [u8] {
-        let (from, start) = match (self.kind, self.interrupted) {
-            (Kind::Message, false) => (image, self.address as usize),
-            (Kind::Message, true) => (gathered, 0),
+        let (from, start) = match (self.content, self.interrupted) {
+            (Content::Message, false) => (image, self.address as usize),
+            (Content::Message, true) => (gathered, 0),
             _ => (image, 0),
         };
         &from[start..start + self.length as usize]

@@ -52,13 +52,7 @@ fn type3_codec() {
         let case = codec::type3(&mut rng);
         let mut bytes = Lent::random(&mut rng, case.buffer);
         let before = bytes.clone();
-        let answer = type3::encode(
-            &case.command,
-            &case.number,
-            case.nbw,
-            case.nmaxb,
-            bytes.lend(),
-        );
+        let answer = type3::encode(&case.command, &case.idm, case.nbw, case.nmaxb, bytes.lend());
         encoded.add(&answer);
         match answer {
             Ok(size) => {
@@ -67,7 +61,7 @@ fn type3_codec() {
                 assert_eq!(bytes.slice()[size..], before.slice()[size..]);
                 let mut back = case.held;
                 let sent = &bytes.slice()[..size];
-                type3::decode(sent, &case.number, case.nbw, case.nmaxb, &mut back).unwrap();
+                type3::decode(sent, &case.idm, case.nbw, case.nmaxb, &mut back).unwrap();
                 assert_eq!(back.count, case.command.count);
                 assert_eq!(back.blocks[..count], case.command.blocks[..count]);
                 assert_eq!(back.blocks[count..], case.held.blocks[count..]);
@@ -80,13 +74,13 @@ fn type3_codec() {
             }
         }
         let mut read = case.held;
-        let answer = type3::decode(&case.bytes, &case.number, case.nbw, case.nmaxb, &mut read);
+        let answer = type3::decode(&case.bytes, &case.idm, case.nbw, case.nmaxb, &mut read);
         decoded.add(&answer);
         match answer {
             Ok(()) => {
                 let mut bytes = [0; 157];
                 let size =
-                    type3::encode(&read, &case.number, case.nbw, case.nmaxb, &mut bytes).unwrap();
+                    type3::encode(&read, &case.idm, case.nbw, case.nmaxb, &mut bytes).unwrap();
                 assert_eq!(case.bytes, bytes[..size]);
             }
             Err(_) => assert!(read == case.held),
@@ -134,17 +128,17 @@ fn type3_model() {
     for index in 0..CASES {
         let mut rng = Rng::case(10, index);
         let mut image = tags3::any(&mut rng);
-        let number = rng.next().to_be_bytes();
+        let idm = rng.next().to_be_bytes();
         let (old, room) = tags3::message_and_room(&image);
         let message = message(&mut rng, &old, room);
-        let command = lists3::command(&mut rng, &image, &message, &number);
+        let command = lists3::command(&mut rng, &image, &message, &idm);
         let before = image.clone();
-        let answer = type3::model(&mut image, &number, &command);
+        let answer = type3::model(&mut image, &idm, &command);
         tally.add(&answer);
         let mut expected = before.clone();
         let refusal = match naive3::read(&before) {
             Err(refusal) => refusal,
-            Ok(_) => match naive3::well_formed(&before, &number, &command) {
+            Ok(_) => match naive3::well_formed(&before, &idm, &command) {
                 None => 20,
                 Some(parts) => {
                     for (block, data) in parts {

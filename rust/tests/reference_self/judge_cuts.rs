@@ -57,28 +57,28 @@ fn type3_judge_and_cuts() {
     for index in 0..CASES {
         let mut rng = Rng::case(6, index);
         let image = tags3::for_lists(&mut rng);
-        let number = rng.next().to_be_bytes();
+        let idm = rng.next().to_be_bytes();
         let (old, room) = tags3::message_and_room(&image);
         let message = message(&mut rng, &old, room);
-        let list = lists3::any(&mut rng, &image, &message, &number);
-        let answer = type3::judge(&image, &message, &number, &list);
+        let list = lists3::any(&mut rng, &image, &message, &idm);
+        let answer = type3::judge(&image, &message, &idm, &list);
         tally.add(&answer);
         assert_eq!(
             answer,
-            naive3::judge(&image, &message, &number, &list),
+            naive3::judge(&image, &message, &idm, &list),
             "case {index}"
         );
         if answer.is_err() || !rng.percent(20) {
             continue;
         }
-        let end = run3(&image, &message, &number);
+        let end = run3(&image, &message, &idm);
         let mut cut = image.clone();
         let commands = lists3::split(&list);
         for command in commands.iter().map(Some).chain([None]) {
             cuts += 1;
-            assert!(run3(&cut, &message, &number) == end, "case {index}");
+            assert!(run3(&cut, &message, &idm) == end, "case {index}");
             if let Some(command) = command {
-                type3::model(&mut cut, &number, command).unwrap();
+                type3::model(&mut cut, &idm, command).unwrap();
             }
         }
         assert_eq!(tags3::message_and_room(&end).0, message);
@@ -87,10 +87,10 @@ fn type3_judge_and_cuts() {
     tally.expect(&[0, 1, 2, 3, 4, 5, 7, 9, 10, 11, 20, 21, 22, 23], 100);
 }
 
-fn run3(image: &[u8], message: &[u8], number: &[u8; 8]) -> Vec<u8> {
+fn run3(image: &[u8], message: &[u8], idm: &[u8; 8]) -> Vec<u8> {
     let mut end = image.to_vec();
-    for command in lists3::split(&lists3::our_bytes(image, message, number)) {
-        type3::model(&mut end, number, &command).unwrap();
+    for command in lists3::split(&lists3::our_bytes(image, message, idm)) {
+        type3::model(&mut end, idm, &command).unwrap();
     }
     end
 }

@@ -43,14 +43,14 @@ fn message_on(image: &[u8]) -> Result<Vec<u8>, u8> {
 /// The blocks and the data of a command if it is well formed on this tag.
 pub fn well_formed<'a>(
     image: &[u8],
-    number: &[u8; 8],
+    idm: &[u8; 8],
     command: &'a [u8],
 ) -> Option<Vec<(usize, &'a [u8])>> {
     let w = image[2].min(8) as usize;
     let nmaxb = 256 * image[3] as usize + image[4] as usize;
     let b = *command.get(12)? as usize;
     let mut start = vec![0x08];
-    start.extend(number);
+    start.extend(idm);
     start.extend([0x01, 0x09, 0x00, b as u8]);
     if command[..13] != start || b < 1 || b > w || command.len() != 13 + 18 * b {
         return None;
@@ -84,12 +84,7 @@ pub fn cut_list(list: &[u8]) -> Vec<&[u8]> {
     commands
 }
 
-pub fn judge(
-    image: &[u8],
-    message: &[u8],
-    number: &[u8; 8],
-    list: &[u8],
-) -> Result<usize, Refusal> {
+pub fn judge(image: &[u8], message: &[u8], idm: &[u8; 8], list: &[u8]) -> Result<usize, Refusal> {
     let (_, _, writable) = read(image).map_err(Refusal::new)?;
     let nmaxb = 256 * image[3] as usize + image[4] as usize;
     if message.is_empty() {
@@ -110,7 +105,7 @@ pub fn judge(
     let mut cut = image.to_vec();
     let commands = cut_list(list);
     for (i, command) in commands.iter().enumerate() {
-        let Some(parts) = well_formed(image, number, command) else {
+        let Some(parts) = well_formed(image, idm, command) else {
             return Err(Refusal::at(20, i));
         };
         let before = cut.clone();

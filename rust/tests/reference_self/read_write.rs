@@ -1,7 +1,7 @@
 //! The reference's reading against the naive form, and what its write lists promise.
 
 use crate::common::{buffer_len, hex, lists2, lists3, message, tags2, tags3, Lent, Rng, Tally};
-use crate::reference::{type2, type3, Kind, Refusal};
+use crate::reference::{type2, type3, Content, Refusal};
 use crate::{naive2, naive3, CASES};
 
 /// Reading against the page said once more.
@@ -27,7 +27,7 @@ fn type2_read_is_as_the_page_says() {
                 let message: Vec<u8> = tag.value.iter().map(|&a| image[a]).collect();
                 let address = *tag.value.first().unwrap_or(&0);
                 let gap = tag.value.windows(2).any(|pair| pair[0] + 1 != pair[1]);
-                assert_eq!(answer.kind == Kind::Empty, message.is_empty());
+                assert_eq!(answer.content == Content::Empty, message.is_empty());
                 assert_eq!(answer.address, address as u64);
                 assert_eq!(answer.length, message.len() as u64);
                 assert_eq!(answer.interrupted, gap);
@@ -49,7 +49,7 @@ fn type2_read_is_as_the_page_says() {
         };
         assert!(gathered == expected);
         tally.note("interrupted", interrupted);
-        tally.note("empty", answer.is_ok_and(|a| a.kind == Kind::Empty));
+        tally.note("empty", answer.is_ok_and(|a| a.content == Content::Empty));
         tally.note("read-only", answer.is_ok_and(|a| !a.writable));
     }
     tally.expect(&[0, 1, 2, 3, 4, 5, 6, 7, 8, 13], 100);
@@ -66,20 +66,20 @@ fn type3_read_is_as_the_page_says() {
             (Err(refusal), Err(number)) => assert_eq!(refusal, Refusal::new(number)),
             (Ok(answer), Ok((being_written, ln, writable))) => {
                 let expected = match (being_written, ln) {
-                    (true, _) => (Kind::BeingWritten, 0, 0),
-                    (false, 0) => (Kind::Empty, 0, 0),
-                    (false, ln) => (Kind::Message, 16, ln as u64),
+                    (true, _) => (Content::BeingWritten, 0, 0),
+                    (false, 0) => (Content::Empty, 0, 0),
+                    (false, ln) => (Content::Message, 16, ln as u64),
                 };
-                assert_eq!((answer.kind, answer.address, answer.length), expected);
+                assert_eq!((answer.content, answer.address, answer.length), expected);
                 assert_eq!((answer.interrupted, answer.writable), (false, writable));
             }
             (answer, naive) => panic!("{answer:?} {naive:?} for {}", hex(&image)),
         }
-        for (what, kind) in [
-            ("empty", Kind::Empty),
-            ("being written", Kind::BeingWritten),
+        for (what, content) in [
+            ("empty", Content::Empty),
+            ("being written", Content::BeingWritten),
         ] {
-            tally.note(what, answer.is_ok_and(|a| a.kind == kind));
+            tally.note(what, answer.is_ok_and(|a| a.content == content));
         }
     }
     tally.expect(&[0, 1, 2, 3, 4, 5, 7], 100);
@@ -161,14 +161,14 @@ fn type3_write_keeps_its_promises() {
     for index in 0..CASES {
         let mut rng = Rng::case(4, index);
         let image = tags3::any(&mut rng);
-        let number = rng.next().to_be_bytes();
+        let idm = rng.next().to_be_bytes();
         let (old, room) = tags3::message_and_room(&image);
         let message = message(&mut rng, &old, room);
-        let needed = lists3::our_bytes(&image, &message, &number).len();
+        let needed = lists3::our_bytes(&image, &message, &idm).len();
         let len = buffer_len(&mut rng, needed);
         let mut list = Lent::random(&mut rng, len);
         let before = list.clone();
-        let answer = type3::write(&image, &message, &number, list.lend());
+        let answer = type3::write(&image, &message, &idm, list.lend());
         tally.add(&answer);
         let Ok(count) = answer else {
             assert!(list == before);
@@ -176,14 +176,14 @@ fn type3_write_keeps_its_promises() {
         };
         assert!(list.slice()[needed..] == before.slice()[needed..]);
         let ours = &list.slice()[..needed];
-        assert_eq!(type3::judge(&image, &message, &number, ours), Ok(count));
+        assert_eq!(type3::judge(&image, &message, &idm, ours), Ok(count));
         let k = message.len().div_ceil(16);
         let w = image[2].min(8) as usize;
         assert_eq!(count, 2 + k.div_ceil(w));
         let mut blocks = Vec::new();
         let mut written = image.clone();
         for command in lists3::split(ours) {
-            type3::model(&mut written, &number, &command).unwrap();
+            type3::model(&mut written, &idm, &command).unwrap();
             blocks.extend((0..command[12] as usize).map(|i| command[14 + 2 * i] as usize));
             assert!(command[12] as usize <= w);
         }

@@ -2,9 +2,9 @@
 
 use crate::common::tags2::{defaults, plain, with_usable};
 use crate::common::tags3;
-use crate::reference::{type2, type3, Kind, ReadAnswer, Refusal};
+use crate::reference::{type2, type3, Content, ReadAnswer, Refusal};
 
-const NUMBER: [u8; 8] = [1, 2, 3, 4, 5, 6, 7, 8];
+const IDM: [u8; 8] = [1, 2, 3, 4, 5, 6, 7, 8];
 
 fn refused<T>(number: u8) -> Result<T, Refusal> {
     Err(Refusal::new(number))
@@ -22,7 +22,7 @@ fn write2(image: &[u8], n: usize) -> Result<usize, Refusal> {
 fn first_specimen() {
     let image = plain(64, 6, &[0x03, 0x03, 0xD0, 0x00, 0x00, 0xFE]);
     let expected = ReadAnswer {
-        kind: Kind::Message,
+        content: Content::Message,
         address: 18,
         length: 3,
         interrupted: false,
@@ -35,8 +35,8 @@ fn first_specimen() {
 fn empty_and_size_0() {
     let answer = read2(&plain(64, 6, &[0x03, 0x00, 0xFE])).unwrap();
     assert_eq!(
-        (answer.kind, answer.address, answer.length),
-        (Kind::Empty, 0, 0)
+        (answer.content, answer.address, answer.length),
+        (Content::Empty, 0, 0)
     );
     assert_eq!(read2(&plain(64, 0, &[0x03, 0x00, 0xFE])), refused(8));
 }
@@ -88,25 +88,25 @@ fn type3_specimens() {
     let mut image = attributes();
     let answer = type3::read(&image).unwrap();
     assert_eq!(
-        (answer.kind, answer.address, answer.length),
-        (Kind::Message, 16, 35)
+        (answer.content, answer.address, answer.length),
+        (Content::Message, 16, 35)
     );
     assert!(answer.writable && !answer.interrupted);
     let mut list = [0; 8000];
-    assert!(type3::write(&image, &[7; 208], &NUMBER, &mut list).is_ok());
+    assert!(type3::write(&image, &[7; 208], &IDM, &mut list).is_ok());
     assert_eq!(
-        type3::write(&image, &[7; 209], &NUMBER, &mut list),
+        type3::write(&image, &[7; 209], &IDM, &mut list),
         refused(11)
     );
-    assert_eq!(type3::write(&image, &[7; 35], &NUMBER, &mut list), Ok(5));
+    assert_eq!(type3::write(&image, &[7; 35], &IDM, &mut list), Ok(5));
     image[2] = 4;
     tags3::seal(&mut image);
-    assert_eq!(type3::write(&image, &[7; 35], &NUMBER, &mut list), Ok(3));
+    assert_eq!(type3::write(&image, &[7; 35], &IDM, &mut list), Ok(3));
 
     let mut image = attributes();
     image[9] = 0x0F;
     image[15] = 0x55;
-    assert_eq!(type3::read(&image).unwrap().kind, Kind::BeingWritten);
+    assert_eq!(type3::read(&image).unwrap().content, Content::BeingWritten);
     let mut image = attributes();
     image[15] = 0x47;
     assert_eq!(type3::read(&image), refused(2));
@@ -119,8 +119,8 @@ fn empty_list() {
     let end = Err(Refusal::at(23, 0));
     assert_eq!(type2::judge(&image, &[0xD0, 0x00, 0x01], &[]), end);
     let image = attributes();
-    assert_eq!(type3::judge(&image, &[0; 35], &NUMBER, &[]), Ok(0));
-    assert_eq!(type3::judge(&image, &[0; 34], &NUMBER, &[]), end);
+    assert_eq!(type3::judge(&image, &[0; 35], &IDM, &[]), Ok(0));
+    assert_eq!(type3::judge(&image, &[0; 34], &IDM, &[]), end);
 }
 
 #[test]
@@ -161,7 +161,7 @@ fn the_program() {
 fn factory_defaults() {
     for (image, u) in defaults().iter().zip([47, 138, 495, 871]) {
         let answer = read2(image).unwrap();
-        assert_eq!((answer.kind, answer.writable), (Kind::Empty, true));
+        assert_eq!((answer.content, answer.writable), (Content::Empty, true));
         let (usable, longest) = type2::room(image).unwrap();
         assert_eq!(usable, u);
         assert!(write2(image, longest).is_ok());
@@ -169,7 +169,7 @@ fn factory_defaults() {
         assert_eq!(write2(image, 0), refused(9));
     }
     let image = tags3::default();
-    assert_eq!(type3::read(&image).unwrap().kind, Kind::Empty);
+    assert_eq!(type3::read(&image).unwrap().content, Content::Empty);
     assert_eq!(type3::room(&image), Ok(208));
 }
 

@@ -7,7 +7,7 @@ use mathlib.Core.List.{List}
 use Prim.Native.Nat.{ℕ, _+_, _<_, _≤_}
 use lib.ListN.{length, take, drop}
 use Rattle.tag.specs.declared.JudgeAnswer.{JudgeAnswer}
-use Rattle.tag.specs.Stores.{formed, done}
+use Rattle.tag.specs.Stores.{formed, tagAfter}
 use Rattle.tag.specs.TagType.{TagType, commands}
 use Rattle.tag.specs.Judge.{fault, judge, task}
 use Rattle.tag.specs.Answers.{verdictAs}
@@ -21,11 +21,11 @@ pub record Piece (T : TagType) (i list : List ℕ) (at size : ℕ) : Type 0 wher
 
 -- the tag j was given a command's bytes, and j′ is left; r says whether they are well formed
 abbrev pub Applied : TagType → List ℕ → List ℕ → List ℕ → Bool → List ℕ → Type 0
-Applied T i j bytes r j′ = (r ≡ formed ((T .command) i bytes)) × (j′ ≡ done j ((T .command) i bytes))
+Applied T i j bytes r j′ = (r ≡ formed ((T .command) i bytes)) × (j′ ≡ tagAfter j ((T .command) i bytes))
 
 -- the same, and r is the command's fault, or 0
 abbrev pub Tested : TagType → List ℕ → List ℕ → List ℕ → List ℕ → ℕ → List ℕ → Type 0
-Tested T i m j bytes r j′ = (r ≡ fault (task T i m) j ((T .command) i bytes)) × (j′ ≡ done j ((T .command) i bytes))
+Tested T i m j bytes r j′ = (r ≡ fault (task T i m) j ((T .command) i bytes)) × (j′ ≡ tagAfter j ((T .command) i bytes))
 
 -- r is the verdict on a list, where writing is not refused
 abbrev pub ListJudged : TagType → List ℕ → List ℕ → List ℕ → JudgeAnswer → Type 0

@@ -8,7 +8,7 @@ use lib.ListN.{length}
 use Rattle.tag.specs.Bytes.{isSet}
 use Rattle.tlv.specs.Views.Table.{noneSkipped, usableIn}
 use Rattle.tlv_tag.specs.declared.kept.Extent.{Extent}
-use Rattle.tlv_tag.specs.Views.Update.{contentLength}
+use Rattle.tlv_tag.specs.Views.Update.{tlvBytesLength}
 
 -- the extent lies inside the table and below `end`, and `skips` says whether an address in it is skipped
 pub record Bounded (table : List ℕ) (end : ℕ) (e : Extent) : Type 0 where
@@ -19,4 +19,4 @@ pub record Bounded (table : List ℕ) (end : ℕ) (e : Extent) : Type 0 where
 
 -- its usable addresses are just those of us that a message of n bytes sets
 abbrev pub Extends : List ℕ → List ℕ → ℕ → Extent → Type 0
-Extends table us n e = (vs : List ℕ) (a : ℕ) → length vs ≡ contentLength n → isSet us vs a ≡ usableIn table (e .first .0) (e .stop .0) a
+Extends table us n e = (vs : List ℕ) (a : ℕ) → length vs ≡ tlvBytesLength n → isSet us vs a ≡ usableIn table (e .first .0) (e .stop .0) a

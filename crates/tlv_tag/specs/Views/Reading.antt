@@ -10,7 +10,7 @@ use Rattle.tag.specs.declared.Report as code
 use Rattle.tag.specs.Bytes.{byte, run}
 use Rattle.tag.specs.Refusals.{bad-length}
 use Rattle.tag.specs.Reading.{Report, Reading, unreadable, reads}
-use Rattle.tag.specs.Answers.{whatOf}
+use Rattle.tag.specs.Answers.{contentOf}
 use Rattle.tlv.specs.Areas.{allowedArea}
 use Rattle.tlv.specs.Walk.{lengthOf, find}
 use Rattle.tlv_tag.specs.Message.{View, refuse, view, viewBy, viewOf, reportOf}
@@ -35,7 +35,7 @@ refusalOf (view us ms) = 0
 -- the code's report of such a value
 abbrev pub reportAs : List ℕ → List ℕ → code.Report → Report
 reportAs i us p = record {
-  what = whatOf (p .what);
+  content = contentOf (p .content);
   bytes = map (byte i) (take (p .length) us);
   address = p .address .0;
   interrupted = p .interrupted;

@@ -14,8 +14,8 @@ use Rattle.tlv_tag.specs.Update.{lengthField, lengthAt, planBy}
 use Rattle.tlv_tag.specs.Views.Space.{Space, no-space, space}
 
 -- how many bytes there are to set for a message of n bytes
-abbrev pub contentLength : ℕ → ℕ
-contentLength n = length (lengthField n) + (n + 1)
+abbrev pub tlvBytesLength : ℕ → ℕ
+tlvBytesLength n = length (lengthField n) + (n + 1)
 
 -- room for the new image, and for each block of z bytes a mark, none of them set
 pub record Spare (z : ℕ) (i new marks : List ℕ) : Type 0 where

@@ -10,7 +10,7 @@ use Rattle.tag.specs.declared.Report.{Report}
 use Rattle.tag.specs.Bytes.{byte}
 use Rattle.tag.specs.Checks.{Checked, fine, fault, firstOf}
 use Rattle.tag.specs.Reading.{message, empty, being-written, Answer, answer}
-use Rattle.tag.specs.Answers.{whatOf}
+use Rattle.tag.specs.Answers.{contentOf}
 use Rattle.type3.specs.declared.read.Attributes.{Attributes}
 use Rattle.type3.specs.declared.read.Checked as code
 use Rattle.type3.specs.declared.read.Checked.the-variants as checked
@@ -60,7 +60,7 @@ Known i (checked.Fine a) = Attests i a
 -- ---- the answer of reading
 
 abbrev pub reportAs : Report → Answer
-reportAs p = answer (whatOf (p .what)) (p .address .0) (p .length) (p .interrupted) (p .writable)
+reportAs p = answer (contentOf (p .content)) (p .address .0) (p .length) (p .interrupted) (p .writable)
 
 -- what the attributes say of a message
 abbrev pub answerFor : Attributes → Answer

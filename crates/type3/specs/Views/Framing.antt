@@ -22,5 +22,5 @@ pub record Framed (bytes : List ℕ) : Type 0 where
 pub record PutAsked (blocks carried bytes : List ℕ) : Type 0 where
   pub few : length blocks ≤ 8
   pub each-byte : (i : ℕ) → i < length blocks → getD blocks i 0 ≤ 255
-  pub sixteens : length carried ≡ 16 * length blocks
+  pub blockdata : length carried ≡ 16 * length blocks
   pub room : 13 + 18 * length blocks ≤ length bytes

@@ -21,11 +21,11 @@ numbers (suc k) bytes = byte bytes 1 ∷ numbers k (drop 2 bytes)
 
 -- all of a well-formed command but that its blocks may be named: the count b, the length, the opening and the marks
 unfoldable pub framedBy : List ℕ → ℕ → ℕ → List ℕ → Bool
-framedBy number nbw b bytes =
-    leb 1 b && leb b (blocksPerCommand nbw) && eqb (length bytes) (13 + 18 * b) && same (take 12 bytes) (opening number) && marked b (drop 13 bytes)
+framedBy idm nbw b bytes =
+    leb 1 b && leb b (blocksPerCommand nbw) && eqb (length bytes) (13 + 18 * b) && same (take 12 bytes) (opening idm) && marked b (drop 13 bytes)
 
 abbrev pub framed : List ℕ → ℕ → List ℕ → Bool
-framed number nbw bytes = framedBy number nbw (byte bytes 12) bytes
+framed idm nbw bytes = framedBy idm nbw (byte bytes 12) bytes
 
 -- the blocks and the bytes that such a command carries
 abbrev pub carried : List ℕ → Decoded

@@ -23,4 +23,4 @@ pub record Storable (bytes : List ℕ) (n : ℕ) : Type 0 where
 
 -- a command for an image of n bytes: blocks 0 to Nmaxb lie in it
 abbrev pub decodeFor : ℕ → List ℕ → ℕ → ℕ → List ℕ → Decoded
-decodeFor n number nbw nmaxb bytes = cond (ltb nmaxb (n / 16)) (decode number nbw nmaxb bytes) (undecoded (positioned malformed-command 0))
+decodeFor n idm nbw nmaxb bytes = cond (ltb nmaxb (n / 16)) (decode idm nbw nmaxb bytes) (undecoded (positioned malformed-command 0))

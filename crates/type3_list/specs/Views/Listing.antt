@@ -35,21 +35,21 @@ unfoldable pub attributeBlock : List ℕ → ℕ → ℕ → List ℕ
 attributeBlock i flag n = attributeBlockBy i flag n (steadySum i + flag + lnSum n)
 
 abbrev pub attributeCommand : List ℕ → List ℕ → ℕ → ℕ → List ℕ
-attributeCommand number i flag n = commandBytes number (0 ∷ []) (attributeBlock i flag n)
+attributeCommand idm i flag n = commandBytes idm (0 ∷ []) (attributeBlock i flag n)
 
 -- the command for some of the message's blocks
 abbrev pub messageCommand : List ℕ → List ℕ → List ℕ → List ℕ
-messageCommand number m bs = commandBytes number bs (blocksBytes m bs)
+messageCommand idm m bs = commandBytes idm bs (blocksBytes m bs)
 
 -- the first t commands for the blocks bs, w to a command, the last taking what remains
 unfoldable pub messageCommands : List ℕ → List ℕ → ℕ → List ℕ → ℕ → List ℕ
-messageCommands number m w bs zero = []
-messageCommands number m w bs (suc t) = messageCommands number m w bs t ++ messageCommand number m (take w (drop (w * t) bs))
+messageCommands idm m w bs zero = []
+messageCommands idm m w bs (suc t) = messageCommands idm m w bs t ++ messageCommand idm m (take w (drop (w * t) bs))
 
 -- the list: block 0 shut, the blocks bs of the message, block 0 opened
 abbrev pub listAs : List ℕ → List ℕ → List ℕ → ℕ → ℕ → ℕ → List ℕ → List ℕ
-listAs number i m ln w t bs =
-    attributeCommand number i 0x0F ln ++ messageCommands number m w bs t ++ attributeCommand number i 0x00 (length m)
+listAs idm i m ln w t bs =
+    attributeCommand idm i 0x0F ln ++ messageCommands idm m w bs t ++ attributeCommand idm i 0x00 (length m)
 
 -- k blocks dealt out to t commands, w to a command
 pub record Dealt (k w t : ℕ) : Type 0 where

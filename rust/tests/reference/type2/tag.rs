@@ -1,7 +1,7 @@
 //! Type 2: reading, which is the tests 1 to 5, the walk to the message TLV, and the message.
 
 use super::{BLOCK, DATA_START, MAX_IMAGE, TERMINATOR};
-use crate::reference::{Kind, ReadAnswer, Refusal};
+use crate::reference::{Content, ReadAnswer, Refusal};
 
 /// The walk over the data area. `skip` marks the addresses that a control TLV has taken out.
 struct Walk<'a> {
@@ -201,9 +201,9 @@ pub fn read(image: &[u8], gathered: &mut [u8]) -> Result<ReadAnswer, Refusal> {
         }
     }
     Ok(ReadAnswer {
-        kind: match tag.length {
-            0 => Kind::Empty,
-            _ => Kind::Message,
+        content: match tag.length {
+            0 => Content::Empty,
+            _ => Content::Message,
         },
         address: tag.first as u64,
         length: tag.length as u64,

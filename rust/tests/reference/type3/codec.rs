@@ -54,15 +54,11 @@ impl<'a> WellFormed<'a> {
 }
 
 /// The parts of a command if it is well formed; bytes left over are not.
-pub fn well_formed<'a>(
-    bytes: &'a [u8],
-    number: &[u8; 8],
-    limits: Limits,
-) -> Option<WellFormed<'a>> {
+pub fn well_formed<'a>(bytes: &'a [u8], idm: &[u8; 8], limits: Limits) -> Option<WellFormed<'a>> {
     let (header, rest) = bytes.split_at_checked(HEADER)?;
     let count = header[12] as usize;
     if header[0] != 0x08
-        || header[1..9] != *number
+        || header[1..9] != *idm
         || header[9..12] != [0x01, 0x09, 0x00]
         || !limits.allow_count(count as u64)
         || bytes.len() != command_len(count)
@@ -82,7 +78,7 @@ pub fn well_formed<'a>(
 /// Puts a command into the front of `bytes` and answers how many bytes it has.
 pub fn encode(
     command: &Command,
-    number: &[u8; 8],
+    idm: &[u8; 8],
     nbw: u64,
     nmaxb: u64,
     bytes: &mut [u8],
@@ -102,7 +98,7 @@ pub fn encode(
         return Err(Refusal::new(12));
     };
     bytes[0] = 0x08;
-    bytes[1..9].copy_from_slice(number);
+    bytes[1..9].copy_from_slice(idm);
     bytes[9..12].copy_from_slice(&[0x01, 0x09, 0x00]);
     bytes[12] = count as u8;
     let (names, data) = bytes[HEADER..].split_at_mut(2 * count);
@@ -117,13 +113,13 @@ pub fn encode(
 /// Reads one command into the front of `command`'s arrays.
 pub fn decode(
     bytes: &[u8],
-    number: &[u8; 8],
+    idm: &[u8; 8],
     nbw: u64,
     nmaxb: u64,
     command: &mut Command,
 ) -> Result<(), Refusal> {
     let limits = Limits { nbw, nmaxb };
-    let Some(read) = well_formed(bytes, number, limits) else {
+    let Some(read) = well_formed(bytes, idm, limits) else {
         return Err(Refusal::new(20));
     };
     command.count = (read.names.len() / 2) as u64;
@@ -135,13 +131,13 @@ pub fn decode(
 }
 
 /// The tag takes one command.
-pub fn model(image: &mut [u8], number: &[u8; 8], command: &[u8]) -> Result<(), Refusal> {
+pub fn model(image: &mut [u8], idm: &[u8; 8], command: &[u8]) -> Result<(), Refusal> {
     let attributes = Attributes::of(image)?;
     let limits = Limits {
         nbw: attributes.nbw as u64,
         nmaxb: attributes.nmaxb as u64,
     };
-    match well_formed(command, number, limits) {
+    match well_formed(command, idm, limits) {
         Some(command) => {
             command.store(image);
             Ok(())

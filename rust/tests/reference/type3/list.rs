@@ -29,7 +29,7 @@ pub fn command_len(count: usize) -> usize {
 pub fn write(
     image: &[u8],
     message: &[u8],
-    number: &[u8; 8],
+    idm: &[u8; 8],
     list: &mut [u8],
 ) -> Result<usize, Refusal> {
     let attributes = writable_for(image, message)?;
@@ -48,11 +48,11 @@ pub fn write(
     block0[WRITE_FLAG] = BEING_WRITTEN;
     let sum = checksum(&block0);
     block0[14..].copy_from_slice(&sum);
-    let mut rest = put(list, number, 0, &block0);
+    let mut rest = put(list, idm, 0, &block0);
 
     let mut first = 1;
     for part in message.chunks(width * BLOCK) {
-        rest = put(rest, number, first, part);
+        rest = put(rest, idm, first, part);
         first += width;
     }
 
@@ -60,17 +60,17 @@ pub fn write(
     block0[11..14].copy_from_slice(&(message.len() as u32).to_be_bytes()[1..]);
     let sum = checksum(&block0);
     block0[14..].copy_from_slice(&sum);
-    put(rest, number, 0, &block0);
+    put(rest, idm, 0, &block0);
     Ok(2 + data_commands)
 }
 
 /// Puts one command that writes `bytes` from block `first` on, the last block filled with 00h,
 /// and hands on what is left of the list.
-fn put<'a>(list: &'a mut [u8], number: &[u8; 8], first: usize, bytes: &[u8]) -> &'a mut [u8] {
+fn put<'a>(list: &'a mut [u8], idm: &[u8; 8], first: usize, bytes: &[u8]) -> &'a mut [u8] {
     let count = bytes.len().div_ceil(BLOCK);
     let (command, rest) = list.split_at_mut(command_len(count));
     command[0] = 0x08;
-    command[1..9].copy_from_slice(number);
+    command[1..9].copy_from_slice(idm);
     command[9..12].copy_from_slice(&[0x01, 0x09, 0x00]);
     command[12] = count as u8;
     let (names, data) = command[HEADER..].split_at_mut(2 * count);
@@ -84,12 +84,7 @@ fn put<'a>(list: &'a mut [u8], number: &[u8; 8], first: usize, bytes: &[u8]) -> 
 }
 
 /// Judges a list that somebody else made for writing `message`; answers how many commands it has.
-pub fn judge(
-    image: &[u8],
-    message: &[u8],
-    number: &[u8; 8],
-    list: &[u8],
-) -> Result<usize, Refusal> {
+pub fn judge(image: &[u8], message: &[u8], idm: &[u8; 8], list: &[u8]) -> Result<usize, Refusal> {
     let attributes = writable_for(image, message)?;
     let old = attributes.message(image);
     let blocks = message.len().div_ceil(BLOCK);
@@ -102,7 +97,7 @@ pub fn judge(
     let mut position = 0;
 
     while !rest.is_empty() {
-        let Some(command) = well_formed(cut(rest), number, limits) else {
+        let Some(command) = well_formed(cut(rest), idm, limits) else {
             return Err(Refusal::at(20, position));
         };
         for (block, data) in command.parts() {

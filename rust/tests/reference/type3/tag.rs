@@ -1,7 +1,7 @@
 //! Type 3: reading, by the attributes in block 0.
 
 use super::{BEING_WRITTEN, BLOCK, MAX_IMAGE, WRITE_FLAG};
-use crate::reference::{Kind, ReadAnswer, Refusal};
+use crate::reference::{Content, ReadAnswer, Refusal};
 
 /// What block 0 says.
 #[derive(Clone, Copy, Debug)]
@@ -85,15 +85,15 @@ pub fn room(image: &[u8]) -> Result<usize, Refusal> {
 /// Reads a tag.
 pub fn read(image: &[u8]) -> Result<ReadAnswer, Refusal> {
     let attributes = Attributes::of(image)?;
-    let (kind, address, length) = if attributes.being_written {
-        (Kind::BeingWritten, 0, 0)
+    let (content, address, length) = if attributes.being_written {
+        (Content::BeingWritten, 0, 0)
     } else if attributes.length == 0 {
-        (Kind::Empty, 0, 0)
+        (Content::Empty, 0, 0)
     } else {
-        (Kind::Message, BLOCK as u64, attributes.length as u64)
+        (Content::Message, BLOCK as u64, attributes.length as u64)
     };
     Ok(ReadAnswer {
-        kind,
+        content,
         address,
         length,
         interrupted: false,

@@ -1,7 +1,7 @@
 -- `lists::step` meets its contract: the tests in their order. Assumes nothing.
 use borrow.Author.Needs.{needs}
 use Rattle.kinds.specs.Views.Types.{typeOf}
-use Rattle.tag.proofs.Turns.{step-ill, step-change, step-misread, step-none}
+use Rattle.tag.proofs.Turns.{step-malformed, step-change, step-misread, step-none}
 use Rattle.judge.proofs.lists.step.Statement.{statement}
 use Rattle.judge.proofs.lists.step.Tie as tie
 
@@ -11,7 +11,7 @@ returns c =
     let at-slices = at-taken .before .before .before .before in
     let at-first = at-slices .before .before .before .before in
     let a = at-first .before .args in
-    step-ill (typeOf (a .kind) (a .idm .now)) (a .image .now) (a .message .now) (a .work .now) (a .command .now) _ _ (at-taken .take-command .ensures) (c .if1 .taken)
+    step-malformed (typeOf (a .kind) (a .idm .now)) (a .image .now) (a .message .now) (a .work .now) (a .command .now) _ _ (at-taken .take-command .ensures) (c .if1 .taken)
 
 returns-2 : tie.Need-returns-2
 returns-2 c =

@@ -13,7 +13,7 @@ returns c =
     let s = at-length .before .before .before in
     let a = s .args in
     let z = c .before .nth in (
-      set-below (a .table .now) (a .w) (s .pre .0) (a .n) _ _ (at-length .content-length .ensures) (z .ensures .0),
+      set-below (a .table .now) (a .w) (s .pre .0) (a .n) _ _ (at-length .tlv-bytes-length .ensures) (z .ensures .0),
       record {
         ordered = z .ensures .1 .0;
         below = z .ensures .1 .1;

@@ -7,7 +7,7 @@ use borrow.Author.Needs.{needs}
 use lib.ListN.{length, length-set}
 use Rattle.tag.specs.Bytes.{overlay}
 use Rattle.tlv.specs.Views.Walks.{ahead}
-use Rattle.tlv_tag.specs.Update.{content, lengthAt}
+use Rattle.tlv_tag.specs.Update.{tlvBytes, lengthAt}
 use Rattle.tlv_tag.proofs.Preparing.{first-usable, marked-between}
 use Rattle.tlv_tag.proofs.prepare.prepare_at.Statement.{statement}
 use Rattle.tlv_tag.proofs.prepare.prepare_at.Tie as tie
@@ -15,18 +15,18 @@ use Rattle.tlv_tag.proofs.prepare.prepare_at.Tie as tie
 -- the address handed back is that of the first length byte
 found : (c : tie.After-block) →
     let at-next-usable = c .before in
-    let at-mark-content = at-next-usable .before .before .before in
-    let at-set-content = at-mark-content .before .before .before .before in
-    let at-copy-image = at-set-content .before .before .before .before in
+    let at-mark-tlv-bytes = at-next-usable .before .before .before in
+    let at-set-tlv-bytes = at-mark-tlv-bytes .before .before .before .before in
+    let at-copy-image = at-set-tlv-bytes .before .before .before .before in
     let at-slice-known = at-copy-image .before .before .before in
     let at-start = at-slice-known .before .before .before .before in
     (at-next-usable .next-usable .result .0 ≡ lengthAt (ahead (at-start .args .table .now) (at-start .args .w)))
     × (at-next-usable .next-usable .result .0 < at-start .args .w .end .0)
 found c =
     let at-next-usable = c .before in
-    let at-mark-content = at-next-usable .before .before .before in
-    let at-set-content = at-mark-content .before .before .before .before in
-    let at-copy-image = at-set-content .before .before .before .before in
+    let at-mark-tlv-bytes = at-next-usable .before .before .before in
+    let at-set-tlv-bytes = at-mark-tlv-bytes .before .before .before .before in
+    let at-copy-image = at-set-tlv-bytes .before .before .before .before in
     let at-slice-known = at-copy-image .before .before .before in
     let at-start = at-slice-known .before .before .before .before in
     let n = at-next-usable .next-usable in
@@ -37,28 +37,28 @@ found c =
 slice-write-marks : tie.Need-slice-write-marks
 slice-write-marks c =
     let at-next-usable = c .before in
-    let at-mark-content = at-next-usable .before .before .before in
-    let at-set-content = at-mark-content .before .before .before .before in
-    let at-copy-image = at-set-content .before .before .before .before in
+    let at-mark-tlv-bytes = at-next-usable .before .before .before in
+    let at-set-tlv-bytes = at-mark-tlv-bytes .before .before .before .before in
+    let at-copy-image = at-set-tlv-bytes .before .before .before .before in
     let at-slice-known = at-copy-image .before .before .before in
     let at-start = at-slice-known .before .before .before .before in
     let a = at-start .args in
     let inside : at-next-usable .next-usable .result .0 / a .size < length (a .marks .now)
     = div-lt-iff-lt-mul (at-start .pre .1 .some-size) .1 (omega (arith, found c .1, at-start .pre .0 .placed .in-image, at-start .pre .1 .each-marked)) in
-    omega (arith, inside, c .block .ensures, at-mark-content .mark-content .kept)
+    omega (arith, inside, c .block .ensures, at-mark-tlv-bytes .mark-tlv-bytes .kept)
 
 returns : tie.Need-returns
 returns c =
-    let at-mark-content = c .before .before .before .before in
-    let at-set-content = at-mark-content .before .before .before .before in
-    let at-copy-image = at-set-content .before .before .before .before in
+    let at-mark-tlv-bytes = c .before .before .before .before in
+    let at-set-tlv-bytes = at-mark-tlv-bytes .before .before .before .before in
+    let at-copy-image = at-set-tlv-bytes .before .before .before .before in
     let at-slice-known = at-copy-image .before .before .before in
     let at-start = at-slice-known .before .before .before .before in
     let a = at-start .args in
     let us = ahead (a .table .now) (a .w) in
-    let k = at-mark-content .mark-content in
+    let k = at-mark-tlv-bytes .mark-tlv-bytes in
     record {
-      new-is = at-set-content .set-content .ensures ∙ ap (overlay us (content (a .message .now))) (at-copy-image .copy-image .ensures);
+      new-is = at-set-tlv-bytes .set-tlv-bytes .ensures ∙ ap (overlay us (tlvBytes (a .message .now))) (at-copy-image .copy-image .ensures);
       marks-are = λ b l.
           marked-between (a .size) us (a .image .now) (a .message .now) (a .marks .now) (k .last .1 .1 .1 .1 .0) (c .block .result .0)
           (at-start .pre .1 .unmarked) (k .kept .1 .1 .1 .1 .0) (k .ensures)

@@ -4,7 +4,7 @@ use borrow.Author.Needs.{needs}
 use lib.ListN.{length, drop}
 use Rattle.tag.specs.Bytes.{overlay}
 use Rattle.tlv.specs.Views.Walks.{ahead}
-use Rattle.tlv_tag.proofs.Content.{length-short, length-long}
+use Rattle.tlv_tag.proofs.TlvBytes.{length-short, length-long}
 use Rattle.tlv_tag.proofs.update.set_length.Statement.{statement}
 use Rattle.tlv_tag.proofs.update.set_length.Tie as tie
 

@@ -3,7 +3,7 @@ use mathlib.Core.Path.{_∙_, sym, ap}
 use borrow.Author.Needs.{needs}
 use Rattle.type2.specs.Codec.{decoded}
 use Rattle.type2.specs.CodecContracts.{commandAs}
-use Rattle.type2.proofs.Encoding.{formed, decode-formed, decode-ill}
+use Rattle.type2.proofs.Encoding.{formed, decode-formed, decode-malformed}
 use Rattle.type2.proofs.commands.decode.Statement.{statement}
 use Rattle.type2.proofs.commands.decode.Tie as tie
 
@@ -21,7 +21,7 @@ returns c =
 returns-2 : tie.Need-returns-2
 returns-2 c =
     let a = c .before .before .before .args in
-    let e = decode-ill (a .blocks) (a .bytes .now) (sym (c .before .is-command .ensures) ∙ c .if1 .left) in
+    let e = decode-malformed (a .blocks) (a .bytes .now) (sym (c .before .is-command .ensures) ∙ c .if1 .left) in
     (sym e, ap commandAs (sym e))
 
 pub decode-spec : {M : Type 1} → statement M

@@ -1,10 +1,10 @@
 -- `model::model` meets its contract. Assumes nothing.
 use mathlib.Core.Path.{sym, ap, _∙_}
 use borrow.Author.Needs.{needs}
-use Rattle.tag.specs.Stores.{done}
+use Rattle.tag.specs.Stores.{tagAfter}
 use Rattle.tag.specs.Model.{imageAfter}
 use Rattle.tag.specs.Answers.{storingOf, refusesOne}
-use Rattle.type2.proofs.Modelling.{command-ill, command-formed, model-unread, model-ill, model-stored}
+use Rattle.type2.proofs.Modelling.{command-malformed, command-formed, model-unread, model-malformed, model-stored}
 use Rattle.type2.proofs.model.model.Statement.{statement}
 use Rattle.type2.proofs.model.model.Tie as tie
 
@@ -22,7 +22,7 @@ returns-2 c =
     let k = c .before .before .before .take-command in
     let w = sym (k .ensures .0) ∙ c .if2 .taken in
     let e = model-stored (a .image .now) (a .command .now) (sym (f .ensures) ∙ c .before .before .before .before .before .if1 .left) w in
-    (sym (ap storingOf e), k .ensures .1 ∙ ap (done (a .image .now)) (command-formed (a .image .now) (a .command .now) w) ∙ sym (ap (imageAfter (a .image .now)) e))
+    (sym (ap storingOf e), k .ensures .1 ∙ ap (tagAfter (a .image .now)) (command-formed (a .image .now) (a .command .now) w) ∙ sym (ap (imageAfter (a .image .now)) e))
 
 returns-3 : tie.Need-returns-3
 returns-3 c =
@@ -30,8 +30,8 @@ returns-3 c =
     let f = c .before .before .before .before .before .before .refusal in
     let k = c .before .before .before .take-command in
     let w = sym (k .ensures .0) ∙ c .if2 .left in
-    let e = model-ill (a .image .now) (a .command .now) (sym (f .ensures) ∙ c .before .before .before .before .before .if1 .left) w in
-    (sym (ap storingOf e), k .ensures .1 ∙ ap (done (a .image .now)) (command-ill (a .image .now) (a .command .now) w) ∙ sym (ap (imageAfter (a .image .now)) e))
+    let e = model-malformed (a .image .now) (a .command .now) (sym (f .ensures) ∙ c .before .before .before .before .before .if1 .left) w in
+    (sym (ap storingOf e), k .ensures .1 ∙ ap (tagAfter (a .image .now)) (command-malformed (a .image .now) (a .command .now) w) ∙ sym (ap (imageAfter (a .image .now)) e))
 
 pub model-spec : {M : Type 1} → statement M
 model-spec =

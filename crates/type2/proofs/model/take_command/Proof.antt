@@ -1,8 +1,8 @@
 -- `model::take_command` meets its contract. Assumes nothing.
 use mathlib.Core.Path.{sym, ap, _∙_}
 use borrow.Author.Needs.{needs}
-use Rattle.tag.specs.Stores.{done}
-use Rattle.type2.proofs.Modelling.{command-ill, command-formed}
+use Rattle.tag.specs.Stores.{tagAfter}
+use Rattle.type2.proofs.Modelling.{command-malformed, command-formed}
 use Rattle.type2.proofs.model.take_command.Statement.{statement}
 use Rattle.type2.proofs.model.take_command.Tie as tie
 
@@ -13,13 +13,13 @@ returns : tie.Need-returns
 returns c =
     let a = c .before .before .before .before .before .before .before .before .before .args in
     let w = sym (c .before .before .before .before .before .is-command-for .ensures) ∙ c .before .before .before .before .if1 .taken in
-    (sym w, c .before .before .store-block .ensures ∙ sym (ap (done (a .image .now)) (command-formed (a .image .now) (a .command .now) w)))
+    (sym w, c .before .before .store-block .ensures ∙ sym (ap (tagAfter (a .image .now)) (command-formed (a .image .now) (a .command .now) w)))
 
 returns-2 : tie.Need-returns-2
 returns-2 c =
     let a = c .before .before .before .before .before .args in
     let w = sym (c .before .is-command-for .ensures) ∙ c .if1 .left in
-    (sym w, sym (ap (done (a .image .now)) (command-ill (a .image .now) (a .command .now) w)))
+    (sym w, sym (ap (tagAfter (a .image .now)) (command-malformed (a .image .now) (a .command .now) w)))
 
 pub take-command-spec : {M : Type 1} → statement M
 take-command-spec =

@@ -13,14 +13,14 @@ use Rattle.type3.proofs.commands.decode.Tie as tie
 carried-requires : tie.Need-carried-requires
 carried-requires c κs =
     let a = c .before .before .before .args in
-    let k = decode-carried (a .number .now) (a .nbw) (a .nmaxb) (a .bytes .now) (sym (c .before .is-command .ensures) ∙ c .if1 .taken) in
-    frame (a .number .now) (a .nbw) (a .bytes .now) (k .1)
+    let k = decode-carried (a .idm .now) (a .nbw) (a .nmaxb) (a .bytes .now) (sym (c .before .is-command .ensures) ∙ c .if1 .taken) in
+    frame (a .idm .now) (a .nbw) (a .bytes .now) (k .1)
 
 returns : tie.Need-returns
 returns c =
     let a = c .before .before .before .before .args in
-    let k = decode-carried (a .number .now) (a .nbw) (a .nmaxb) (a .bytes .now) (sym (c .before .before .is-command .ensures) ∙ c .before .if1 .taken) in
-    let f = frame (a .number .now) (a .nbw) (a .bytes .now) (k .1) in (
+    let k = decode-carried (a .idm .now) (a .nbw) (a .nmaxb) (a .bytes .now) (sym (c .before .before .is-command .ensures) ∙ c .before .if1 .taken) in
+    let f = frame (a .idm .now) (a .nbw) (a .bytes .now) (k .1) in (
       ap (λ d. decoded (take (d .count) (blockNumbers (d .blocks))) (take (16 * d .count) (d .bytes))) (c .carried .ensures) ∙ carried-viewed (a .bytes .now) f ∙ sym (k .0),
       c .carried .ensures ∙ ap commandAs (sym (k .0)),
     )
@@ -28,7 +28,7 @@ returns c =
 returns-2 : tie.Need-returns-2
 returns-2 c =
     let a = c .before .before .before .args in
-    let e = decode-refused (a .number .now) (a .nbw) (a .nmaxb) (a .bytes .now) (sym (c .before .is-command .ensures) ∙ c .if1 .left) in
+    let e = decode-refused (a .idm .now) (a .nbw) (a .nmaxb) (a .bytes .now) (sym (c .before .is-command .ensures) ∙ c .if1 .left) in
     (sym e, ap commandAs (sym e))
 
 pub decode-spec : {M : Type 1} → statement M

@@ -16,7 +16,7 @@ returns c =
     let a = at-numbers .before .before .before .args in
     let r = at-encode .encode-parts .ensures in
     let room = length (a .bytes .now) in
-    let e = ap (λ bs. encode (a .number .now) (a .nbw) (a .nmaxb) (a .command .count) bs (a .command .bytes) room) (at-numbers .block-numbers .ensures) in
+    let e = ap (λ bs. encode (a .idm .now) (a .nbw) (a .nmaxb) (a .command .count) bs (a .command .bytes) room) (at-numbers .block-numbers .ensures) in
     (r .0 ∙ ap countOf e, r .1 ∙ ap (outputInto (a .bytes .now)) e)
 
 pub encode-spec : {M : Type 1} → statement M

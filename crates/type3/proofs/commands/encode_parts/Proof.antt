@@ -17,7 +17,7 @@ returns : tie.Need-returns
 returns c =
     let a = c .before .before .before .before .before .args in
     let w = c .before .well-named in
-    let e = encode-unnamed (a .number) (a .nbw) (a .nmaxb) (a .count) (a .blocks .now) (a .sixteens .now) (length (a .bytes .now)) (sym (w .ensures) ∙ not-true (w .result) (c .if1 .taken)) in
+    let e = encode-unnamed (a .idm) (a .nbw) (a .nmaxb) (a .count) (a .blocks .now) (a .blockdata .now) (length (a .bytes .now)) (sym (w .ensures) ∙ not-true (w .result) (c .if1 .taken)) in
     (sym (ap countOf e), sym (ap (outputInto (a .bytes .now)) e))
 
 -- the blocks that are used
@@ -37,7 +37,7 @@ returns-2 : tie.Need-returns-2
 returns-2 c =
     let a = c .before .before .before .before .before .before .args in
     let w = c .before .before .well-named in
-    let e = encode-short (a .number) (a .nbw) (a .nmaxb) (a .count) (a .blocks .now) (a .sixteens .now) (length (a .bytes .now)) (omega arith) (omega arith) (omega arith) (sym (w .ensures) ∙ not-false (w .result) (c .before .if1 .left)) (omega arith) in
+    let e = encode-short (a .idm) (a .nbw) (a .nmaxb) (a .count) (a .blocks .now) (a .blockdata .now) (length (a .bytes .now)) (omega arith) (omega arith) (omega arith) (sym (w .ensures) ∙ not-false (w .result) (c .before .if1 .left)) (omega arith) in
     (sym (ap countOf e), sym (ap (outputInto (a .bytes .now)) e))
 
 slice-aggregate-put : tie.Need-slice-aggregate-put
@@ -47,7 +47,7 @@ slice-aggregate-put-2 : tie.Need-slice-aggregate-put-2
 slice-aggregate-put-2 c =
     let a = c .before .before .before .before .before .before .before .before .args in
     let u = blocks-used (c .before .before .before) in
-    sym (length-take-le (16 * a .count) (a .sixteens .now) (omega arith))
+    sym (length-take-le (16 * a .count) (a .blockdata .now) (omega arith))
 
 put-requires : tie.Need-put-requires
 put-requires c κs =
@@ -56,7 +56,7 @@ put-requires c κs =
     record {
       few = omega arith;
       each-byte = λ i l. nameable-each (a .nmaxb) (take (a .count) (a .blocks .now)) (u .named) i l .1;
-      sixteens = omega (arith, length-take-le (16 * a .count) (a .sixteens .now) (omega arith));
+      blockdata = omega (arith, length-take-le (16 * a .count) (a .blockdata .now) (omega arith));
       room = omega arith;
     }
 
@@ -64,7 +64,7 @@ returns-3 : tie.Need-returns-3
 returns-3 c =
     let a = c .before .before .before .before .before .before .before .before .before .before .before .before .args in
     let w = c .before .before .before .before .before .before .before .before .well-named in
-    let e = encode-written (a .number) (a .nbw) (a .nmaxb) (a .count) (a .blocks .now) (a .sixteens .now) (length (a .bytes .now)) (omega arith) (omega arith) (omega arith) (sym (w .ensures) ∙ not-false (w .result) (c .before .before .before .before .before .before .before .if1 .left)) (omega arith) in
+    let e = encode-written (a .idm) (a .nbw) (a .nmaxb) (a .count) (a .blocks .now) (a .blockdata .now) (length (a .bytes .now)) (omega arith) (omega arith) (omega arith) (sym (w .ensures) ∙ not-false (w .result) (c .before .before .before .before .before .before .before .if1 .left)) (omega arith) in
     (sym (ap countOf e), c .before .before .put .ensures ∙ sym (ap (outputInto (a .bytes .now)) e))
 
 pub encode-parts-spec : {M : Type 1} → statement M

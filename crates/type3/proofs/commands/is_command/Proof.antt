@@ -14,7 +14,7 @@ use Rattle.type3.proofs.commands.is_command.Tie as tie
 blocks-fit-requires : tie.Need-blocks-fit-requires
 blocks-fit-requires c κs =
     let a = c .before .before .before .before .args in
-    frame (a .number .now) (a .nbw) (a .bytes .now) (sym (c .before .is-framed .ensures) ∙ c .if1 .taken)
+    frame (a .idm .now) (a .nbw) (a .bytes .now) (sym (c .before .is-framed .ensures) ∙ c .if1 .taken)
 
 returns : tie.Need-returns
 returns c =
@@ -22,14 +22,14 @@ returns c =
     let bs = a .bytes .now in
     let named = nameable (a .nmaxb) (numbers (byte bs 12) (drop 13 bs)) in
     c .blocks-fit .ensures
-    ∙ sym (is-command-by (a .number .now) (a .nbw) (a .nmaxb) bs (omega arith) ∙ ap (λ f. f && named) (sym (c .before .before .is-framed .ensures) ∙ c .before .if1 .taken))
+    ∙ sym (is-command-by (a .idm .now) (a .nbw) (a .nmaxb) bs (omega arith) ∙ ap (λ f. f && named) (sym (c .before .before .is-framed .ensures) ∙ c .before .if1 .taken))
 
 returns-2 : tie.Need-returns-2
 returns-2 c =
     let a = c .before .before .before .before .args in
     let bs = a .bytes .now in
     let named = nameable (a .nmaxb) (numbers (byte bs 12) (drop 13 bs)) in
-    sym (is-command-by (a .number .now) (a .nbw) (a .nmaxb) bs (omega arith) ∙ ap (λ f. f && named) (sym (c .before .is-framed .ensures) ∙ c .if1 .left))
+    sym (is-command-by (a .idm .now) (a .nbw) (a .nmaxb) bs (omega arith) ∙ ap (λ f. f && named) (sym (c .before .is-framed .ensures) ∙ c .if1 .left))
 
 pub is-command-spec : {M : Type 1} → statement M
 is-command-spec = tie.close

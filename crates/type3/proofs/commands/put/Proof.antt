@@ -15,10 +15,10 @@ returns c =
     let a = s .args in
     let bs = a .blocks .now in
     c .before .before .store2 .ensures
-    ∙ ap (λ t. sets t (13 + 2 * length bs) (a .sixteens .now)) (c .before .before .before .before .before .before .put .ensures)
-    ∙ ap (λ t. sets (sets t 13 (namesBytes bs)) (13 + 2 * length bs) (a .sixteens .now)) (c .before .before .before .before .before .before .before .before .before .before .store .ensures)
-    ∙ ap (λ o. sets (sets (sets (a .bytes .now) 0 o) 13 (namesBytes bs)) (13 + 2 * length bs) (a .sixteens .now)) (c .before .before .before .before .before .before .before .before .before .before .before .before .before .opening .ensures)
-    ∙ command-stored (a .bytes .now) (a .number) bs (a .sixteens .now) (search needs) (s .pre .sixteens) (s .pre .room)
+    ∙ ap (λ t. sets t (13 + 2 * length bs) (a .blockdata .now)) (c .before .before .before .before .before .before .put .ensures)
+    ∙ ap (λ t. sets (sets t 13 (namesBytes bs)) (13 + 2 * length bs) (a .blockdata .now)) (c .before .before .before .before .before .before .before .before .before .before .store .ensures)
+    ∙ ap (λ o. sets (sets (sets (a .bytes .now) 0 o) 13 (namesBytes bs)) (13 + 2 * length bs) (a .blockdata .now)) (c .before .before .before .before .before .before .before .before .before .before .before .before .before .opening .ensures)
+    ∙ command-stored (a .bytes .now) (a .idm) bs (a .blockdata .now) (search needs) (s .pre .blockdata) (s .pre .room)
 
 pub put-spec : {M : Type 1} → statement M
 put-spec =

@@ -3,14 +3,14 @@ use mathlib.Core.Path.{sym, ap, _∙_}
 use borrow.Author.Needs.{needs}
 use lib.ListN.{length}
 use Rattle.tag.specs.Bytes.{byte}
-use Rattle.tag.specs.Stores.{done}
+use Rattle.tag.specs.Stores.{tagAfter}
 use Rattle.tag.specs.Answers.{storingOf}
 use Rattle.tag.specs.Model.{imageAfter}
 use Rattle.type3.specs.Attributes.{nmaxbOf}
 use Rattle.type3.specs.Codec.{decode, commandOf}
 use Rattle.type3.specs.Views.Framing.{isCommand}
 use Rattle.type3.proofs.Reading.{fault-some, fault-none, fine-long, attested}
-use Rattle.type3.proofs.Modelling.{decode-by, ill-command, model-refused, model-ill, model-stored}
+use Rattle.type3.proofs.Modelling.{decode-by, malformed-is, model-refused, model-malformed, model-stored}
 use Rattle.type3.proofs.model.model.Statement.{statement}
 use Rattle.type3.proofs.model.model.Tie as tie
 
@@ -19,7 +19,7 @@ returns c =
     let at-fault = c .before in
     let a = at-fault .before .before .before .before .args in
     let i = a .image .now in
-    let e = model-refused (a .number .now) i (a .command .now) (at-fault .fault .result) (sym (at-fault .fault .ensures) ∙ fault-some _ (c .if1 .taken)) in
+    let e = model-refused (a .idm .now) i (a .command .now) (at-fault .fault .result) (sym (at-fault .fault .ensures) ∙ fault-some _ (c .if1 .taken)) in
     (sym (ap storingOf e), sym (ap (imageAfter i) e))
 
 said-requires : tie.Need-said-requires
@@ -41,9 +41,9 @@ returns-2 c =
     let said = at-said .said .result in
     let known = attested i passes said (at-said .said .ensures) in
     let t = at-take .take-command .ensures in
-    let e = decode-by (length i) (a .number .now) (said .nbw) (said .nmaxb) (a .command .now) i (known .says .nbw-is) (known .says .nmaxb-is) (known .reach) in
-    let m = model-stored (a .number .now) i (a .command .now) passes (ap isCommand (sym e) ∙ sym (t .0) ∙ c .if2 .taken) in
-    (sym (ap storingOf m), t .1 ∙ ap (λ d. done i (commandOf d)) e ∙ sym (ap (imageAfter i) m))
+    let e = decode-by (length i) (a .idm .now) (said .nbw) (said .nmaxb) (a .command .now) i (known .says .nbw-is) (known .says .nmaxb-is) (known .reach) in
+    let m = model-stored (a .idm .now) i (a .command .now) passes (ap isCommand (sym e) ∙ sym (t .0) ∙ c .if2 .taken) in
+    (sym (ap storingOf m), t .1 ∙ ap (λ d. tagAfter i (commandOf d)) e ∙ sym (ap (imageAfter i) m))
 
 returns-3 : tie.Need-returns-3
 returns-3 c =
@@ -57,13 +57,13 @@ returns-3 c =
     let said = at-said .said .result in
     let known = attested i passes said (at-said .said .ensures) in
     let t = at-take .take-command .ensures in
-    let e = decode-by (length i) (a .number .now) (said .nbw) (said .nmaxb) (a .command .now) i (known .says .nbw-is) (known .says .nmaxb-is) (known .reach) in
+    let e = decode-by (length i) (a .idm .now) (said .nbw) (said .nmaxb) (a .command .now) i (known .says .nbw-is) (known .says .nmaxb-is) (known .reach) in
     let q = ap isCommand (sym e) ∙ sym (t .0) ∙ c .if2 .left in
-    let m = model-ill (a .number .now) i (a .command .now) passes q in (
+    let m = model-malformed (a .idm .now) i (a .command .now) passes q in (
       sym (ap storingOf m),
       t .1
-          ∙ ap (λ d. done i (commandOf d)) e
-          ∙ ap (done i) (ill-command (decode (a .number .now) (byte i 2) (nmaxbOf i) (a .command .now)) q)
+          ∙ ap (λ d. tagAfter i (commandOf d)) e
+          ∙ ap (tagAfter i) (malformed-is (decode (a .idm .now) (byte i 2) (nmaxbOf i) (a .command .now)) q)
           ∙ sym (ap (imageAfter i) m),
     )
 

@@ -4,7 +4,7 @@ use native.Mathlib.Omega.{arith}
 use borrow.Author.Needs.{needs}
 use borrow.Author.Tests.{not-true, not-false}
 use lib.ListN.{length}
-use Rattle.tag.specs.Stores.{done}
+use Rattle.tag.specs.Stores.{tagAfter}
 use Rattle.type3.specs.Codec.{commandOf}
 use Rattle.type3.specs.Views.Framing.{isCommand}
 use Rattle.type3.proofs.Decoding.{decode-refused}
@@ -16,32 +16,32 @@ use Rattle.type3.proofs.model.take_command.Tie as tie
 returns : tie.Need-returns
 returns c =
     let a = c .before .before .before .before .before .args in
-    let e = decode-past (length (a .image .now)) (a .number .now) (a .nbw) (a .nmaxb) (a .command .now) (omega (arith, c .before .before .block .ensures)) in
-    (sym (ap isCommand e), sym (ap (λ d. done (a .image .now) (commandOf d)) e))
+    let e = decode-past (length (a .image .now)) (a .idm .now) (a .nbw) (a .nmaxb) (a .command .now) (omega (arith, c .before .before .block .ensures)) in
+    (sym (ap isCommand e), sym (ap (λ d. tagAfter (a .image .now) (commandOf d)) e))
 
 returns-2 : tie.Need-returns-2
 returns-2 c =
     let a = c .before .before .before .before .before .before .before .args in
     let q = sym (c .before .is-command .ensures) ∙ not-true _ (c .if2 .taken) in
-    let e = decode-inside (length (a .image .now)) (a .number .now) (a .nbw) (a .nmaxb) (a .command .now) (omega (arith, c .before .before .before .before .block .ensures))
-    ∙ decode-refused (a .number .now) (a .nbw) (a .nmaxb) (a .command .now) q in
-    (sym (ap isCommand e), sym (ap (λ d. done (a .image .now) (commandOf d)) e))
+    let e = decode-inside (length (a .image .now)) (a .idm .now) (a .nbw) (a .nmaxb) (a .command .now) (omega (arith, c .before .before .before .before .block .ensures))
+    ∙ decode-refused (a .idm .now) (a .nbw) (a .nmaxb) (a .command .now) q in
+    (sym (ap isCommand e), sym (ap (λ d. tagAfter (a .image .now) (commandOf d)) e))
 
 store-blocks-requires : tie.Need-store-blocks-requires
 store-blocks-requires c κs =
     let a = c .before .before .before .before .before .before .before .before .args in
     let q = sym (c .before .before .is-command .ensures) ∙ not-false _ (c .before .if2 .left) in
-    command-storable (a .number .now) (a .nbw) (a .nmaxb) (a .command .now) q (length (a .image .now)) (omega (arith, c .before .before .before .before .before .block .ensures))
+    command-storable (a .idm .now) (a .nbw) (a .nmaxb) (a .command .now) q (length (a .image .now)) (omega (arith, c .before .before .before .before .before .block .ensures))
 
 returns-3 : tie.Need-returns-3
 returns-3 c =
     let a = c .before .before .before .before .before .before .before .before .before .before .before .args in
     let i = a .image .now in
     let q = sym (c .before .before .before .before .before .is-command .ensures) ∙ not-false _ (c .before .before .before .before .if2 .left) in
-    let e = decode-inside (length i) (a .number .now) (a .nbw) (a .nmaxb) (a .command .now) (omega (arith, c .before .before .before .before .before .before .before .before .block .ensures)) in (
+    let e = decode-inside (length i) (a .idm .now) (a .nbw) (a .nmaxb) (a .command .now) (omega (arith, c .before .before .before .before .before .before .before .before .block .ensures)) in (
       sym (ap isCommand e ∙ q),
       c .before .before .store-blocks .ensures
-          ∙ sym (ap (λ d. done i (commandOf d)) e ∙ ap (done i) (command-stores (a .number .now) (a .nbw) (a .nmaxb) (a .command .now) q)),
+          ∙ sym (ap (λ d. tagAfter i (commandOf d)) e ∙ ap (tagAfter i) (command-stores (a .idm .now) (a .nbw) (a .nmaxb) (a .command .now) q)),
     )
 
 pub take-command-spec : {M : Type 1} → statement M

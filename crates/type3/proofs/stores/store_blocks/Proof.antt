@@ -36,10 +36,10 @@ loop-again c =
     let a = c .before .before .before .before .before .before .before .before .before .before .args in
     let b = c .before .before .before .before .before .before .wide .result in
     let bytes = a .command .now in
-    let done = c .before .before .store-block .ensures in (
+    let laid-so-far = c .before .before .store-block .ensures in (
       search needs,
-      ap length done ∙ length-sets (l .image) (16 * byte bytes (14 + 2 * l .k)) (take 16 (drop (13 + 2 * b + 16 * l .k) bytes)) ∙ l .inv .1,
-      l .inv .2 ∙ puts-next (l .image) bytes b (l .k) (omega arith) ∙ ap (λ j. puts j (storesFrom bytes b (l .k + 1))) (sym done),
+      ap length laid-so-far ∙ length-sets (l .image) (16 * byte bytes (14 + 2 * l .k)) (take 16 (drop (13 + 2 * b + 16 * l .k) bytes)) ∙ l .inv .1,
+      l .inv .2 ∙ puts-next (l .image) bytes b (l .k) (omega arith) ∙ ap (λ j. puts j (storesFrom bytes b (l .k + 1))) (sym laid-so-far),
     )
 
 returns : tie.Need-returns Inv-loop μ-loop

@@ -18,7 +18,7 @@ returns c =
     let a = at-start .args in
     let opened = at-opening .put-opening in
     let named = at-names .put-names in
-    lay-command (a .number) (0 ∷ []) (attributeBlock (a .image .now) (a .flag) (a .ln)) (a .out .now) (opened .last .1 .1 .0) (named .last .1 .0) _ 1 (search needs) refl
+    lay-command (a .idm) (0 ∷ []) (attributeBlock (a .image .now) (a .flag) (a .ln)) (a .out .now) (opened .last .1 .1 .0) (named .last .1 .0) _ 1 (search needs) refl
     (length-attribute-block (a .image .now) (a .flag) (a .ln)) (search needs) (opened .ensures) (named .ensures) (at-block .put-attribute-block .ensures)
 
 pub put-attributes-spec : {M : Type 1} → statement M

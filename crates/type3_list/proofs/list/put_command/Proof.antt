@@ -20,7 +20,7 @@ returns c =
     let bs = a .blocks .now in
     let opened = at-opening .put-opening in
     let named = at-names .put-names in
-    lay-command (a .number) bs (blocksBytes m bs) (a .out .now) (opened .last .1 .1 .0) (named .last .1 .0) _ (length bs)
+    lay-command (a .idm) bs (blocksBytes m bs) (a .out .now) (opened .last .1 .1 .0) (named .last .1 .0) _ (length bs)
     (search needs) refl (length-blocks m bs) (search needs) (opened .ensures) (named .ensures) (at-blocks .put-blocks .ensures)
 
 pub put-command-spec : {M : Type 1} → statement M

@@ -13,7 +13,7 @@ use Rattle.type3_list.proofs.Dealing.{times-more, place-more, place-fit
 use Rattle.type3_list.proofs.list.put_commands.Statement.{statement}
 use Rattle.type3_list.proofs.list.put_commands.Tie as tie
 
-record Laid (m number : List ℕ) (w turns : ℕ) (bs out₀ out : List ℕ) (at skip t : ℕ) : Type 0 where
+record Laid (m idm : List ℕ) (w turns : ℕ) (bs out₀ out : List ℕ) (at skip t : ℕ) : Type 0 where
   chosen : Chosen m bs
   dealt : Dealt (length bs) w turns
   room : 13 * turns + 18 * length bs ≤ length out₀
@@ -21,13 +21,13 @@ record Laid (m number : List ℕ) (w turns : ℕ) (bs out₀ out : List ℕ) (at
   skipped : skip ≡ w * t
   place : at ≡ 13 * t + 18 * min (w * t) (length bs)
   same : length out ≡ length out₀
-  laid : out ≡ messageCommands number m w bs t ++ drop at out₀
+  laid : out ≡ messageCommands idm m w bs t ++ drop at out₀
 
 abbrev Inv-loop : tie.InvT-loop
-Inv-loop message number w turns blocks out₀ at₀ skip₀ t₀ out at skip t = Laid message number w turns blocks out₀ out at skip t
+Inv-loop message idm w turns blocks out₀ at₀ skip₀ t₀ out at skip t = Laid message idm w turns blocks out₀ out at skip t
 
 abbrev μ-loop : tie.MeasureT-loop
-μ-loop message number w turns blocks out₀ at₀ skip₀ t₀ out at skip t = turns - t
+μ-loop message idm w turns blocks out₀ at₀ skip₀ t₀ out at skip t = turns - t
 
 loop-holds : tie.Need-loop-holds Inv-loop μ-loop
 unfolding messageCommands
@@ -87,13 +87,13 @@ loop-again c =
     let a = at-start .args in
     let l = at-loop .loop in
     let m = a .message .now in
-    let n = a .number in
+    let n = a .idm in
     let bs = a .blocks .now in
     let w = a .w in
     let count = at-smaller .smaller .result in
     let some = left (at-smaller .before) in
     let more = times-more w (l .t) in
-    let done = messageCommands n m w bs (l .t) in
+    let laid-so-far = messageCommands n m w bs (l .t) in
     let part = take (l .skip + count - l .skip) (drop (l .skip) bs) in
     let least : count ≡ min w (length bs - l .skip) = at-smaller .smaller .ensures in
     let taken : count ≡ min w (length bs - w * l .t) = least ∙ ap (λ s. min w (length bs - s)) (l .inv .skipped) in
@@ -101,9 +101,9 @@ loop-again c =
     let width : l .skip + count - l .skip ≡ min w (length bs - l .skip) = omega arith in
     let is : part ≡ take w (drop (w * l .t) bs)
     = ap (λ k. take k (drop (l .skip) bs)) width ∙ dealt-part bs w (l .skip) ∙ ap (λ s. take w (drop s bs)) (l .inv .skipped) in
-    let long : length done ≡ l .at = length-commands n m w bs (l .t) (search needs) ∙ sym (l .inv .place) in
+    let long : length laid-so-far ≡ l .at = length-commands n m w bs (l .t) (search needs) ∙ sym (l .inv .place) in
     let fits = place-fits (length bs) w (l .t) (a .turns) (l .at) count (l .inv .place) taken (at-smaller .before .loop-test .taken) in
-    let put = lay-part (l .out) done (a .out .now) (l .at) (l .inv .laid) long (messageCommand n m part) _ (length (l .out)) (13 + 18 * length part) (omega (arith, many, fits, l .inv .room, l .inv .same)) (omega arith)
+    let put = lay-part (l .out) laid-so-far (a .out .now) (l .at) (l .inv .laid) long (messageCommand n m part) _ (length (l .out)) (13 + 18 * length part) (omega (arith, many, fits, l .inv .room, l .inv .same)) (omega arith)
     (at-put .put-command .ensures) in
     record {
       chosen = l .inv .chosen;
@@ -115,8 +115,8 @@ loop-again c =
       same = search needs;
       laid =
           put
-          ∙ ap (λ k. (done ++ messageCommand n m part) ++ drop (l .at + (13 + 18 * k)) (a .out .now)) many
-          ∙ ap (λ x. (done ++ messageCommand n m x) ++ drop (l .at + (13 + 18 * count)) (a .out .now)) is
+          ∙ ap (λ k. (laid-so-far ++ messageCommand n m part) ++ drop (l .at + (13 + 18 * k)) (a .out .now)) many
+          ∙ ap (λ x. (laid-so-far ++ messageCommand n m x) ++ drop (l .at + (13 + 18 * count)) (a .out .now)) is
           ∙ ap (λ x. x ++ drop (l .at + (13 + 18 * count)) (a .out .now)) (sym (commands-more n m w bs (l .t)));
     }
 

@@ -12,8 +12,8 @@ use Rattle.type3_list.proofs.Dealing.{length-commands}
 use Rattle.type3_list.proofs.list.put_list.Statement.{statement}
 use Rattle.type3_list.proofs.list.put_list.Tie as tie
 
-number-length : (c : tie.Start) → length (c .args .number) ≡ 8
-number-length c = search needs
+idm-length : (c : tie.Start) → length (c .args .idm) ≡ 8
+idm-length c = search needs
 
 returns : tie.Need-returns
 returns c =
@@ -25,10 +25,10 @@ returns c =
     let a = at-start .args in
     let i = a .image .now in
     let m = a .message .now in
-    let n = a .number in
+    let n = a .idm in
     let bs = a .blocks .now in
     let k = length bs in
-    let eight = number-length at-start in
+    let eight = idm-length at-start in
     let last = 31 + 13 * a .turns + 18 * k in
     let shut = at-shut .put-attributes in
     let closed = attributeCommand n i 0x0F (a .ln) in

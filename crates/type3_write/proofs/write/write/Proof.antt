@@ -27,8 +27,8 @@ returns c =
     let at-start = at-attributes-of .before .before .before .before in
     let a = at-start .args in
     let checked = at-checked .checked .given in
-    let e = write-refused (a .number .now) (a .image .now) (a .message .now) (length (a .list .now)) (checked .0 .0)
-    (writing-unread (a .number .now) (a .image .now) (a .message .now) (checked .0 .0)
+    let e = write-refused (a .idm .now) (a .image .now) (a .message .now) (length (a .list .now)) (checked .0 .0)
+    (writing-unread (a .idm .now) (a .image .now) (a .message .now) (checked .0 .0)
     (sym (at-attributes-of .attributes-of .ensures .0) ∙ ap checkedAs (checked .1))) in
     (sym (ap countOf e), sym (ap (outputInto (a .list .now)) e))
 

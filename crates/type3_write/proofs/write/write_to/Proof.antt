@@ -26,21 +26,21 @@ returns c =
     let at-start = start (c .before) in
     let a = at-start .args in
     let refusal = c .before .refusal in
-    let e = write-refused (a .number) (a .image .now) (a .message .now) (length (a .list .now)) (refusal .result)
-    (writing-refused (a .number) (a .image .now) (a .message .now) (a .a) (at-start .pre) (refusal .result) (refusal .ensures) (c .if1 .taken)) in
+    let e = write-refused (a .idm) (a .image .now) (a .message .now) (length (a .list .now)) (refusal .result)
+    (writing-refused (a .idm) (a .image .now) (a .message .now) (a .a) (at-start .pre) (refusal .result) (refusal .ensures) (c .if1 .taken)) in
     (sym (ap countOf e), sym (ap (outputInto (a .list .now)) e))
 
 -- ---- where writing is not refused
 
-is-planned : (c : tie.Else1) → let a = start (c .before) .args in writing (type3 (a .number)) (a .image .now) (a .message .now) ≡ written (plan (a .image .now) (a .message .now))
+is-planned : (c : tie.Else1) → let a = start (c .before) .args in writing (type3 (a .idm)) (a .image .now) (a .message .now) ≡ written (plan (a .image .now) (a .message .now))
 is-planned c =
     let at-start = start (c .before) in
     let a = at-start .args in
     let refusal = c .before .refusal in
-    writing-planned (a .number) (a .image .now) (a .message .now) (a .a) (at-start .pre) (refusal .result) (refusal .ensures) (c .if1 .left)
+    writing-planned (a .idm) (a .image .now) (a .message .now) (a .a) (at-start .pre) (refusal .result) (refusal .ensures) (c .if1 .left)
 
 bounds : (c : tie.Else1) → let a = start (c .before) .args in (blocksFor (length (a .message .now)) ≤ 255) × (0 < blocksPerCommand (byte (a .image .now) 2))
-bounds c = let a = start (c .before) .args in planned-bounds (a .number) (a .image .now) (a .message .now) (is-planned c)
+bounds c = let a = start (c .before) .args in planned-bounds (a .idm) (a .image .now) (a .message .now) (is-planned c)
 
 blocks-to-write-requires : tie.Need-blocks-to-write-requires
 blocks-to-write-requires c κs =
@@ -81,7 +81,7 @@ which c = c .before .before .blocks-to-write .ensures .1 ∙ ap (run 1) (at-smal
 length-which : (c : tie.After-turns-for) → let blocks = c .before .before .blocks-to-write in length (take (blocks .result) (blocks .last .1 .0)) ≡ blocks .result
 length-which c = ap length (which c) ∙ length-run (blocksFor (length (at-start c .args .message .now))) 1 ∙ sym (many c)
 
-list-planned : (c : tie.After-turns-for) → let a = at-start c .args in Planned (a .number) (a .image .now) (a .message .now) (at-smaller c .smaller .result) (c .turns-for .result)
+list-planned : (c : tie.After-turns-for) → let a = at-start c .args in Planned (a .idm) (a .image .now) (a .message .now) (at-smaller c .smaller .result) (c .turns-for .result)
 list-planned c =
     let s = at-start c in
     let a = s .args in
@@ -103,7 +103,7 @@ returns-2 : tie.Need-returns-2
 returns-2 c =
     let at-turns = c .before in
     let a = at-start at-turns .args in
-    let e = write-short (a .number) (a .image .now) (a .message .now) (length (a .list .now)) (at-smaller at-turns .smaller .result) (at-turns .turns-for .result)
+    let e = write-short (a .idm) (a .image .now) (a .message .now) (length (a .list .now)) (at-smaller at-turns .smaller .result) (at-turns .turns-for .result)
     (list-planned at-turns) (omega (arith, many at-turns)) in
     (sym (ap countOf e), sym (ap (outputInto (a .list .now)) e))
 
@@ -128,8 +128,8 @@ returns-3 c =
     let w = at-smaller at-turns .smaller .result in
     let t = at-turns .turns-for .result in
     let g = list-planned at-turns in (
-      sym (ap countOf (write-list (a .number) (a .image .now) (a .message .now) (length (a .list .now)) w t g (omega (arith, many at-turns)))),
-      write-laid (a .number) (a .image .now) (a .message .now) (a .list .now) _ _ (a .a .ln) w t g (at-open .pre .known .says .ln-is) (which at-turns) (omega (arith, many at-turns)) (at-put .put-list .ensures),
+      sym (ap countOf (write-list (a .idm) (a .image .now) (a .message .now) (length (a .list .now)) w t g (omega (arith, many at-turns)))),
+      write-laid (a .idm) (a .image .now) (a .message .now) (a .list .now) _ _ (a .a .ln) w t g (at-open .pre .known .says .ln-is) (which at-turns) (omega (arith, many at-turns)) (at-put .put-list .ensures),
     )
 
 pub write-to-spec : {M : Type 1} → statement M

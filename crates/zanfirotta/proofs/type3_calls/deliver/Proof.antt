@@ -1,0 +1,18 @@
+-- `type3_calls::deliver` meets its contract. Assumes nothing.
+use mathlib.Core.Path.{refl, ap, _∙_}
+use borrow.Author.Needs.{needs}
+use lib.ListN.{take}
+use Rattle.tag.specs.Bytes.{overwrite}
+use Rattle.zanfirotta.proofs.type3_calls.deliver.Statement.{statement}
+use Rattle.zanfirotta.proofs.type3_calls.deliver.Tie as tie
+
+returns : tie.Need-returns
+returns c =
+    let at-named = c .before .before .before .before in
+    let at-numbers = at-named .before .before in
+    let a = at-numbers .before .before .args in
+    let stored = c .store-used .ensures in
+    (refl, (stored .0 ∙ ap (λ l. overwrite (take (a .command .count) l) (a .blocks .now)) (at-numbers .block-numbers .ensures), stored .1))
+
+pub deliver-spec : {M : Type 1} → statement M
+deliver-spec = tie.close (tie.spec (λ c κs. search needs) (λ c. search needs) (λ c. search needs) (λ c κs. search needs) returns)
