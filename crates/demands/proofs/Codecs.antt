@@ -47,9 +47,9 @@ codec-3 idm eight = record { decode-encode = there; encode-decode = back }
     there : (nbw nmaxb b : ℕ) (bs bytes : List ℕ) (room n : ℕ) (all : List ℕ) → 16 * b ≤ length bytes
         → codec3.encode idm nbw nmaxb b bs bytes room ≡ output n all
         → (codec3.decode idm nbw nmaxb all ≡ codec3.decoded (take b bs) (take (16 * b) bytes)) × (n ≡ length all)
-    there nbw nmaxb b bs bytes room n all l e = go (leb b (length bs)) refl (codec3.wellNamed nbw nmaxb (take b bs)) refl
+    there nbw nmaxb b bs bytes room n all l e = go (leb b (length bs)) refl (codec3.wellListed nbw nmaxb (take b bs)) refl
       where
-        go : (s : Bool) → leb b (length bs) ≡ s → (t : Bool) → codec3.wellNamed nbw nmaxb (take b bs) ≡ t
+        go : (s : Bool) → leb b (length bs) ≡ s → (t : Bool) → codec3.wellListed nbw nmaxb (take b bs) ≡ t
             → (codec3.decode idm nbw nmaxb all ≡ codec3.decoded (take b bs) (take (16 * b) bytes)) × (n ≡ length all)
         go false p t q = let f : refused-output malformed-command ≡ output n all = rw p at e in absurd (nope (cc))
         go true p false q = let f : refused-output malformed-command ≡ output n all = rw (p, q) at e in absurd (nope (cc))

@@ -19,40 +19,40 @@ use Rattle.tag.proofs.Addresses.{Above, Rising, above-rising}
 use Rattle.tag.proofs.Each.{Each}
 use Rattle.tag.proofs.Sending.{blockNumber, Whole}
 use Rattle.type3.specs.Update.{blocksPerCommand}
-use Rattle.type3.specs.Codec.{namesBytes, Names, no-names, names, withName, namesOf, nameable, wellNamed, opening, commandBytes, Decoded, undecoded, decoded, decodeBy, decode, storesOf, commandOf, storedBytes, encoded, span}
+use Rattle.type3.specs.Codec.{blockListBytes, BlockList, no-block-list, block-list, withElement, blockListOf, listable, wellListed, opening, commandBytes, Decoded, undecoded, decoded, decodeBy, decode, storesOf, commandOf, storedBytes, encoded, span}
 
 -- ---- block names
 
-names-bytes : (bs r : List ℕ) → namesOf (length bs) (namesBytes bs ++ r) ≡ names bs r
-unfolding namesOf
-names-bytes [] r = refl
-names-bytes (b ∷ bs) r = ap (withName b) (names-bytes bs r)
+block-list-bytes : (bs r : List ℕ) → blockListOf (length bs) (blockListBytes bs ++ r) ≡ block-list bs r
+unfolding blockListOf
+block-list-bytes [] r = refl
+block-list-bytes (b ∷ bs) r = ap (withElement b) (block-list-bytes bs r)
 
-names-is : (k : ℕ) (bytes bs r : List ℕ) → namesOf k bytes ≡ names bs r → (length bs ≡ k) × (bytes ≡ namesBytes bs ++ r)
-unfolding namesOf
-names-is zero bytes bs r e =
+block-list-is : (k : ℕ) (bytes bs r : List ℕ) → blockListOf k bytes ≡ block-list bs r → (length bs ≡ k) × (bytes ≡ blockListBytes bs ++ r)
+unfolding blockListOf
+block-list-is zero bytes bs r e =
     let none : bs ≡ [] = cc in
     rw none (refl, cc)
-names-is (suc k) [] bs r e = absurd (nope (cc))
-names-is (suc k) (t ∷ []) bs r e = absurd (nope (cc))
-names-is (suc k) (t ∷ b ∷ rest) bs r e = go (eqb t 0x80) refl (namesOf k rest) refl (names-is k rest)
+block-list-is (suc k) [] bs r e = absurd (nope (cc))
+block-list-is (suc k) (t ∷ []) bs r e = absurd (nope (cc))
+block-list-is (suc k) (t ∷ b ∷ rest) bs r e = go (eqb t 0x80) refl (blockListOf k rest) refl (block-list-is k rest)
   where
-    go : (q : Bool) → eqb t 0x80 ≡ q → (ns : Names) → namesOf k rest ≡ ns
-        → ((cs r′ : List ℕ) → namesOf k rest ≡ names cs r′ → (length cs ≡ k) × (rest ≡ namesBytes cs ++ r′))
-        → (length bs ≡ suc k) × (t ∷ b ∷ rest ≡ namesBytes bs ++ r)
-    go false q ns f ih = let z : no-names ≡ names bs r = rw (q, namesOf) at e in absurd (nope (cc))
-    go true q no-names f ih = let z : no-names ≡ names bs r = rw (q, f, namesOf) at e in absurd (nope (cc))
-    go true q (names cs r′) f ih =
-        let z : names (b ∷ cs) r′ ≡ names bs r = rw (q, f, namesOf) at e in
+    go : (q : Bool) → eqb t 0x80 ≡ q → (ns : BlockList) → blockListOf k rest ≡ ns
+        → ((cs r′ : List ℕ) → blockListOf k rest ≡ block-list cs r′ → (length cs ≡ k) × (rest ≡ blockListBytes cs ++ r′))
+        → (length bs ≡ suc k) × (t ∷ b ∷ rest ≡ blockListBytes bs ++ r)
+    go false q ns f ih = let z : no-block-list ≡ block-list bs r = rw (q, blockListOf) at e in absurd (nope (cc))
+    go true q no-block-list f ih = let z : no-block-list ≡ block-list bs r = rw (q, f, blockListOf) at e in absurd (nope (cc))
+    go true q (block-list cs r′) f ih =
+        let z : block-list (b ∷ cs) r′ ≡ block-list bs r = rw (q, f, blockListOf) at e in
         let more : bs ≡ b ∷ cs = cc in
         let rests : r′ ≡ r = cc in
         let h = ih cs r′ f in
         let type : t ≡ 0x80 = eqb-true t 0x80 q in
         rw more (ap suc (h .0), cc (h .1))
 
-pub length-names : (bs : List ℕ) → length (namesBytes bs) ≡ 2 * length bs
-length-names [] = refl
-length-names (b ∷ bs) = omega (arith, length-names bs)
+pub length-block-list : (bs : List ℕ) → length (blockListBytes bs) ≡ 2 * length bs
+length-block-list [] = refl
+length-block-list (b ∷ bs) = omega (arith, length-block-list bs)
 
 -- a number below rising ones is none of them, so that none is named twice
 above-has : (hi x y : ℕ) (us : List ℕ) → Above hi x us → y ≤ x → has y us ≡ false
@@ -60,17 +60,17 @@ above-has hi x y [] h l = refl
 above-has hi x y (z ∷ us) h l =
     rw (ne-eqb y z (λ e. omega (arith, h .0)), above-has hi z y us (h .1) (omega (arith, h .0)))
 
-pub rising-nameable : (hi nmaxb : ℕ) (bs : List ℕ) → Rising hi bs → Each (λ b. b ≤ nmaxb) bs → nmaxb ≤ 255 → nameable nmaxb bs ≡ true
-rising-nameable hi nmaxb [] h l m = refl
-rising-nameable hi nmaxb (b ∷ bs) h l m =
+pub rising-listable : (hi nmaxb : ℕ) (bs : List ℕ) → Rising hi bs → Each (λ b. b ≤ nmaxb) bs → nmaxb ≤ 255 → listable nmaxb bs ≡ true
+rising-listable hi nmaxb [] h l m = refl
+rising-listable hi nmaxb (b ∷ bs) h l m =
     let small : leb b nmaxb ≡ true = le-leb b nmaxb (l .0) in
     let a-byte : leb b 255 ≡ true = le-leb b 255 (omega (arith, l .0)) in
-    rw (small, a-byte, above-has hi b b bs h (omega arith)) (rising-nameable hi nmaxb bs (above-rising hi b bs h) (l .1) m)
+    rw (small, a-byte, above-has hi b b bs h (omega arith)) (rising-listable hi nmaxb bs (above-rising hi b bs h) (l .1) m)
 
 -- a command names at least one block
-named-some : (nbw nmaxb : ℕ) (bs : List ℕ) → wellNamed nbw nmaxb bs ≡ true → 1 ≤ length bs
-named-some nbw nmaxb bs h =
-    leb-true 1 (length bs) (and-three (leb 1 (length bs)) (leb (length bs) (blocksPerCommand nbw)) (nameable nmaxb bs) h .0)
+listed-some : (nbw nmaxb : ℕ) (bs : List ℕ) → wellListed nbw nmaxb bs ≡ true → 1 ≤ length bs
+listed-some nbw nmaxb bs h =
+    leb-true 1 (length bs) (and-three (leb 1 (length bs)) (leb (length bs) (blocksPerCommand nbw)) (listable nmaxb bs) h .0)
 
 -- ---- commands
 
@@ -83,51 +83,51 @@ past-count o c rest l = sym (drop-drop 1 12 (o ++ c ∷ rest)) ∙ ap (drop 1) (
 
 -- a command taken apart, whatever opens it
 opened : (o : List ℕ) (nbw nmaxb c : ℕ) (rest : List ℕ) → length o ≡ 12
-    → cond (same (take 12 (o ++ c ∷ rest)) o) (decodeBy nbw nmaxb (namesOf (byte (o ++ c ∷ rest) 12) (drop 13 (o ++ c ∷ rest)))) (undecoded (positioned malformed-command 0))
-    ≡ decodeBy nbw nmaxb (namesOf c rest)
+    → cond (same (take 12 (o ++ c ∷ rest)) o) (decodeBy nbw nmaxb (blockListOf (byte (o ++ c ∷ rest) 12) (drop 13 (o ++ c ∷ rest)))) (undecoded (positioned malformed-command 0))
+    ≡ decodeBy nbw nmaxb (blockListOf c rest)
 opened o nbw nmaxb c rest l =
     rw (take-at o (c ∷ rest) 12 l, same-refl o, getD-at o c rest 0 12 l, past-count o c rest l)
 
 -- the opening, the count and the rest, which the definition groups otherwise
-pub grouped : (idm bs bytes : List ℕ) → commandBytes idm bs bytes ≡ opening idm ++ length bs ∷ (namesBytes bs ++ bytes)
-grouped idm bs bytes = append-assoc (opening idm) (length bs ∷ namesBytes bs) bytes
+pub grouped : (idm bs bytes : List ℕ) → commandBytes idm bs bytes ≡ opening idm ++ length bs ∷ (blockListBytes bs ++ bytes)
+grouped idm bs bytes = append-assoc (opening idm) (length bs ∷ blockListBytes bs) bytes
 
-pub decode-encode : (idm : List ℕ) (nbw nmaxb : ℕ) (bs bytes : List ℕ) → length idm ≡ 8 → wellNamed nbw nmaxb bs ≡ true
+pub decode-encode : (idm : List ℕ) (nbw nmaxb : ℕ) (bs bytes : List ℕ) → length idm ≡ 8 → wellListed nbw nmaxb bs ≡ true
     → length bytes ≡ 16 * length bs → decode idm nbw nmaxb (commandBytes idm bs bytes) ≡ decoded bs bytes
 unfolding decode decodeBy
 decode-encode idm nbw nmaxb bs bytes n h l =
     ap (decode idm nbw nmaxb) (grouped idm bs bytes)
-    ∙ opened (opening idm) nbw nmaxb (length bs) (namesBytes bs ++ bytes) (omega (arith, length-opening idm))
-    ∙ rw (names-bytes bs bytes, decodeBy, h, eq-eqb (length bytes) (16 * length bs) l)
+    ∙ opened (opening idm) nbw nmaxb (length bs) (blockListBytes bs ++ bytes) (omega (arith, length-opening idm))
+    ∙ rw (block-list-bytes bs bytes, decodeBy, h, eq-eqb (length bytes) (16 * length bs) l)
 
 -- what was decoded by its names
-decoded-names : (nbw nmaxb : ℕ) (ns : Names) (bs bytes : List ℕ) → decodeBy nbw nmaxb ns ≡ decoded bs bytes
-    → (ns ≡ names bs bytes) × (wellNamed nbw nmaxb bs ≡ true) × (length bytes ≡ 16 * length bs)
+decoded-block-list : (nbw nmaxb : ℕ) (ns : BlockList) (bs bytes : List ℕ) → decodeBy nbw nmaxb ns ≡ decoded bs bytes
+    → (ns ≡ block-list bs bytes) × (wellListed nbw nmaxb bs ≡ true) × (length bytes ≡ 16 * length bs)
 unfolding decodeBy
-decoded-names nbw nmaxb no-names bs bytes e = absurd (nope (cc))
-decoded-names nbw nmaxb (names cs r) bs bytes e = go (wellNamed nbw nmaxb cs && eqb (length r) (16 * length cs)) refl
+decoded-block-list nbw nmaxb no-block-list bs bytes e = absurd (nope (cc))
+decoded-block-list nbw nmaxb (block-list cs r) bs bytes e = go (wellListed nbw nmaxb cs && eqb (length r) (16 * length cs)) refl
   where
-    go : (w : Bool) → wellNamed nbw nmaxb cs && eqb (length r) (16 * length cs) ≡ w
-        → (names cs r ≡ names bs bytes) × (wellNamed nbw nmaxb bs ≡ true) × (length bytes ≡ 16 * length bs)
+    go : (w : Bool) → wellListed nbw nmaxb cs && eqb (length r) (16 * length cs) ≡ w
+        → (block-list cs r ≡ block-list bs bytes) × (wellListed nbw nmaxb bs ≡ true) × (length bytes ≡ 16 * length bs)
     go false q = let z : undecoded (positioned malformed-command 0) ≡ decoded bs bytes = rw q at e in absurd (nope (cc))
     go true q =
         let z : decoded cs r ≡ decoded bs bytes = rw q at e in
-        let same-names : cs ≡ bs = cc in
+        let same-block-list : cs ≡ bs = cc in
         let same-bytes : r ≡ bytes = cc in
-        rw (← same-names, ← same-bytes) (
+        rw (← same-block-list, ← same-bytes) (
           refl,
-          and-l (wellNamed nbw nmaxb cs) (eqb (length r) (16 * length cs)) q,
-          eqb-true (length r) (16 * length cs) (and-r (wellNamed nbw nmaxb cs) (eqb (length r) (16 * length cs)) q),
+          and-l (wellListed nbw nmaxb cs) (eqb (length r) (16 * length cs)) q,
+          eqb-true (length r) (16 * length cs) (and-r (wellListed nbw nmaxb cs) (eqb (length r) (16 * length cs)) q),
         )
 
 -- what decodes opens as our commands do, and past that are the names
 decoded-opening : (idm : List ℕ) (nbw nmaxb : ℕ) (all bs bytes : List ℕ) → decode idm nbw nmaxb all ≡ decoded bs bytes
-    → (take 12 all ≡ opening idm) × (decodeBy nbw nmaxb (namesOf (byte all 12) (drop 13 all)) ≡ decoded bs bytes)
+    → (take 12 all ≡ opening idm) × (decodeBy nbw nmaxb (blockListOf (byte all 12) (drop 13 all)) ≡ decoded bs bytes)
 unfolding decode
 decoded-opening idm nbw nmaxb all bs bytes e = go (same (take 12 all) (opening idm)) refl
   where
     go : (q : Bool) → same (take 12 all) (opening idm) ≡ q
-        → (take 12 all ≡ opening idm) × (decodeBy nbw nmaxb (namesOf (byte all 12) (drop 13 all)) ≡ decoded bs bytes)
+        → (take 12 all ≡ opening idm) × (decodeBy nbw nmaxb (blockListOf (byte all 12) (drop 13 all)) ≡ decoded bs bytes)
     go false q = let z : undecoded (positioned malformed-command 0) ≡ decoded bs bytes = rw q at e in absurd (nope (cc))
     go true q = (same-eq (take 12 all) (opening idm) q, rw q at e)
 
@@ -139,14 +139,14 @@ inside (a ∷ l) (suc n) h = omega (arith, inside l n h)
 
 -- a count of 0 does not decode, so that the count is there, and with it all twelve bytes of the opening
 pub encode-decode : (idm : List ℕ) (nbw nmaxb : ℕ) (all bs bytes : List ℕ) → decode idm nbw nmaxb all ≡ decoded bs bytes
-    → (wellNamed nbw nmaxb bs ≡ true) × (length bytes ≡ 16 * length bs) × (all ≡ commandBytes idm bs bytes) × (length idm ≡ 8)
+    → (wellListed nbw nmaxb bs ≡ true) × (length bytes ≡ 16 * length bs) × (all ≡ commandBytes idm bs bytes) × (length idm ≡ 8)
 encode-decode idm nbw nmaxb all bs bytes e =
     let o = decoded-opening idm nbw nmaxb all bs bytes e in
-    let d = decoded-names nbw nmaxb (namesOf (byte all 12) (drop 13 all)) bs bytes (o .1) in
-    let n = names-is (byte all 12) (drop 13 all) bs bytes (d .0) in
-    let some : 1 ≤ length bs = named-some nbw nmaxb bs (d .1) in
+    let d = decoded-block-list nbw nmaxb (blockListOf (byte all 12) (drop 13 all)) bs bytes (o .1) in
+    let n = block-list-is (byte all 12) (drop 13 all) bs bytes (d .0) in
+    let some : 1 ≤ length bs = listed-some nbw nmaxb bs (d .1) in
     let long : 12 < length all = inside all 12 (omega (arith, n .0)) in
-    let parts : all ≡ opening idm ++ length bs ∷ (namesBytes bs ++ bytes) = split-at all 12 0 long ∙ rw (o .0, n .1, ← n .0) in (
+    let parts : all ≡ opening idm ++ length bs ∷ (blockListBytes bs ++ bytes) = split-at all 12 0 long ∙ rw (o .0, n .1, ← n .0) in (
       d .1,
       d .2,
       parts ∙ sym (grouped idm bs bytes),
@@ -158,18 +158,18 @@ pub length-command : (idm bs bytes : List ℕ) → length idm ≡ 8 → length b
 length-command idm bs bytes n l =
     omega (
       arith,
-      length-append (opening idm ++ length bs ∷ namesBytes bs) bytes,
-      length-append (opening idm) (length bs ∷ namesBytes bs),
+      length-append (opening idm ++ length bs ∷ blockListBytes bs) bytes,
+      length-append (opening idm) (length bs ∷ blockListBytes bs),
       length-opening idm,
-      length-names bs,
+      length-block-list bs,
     )
 
 -- the count stands at byte 12, whatever follows the command
 pub count-at : (idm bs bytes r : List ℕ) → length idm ≡ 8 → byte (commandBytes idm bs bytes ++ r) 12 ≡ length bs
 count-at idm bs bytes r n =
     ap (λ l. byte (l ++ r) 12) (grouped idm bs bytes)
-    ∙ ap (λ l. byte l 12) (append-assoc (opening idm) (length bs ∷ (namesBytes bs ++ bytes)) r)
-    ∙ getD-at (opening idm) (length bs) (namesBytes bs ++ bytes ++ r) 0 12 (omega (arith, length-opening idm))
+    ∙ ap (λ l. byte l 12) (append-assoc (opening idm) (length bs ∷ (blockListBytes bs ++ bytes)) r)
+    ∙ getD-at (opening idm) (length bs) (blockListBytes bs ++ bytes ++ r) 0 12 (omega (arith, length-opening idm))
 
 -- ---- what a command can carry
 
@@ -178,7 +178,7 @@ blocksOf ss = map (blockNumber 16) ss
 
 -- stores of whole blocks that may be named together
 abbrev pub Sendable : ℕ → ℕ → List Store → Type 0
-Sendable nbw nmaxb ss = Each (Whole 16) ss × (wellNamed nbw nmaxb (blocksOf ss) ≡ true)
+Sendable nbw nmaxb ss = Each (Whole 16) ss × (wellListed nbw nmaxb (blocksOf ss) ≡ true)
 
 length-stored : (ss : List Store) → Each (Whole 16) ss → length (storedBytes ss) ≡ 16 * length ss
 length-stored [] h = refl

@@ -16,8 +16,8 @@ use Rattle.tag.proofs.Logic.{and-l, and-r}
 use Rattle.tag.proofs.Same.{same-append}
 use Rattle.tag.proofs.Storing.{sets-append, sets-front}
 use Rattle.type3.specs.Update.{blocksPerCommand}
-use Rattle.type3.specs.Codec.{namesBytes, nameable, wellNamed, opening, commandBytes, encode}
-use Rattle.type3.proofs.Codec.{length-opening, length-command, length-names}
+use Rattle.type3.specs.Codec.{blockListBytes, listable, wellListed, opening, commandBytes, encode}
+use Rattle.type3.proofs.Codec.{length-opening, length-command, length-block-list}
 
 -- ---- the opening
 
@@ -53,12 +53,12 @@ count-bounds nbw n h =
     record { some = leb-true 1 n (and-l (leb 1 n) (leb n (blocksPerCommand nbw)) h); allowed = omega arith; few = omega arith }
 
 -- the first n of eight blocks
-pub well-named-by : (nbw nmaxb n : ℕ) (bs : List ℕ) → length bs ≡ 8
-    → leb n (length bs) && wellNamed nbw nmaxb (take n bs) ≡ leb 1 n && leb n (blocksPerCommand nbw) && nameable nmaxb (take n bs)
-well-named-by nbw nmaxb n bs h = go (leb n (length bs)) refl
+pub well-listed-by : (nbw nmaxb n : ℕ) (bs : List ℕ) → length bs ≡ 8
+    → leb n (length bs) && wellListed nbw nmaxb (take n bs) ≡ leb 1 n && leb n (blocksPerCommand nbw) && listable nmaxb (take n bs)
+well-listed-by nbw nmaxb n bs h = go (leb n (length bs)) refl
   where
     go : (q : Bool) → leb n (length bs) ≡ q
-        → q && wellNamed nbw nmaxb (take n bs) ≡ leb 1 n && leb n (blocksPerCommand nbw) && nameable nmaxb (take n bs)
+        → q && wellListed nbw nmaxb (take n bs) ≡ leb 1 n && leb n (blocksPerCommand nbw) && listable nmaxb (take n bs)
     go true q =
         let e : length (take n bs) ≡ n = length-take-le n bs (leb-true n (length bs) q) in
         rw e
@@ -69,30 +69,30 @@ well-named-by nbw nmaxb n bs h = go (leb n (length bs)) refl
 -- ---- a command written: the opening with the count, the names, the blocks' bytes
 
 pub command-stored : (l idm bs bytes : List ℕ) → length idm ≡ 8 → length bytes ≡ 16 * length bs → 13 + 18 * length bs ≤ length l
-    → sets (sets (sets l 0 (opening idm ++ (length bs ∷ []))) 13 (namesBytes bs)) (13 + 2 * length bs) bytes
+    → sets (sets (sets l 0 (opening idm ++ (length bs ∷ []))) 13 (blockListBytes bs)) (13 + 2 * length bs) bytes
     ≡ overwrite (commandBytes idm bs bytes) l
 command-stored l idm bs bytes n s h =
     let o = opening idm ++ length bs ∷ [] in
-    let names-from : 0 + length o ≡ 13 = omega (arith, length-append (opening idm) (length bs ∷ []), length-opening idm) in
-    let front : o ++ namesBytes bs ≡ opening idm ++ length bs ∷ namesBytes bs = append-assoc (opening idm) (length bs ∷ []) (namesBytes bs) in
-    let bytes-from : 0 + length (o ++ namesBytes bs) ≡ 13 + 2 * length bs = omega (arith, length-append o (namesBytes bs), length-names bs) in
-    ap (λ at. sets (sets (sets l 0 o) at (namesBytes bs)) (13 + 2 * length bs) bytes) (sym names-from)
-    ∙ ap (λ t. sets t (13 + 2 * length bs) bytes) (sym (sets-append o (namesBytes bs) l 0))
-    ∙ ap (λ at. sets (sets l 0 (o ++ namesBytes bs)) at bytes) (sym bytes-from)
-    ∙ sym (sets-append (o ++ namesBytes bs) bytes l 0)
+    let block-list-from : 0 + length o ≡ 13 = omega (arith, length-append (opening idm) (length bs ∷ []), length-opening idm) in
+    let front : o ++ blockListBytes bs ≡ opening idm ++ length bs ∷ blockListBytes bs = append-assoc (opening idm) (length bs ∷ []) (blockListBytes bs) in
+    let bytes-from : 0 + length (o ++ blockListBytes bs) ≡ 13 + 2 * length bs = omega (arith, length-append o (blockListBytes bs), length-block-list bs) in
+    ap (λ at. sets (sets (sets l 0 o) at (blockListBytes bs)) (13 + 2 * length bs) bytes) (sym block-list-from)
+    ∙ ap (λ t. sets t (13 + 2 * length bs) bytes) (sym (sets-append o (blockListBytes bs) l 0))
+    ∙ ap (λ at. sets (sets l 0 (o ++ blockListBytes bs)) at bytes) (sym bytes-from)
+    ∙ sym (sets-append (o ++ blockListBytes bs) bytes l 0)
     ∙ ap (λ f. sets l 0 (f ++ bytes)) front
     ∙ sets-front (commandBytes idm bs bytes) l (omega (arith, length-command idm bs bytes n s))
 
 -- ---- the three answers of encoding
 
-pub encode-unnamed : (idm : List ℕ) (nbw nmaxb n : ℕ) (bs bytes : List ℕ) (room : ℕ)
-    → leb n (length bs) && wellNamed nbw nmaxb (take n bs) ≡ false → encode idm nbw nmaxb n bs bytes room ≡ refused-output malformed-command
-encode-unnamed idm nbw nmaxb n bs bytes room h = go (leb n (length bs)) refl
+pub encode-unlisted : (idm : List ℕ) (nbw nmaxb n : ℕ) (bs bytes : List ℕ) (room : ℕ)
+    → leb n (length bs) && wellListed nbw nmaxb (take n bs) ≡ false → encode idm nbw nmaxb n bs bytes room ≡ refused-output malformed-command
+encode-unlisted idm nbw nmaxb n bs bytes room h = go (leb n (length bs)) refl
   where
     go : (q : Bool) → leb n (length bs) ≡ q → encode idm nbw nmaxb n bs bytes room ≡ refused-output malformed-command
     go false q = rw q
     go true q =
-        let k : wellNamed nbw nmaxb (take n bs) ≡ false = rw q at h in
+        let k : wellListed nbw nmaxb (take n bs) ≡ false = rw q at h in
         rw (q, k)
 
 module _ (idm : List ℕ) (nbw nmaxb n : ℕ) (bs bytes : List ℕ) (room : ℕ) where
@@ -104,21 +104,21 @@ module _ (idm : List ℕ) (nbw nmaxb n : ℕ) (bs bytes : List ℕ) (room : ℕ)
       let m : length (take (16 * n) bytes) ≡ 16 * length (take n bs) = omega (arith, length-take-le (16 * n) bytes s) in
       length-command idm (take n bs) (take (16 * n) bytes) e m ∙ rw k
 
-  pub encode-short : length idm ≡ 8 → length bytes ≡ 128 → length bs ≡ 8 → leb n (length bs) && wellNamed nbw nmaxb (take n bs) ≡ true
+  pub encode-short : length idm ≡ 8 → length bytes ≡ 128 → length bs ≡ 8 → leb n (length bs) && wellListed nbw nmaxb (take n bs) ≡ true
       → room < 13 + 18 * n → encode idm nbw nmaxb n bs bytes room ≡ refused-output short-buffer
   encode-short e s b h r =
-      let l : n ≤ length bs = leb-true n (length bs) (and-l (leb n (length bs)) (wellNamed nbw nmaxb (take n bs)) h) in
-      let w : wellNamed nbw nmaxb (take n bs) ≡ true = and-r (leb n (length bs)) (wellNamed nbw nmaxb (take n bs)) h in
+      let l : n ≤ length bs = leb-true n (length bs) (and-l (leb n (length bs)) (wellListed nbw nmaxb (take n bs)) h) in
+      let w : wellListed nbw nmaxb (take n bs) ≡ true = and-r (leb n (length bs)) (wellListed nbw nmaxb (take n bs)) h in
       let k : leb (length (commandBytes idm (take n bs) (take (16 * n) bytes))) room ≡ false
       = lt-leb (length (commandBytes idm (take n bs) (take (16 * n) bytes))) room (omega (arith, length-used e l (omega arith))) in
       rw (le-leb n (length bs) l, w, k)
 
-  pub encode-written : length idm ≡ 8 → length bytes ≡ 128 → length bs ≡ 8 → leb n (length bs) && wellNamed nbw nmaxb (take n bs) ≡ true
+  pub encode-written : length idm ≡ 8 → length bytes ≡ 128 → length bs ≡ 8 → leb n (length bs) && wellListed nbw nmaxb (take n bs) ≡ true
       → 13 + 18 * n ≤ room
       → encode idm nbw nmaxb n bs bytes room ≡ output (13 + 18 * n) (commandBytes idm (take n bs) (take (16 * n) bytes))
   encode-written e s b h r =
-      let l : n ≤ length bs = leb-true n (length bs) (and-l (leb n (length bs)) (wellNamed nbw nmaxb (take n bs)) h) in
-      let w : wellNamed nbw nmaxb (take n bs) ≡ true = and-r (leb n (length bs)) (wellNamed nbw nmaxb (take n bs)) h in
+      let l : n ≤ length bs = leb-true n (length bs) (and-l (leb n (length bs)) (wellListed nbw nmaxb (take n bs)) h) in
+      let w : wellListed nbw nmaxb (take n bs) ≡ true = and-r (leb n (length bs)) (wellListed nbw nmaxb (take n bs)) h in
       let k : leb (length (commandBytes idm (take n bs) (take (16 * n) bytes))) room ≡ true
       = le-leb (length (commandBytes idm (take n bs) (take (16 * n) bytes))) room (omega (arith, length-used e l (omega arith))) in
       rw (le-leb n (length bs) l, w, k) (ap (λ m. output (13 + 18 * m) (commandBytes idm (take n bs) (take (16 * n) bytes))) (length-take-le n bs l))
@@ -127,14 +127,14 @@ module _ (idm : List ℕ) (nbw nmaxb n : ℕ) (bs bytes : List ℕ) (room : ℕ)
 pub record Used (nmaxb n : ℕ) (bs : List ℕ) : Type 0 where
   pub few : n ≤ 8
   pub inside : length (take n bs) ≡ n
-  pub named : nameable nmaxb (take n bs) ≡ true
+  pub listed : listable nmaxb (take n bs) ≡ true
 
-pub used : (nbw nmaxb n : ℕ) (bs : List ℕ) → length bs ≡ 8 → leb n (length bs) && wellNamed nbw nmaxb (take n bs) ≡ true → Used nmaxb n bs
+pub used : (nbw nmaxb n : ℕ) (bs : List ℕ) → length bs ≡ 8 → leb n (length bs) && wellListed nbw nmaxb (take n bs) ≡ true → Used nmaxb n bs
 used nbw nmaxb n bs e h =
-    let tests : leb 1 n && leb n (blocksPerCommand nbw) && nameable nmaxb (take n bs) ≡ true = sym (well-named-by nbw nmaxb n bs e) ∙ h in
-    let k = count-bounds nbw n (and-l (leb 1 n && leb n (blocksPerCommand nbw)) (nameable nmaxb (take n bs)) tests) in
+    let tests : leb 1 n && leb n (blocksPerCommand nbw) && listable nmaxb (take n bs) ≡ true = sym (well-listed-by nbw nmaxb n bs e) ∙ h in
+    let k = count-bounds nbw n (and-l (leb 1 n && leb n (blocksPerCommand nbw)) (listable nmaxb (take n bs)) tests) in
     record {
       few = k .few;
       inside = length-take-le n bs (omega arith);
-      named = and-r (leb 1 n && leb n (blocksPerCommand nbw)) (nameable nmaxb (take n bs)) tests;
+      listed = and-r (leb 1 n && leb n (blocksPerCommand nbw)) (listable nmaxb (take n bs)) tests;
     }

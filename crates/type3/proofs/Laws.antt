@@ -25,7 +25,7 @@ use Rattle.type3.specs.Message.{reading}
 use Rattle.type3.specs.Update.{blocksFor, blocksPerCommand, addresses, lnSum, valuesBy, body, values, plan}
 use Rattle.type3.specs.Codec.{decode, commandOf}
 use Rattle.type3.specs.Type3.{type3}
-use Rattle.type3.proofs.Codec.{rising-nameable, blocksOf, Sendable, sent, span-sent, some-sent}
+use Rattle.type3.proofs.Codec.{rising-listable, blocksOf, Sendable, sent, span-sent, some-sent}
 use Rattle.type3.proofs.Message.{bounds, Agrees, same-sum, same-nmaxb, numbered, reads-writable, reads-passes}
 use Rattle.type3.proofs.Shown.{wordless, in-place}
 use Rattle.type3.proofs.Update.{quiet, closed-length, closed-kept, above-addresses, kept-agrees, HasRoom, few-blocks, inside, reads-new}
@@ -75,22 +75,22 @@ sendable nbw nmaxb hi ss l w s = (
   each-of _ _ ss (λ x h. h .whole) w,
   and-both
       (and-both (le-leb 1 (length (blocksOf ss)) (omega (arith, count, s .0))) (le-leb (length (blocksOf ss)) (blocksPerCommand nbw) (omega (arith, count, s .1))))
-      (rising-nameable hi nmaxb (blocksOf ss) (s .2) (each-map (λ b. b ≤ nmaxb) (blockNumber 16) ss (each-of _ _ ss (λ x h. omega (arith, h .whole .at-block, h .good)) w)) l),
+      (rising-listable hi nmaxb (blocksOf ss) (s .2) (each-map (λ b. b ≤ nmaxb) (blockNumber 16) ss (each-of _ _ ss (λ x h. omega (arith, h .whole .at-block, h .good)) w)) l),
 )
   where
     count : length (blocksOf ss) ≡ length ss
     count = length-map ss (blockNumber 16)
 
 module _ (idm i m : List ℕ) (eight : length idm ≡ 8) (r : Ready (type3 idm) i m) where
-  plan-nameable : Nameable (plan i m) i (λ b. b ≤ nmaxbOf i)
-  plan-nameable = record {
+  plan-listable : Nameable (plan i m) i (λ b. b ≤ nmaxbOf i)
+  plan-listable = record {
     guard-good = omega arith;
     touched-good = λ b l n e. omega (arith, touched-most i m b e, few-blocks i m (ready-room idm i m r));
   }
 
   list-sent : Each (Sent (type3 idm) i) (list (plan i m) i)
   list-sent = each-of _ _ (list (plan i m) i) command-sent
-      (list-good (plan i m) i (plan-sound idm i m r .blockwise) (λ b. b ≤ nmaxbOf i) plan-nameable)
+      (list-good (plan i m) i (plan-sound idm i m r .blockwise) (λ b. b ≤ nmaxbOf i) plan-listable)
     where
       command-sent : (ss : List Store) → Each (Named 16 (λ b. b ≤ nmaxbOf i)) ss × Sized 16 (blocksPerCommand (byte i 2)) (length i / 16) ss → Sent (type3 idm) i ss
       command-sent ss h =

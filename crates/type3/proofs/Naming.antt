@@ -13,9 +13,9 @@ use lib.Seq.{sets, drop-cons, drop-drop, getD-drop, take-suc, length-take-le}
 use Rattle.tag.specs.Bytes.{byte, has}
 use Rattle.tag.proofs.Logic.{and-l, and-r, and-three}
 use Rattle.tag.proofs.Storing.{sets-append}
-use Rattle.type3.specs.Codec.{namesBytes, nameable}
-use Rattle.type3.specs.Views.InPlace.{marked, numbers}
-use Rattle.type3.proofs.Codec.{length-names}
+use Rattle.type3.specs.Codec.{blockListBytes, listable}
+use Rattle.type3.specs.Views.InPlace.{wellBegun, numbers}
+use Rattle.type3.proofs.Codec.{length-block-list}
 
 -- ---- a block among others
 
@@ -33,66 +33,66 @@ has-end b bs i h = rw (drop-of-length-le bs h)
 
 -- ---- blocks that may be named together
 
-pub nameable-at : (nmaxb : ℕ) (bs : List ℕ) (i : ℕ) → i < length bs
-    → nameable nmaxb (drop i bs)
-    ≡ leb (byte bs i) nmaxb && leb (byte bs i) 255 && not (has (byte bs i) (drop (i + 1) bs)) && nameable nmaxb (drop (i + 1) bs)
-nameable-at nmaxb bs i h = rw (drop-cons bs i 0 h, add-one)
+pub listable-at : (nmaxb : ℕ) (bs : List ℕ) (i : ℕ) → i < length bs
+    → listable nmaxb (drop i bs)
+    ≡ leb (byte bs i) nmaxb && leb (byte bs i) 255 && not (has (byte bs i) (drop (i + 1) bs)) && listable nmaxb (drop (i + 1) bs)
+listable-at nmaxb bs i h = rw (drop-cons bs i 0 h, add-one)
 
-pub nameable-end : (nmaxb : ℕ) (bs : List ℕ) (i : ℕ) → length bs ≤ i → nameable nmaxb (drop i bs) ≡ true
-nameable-end nmaxb bs i h = rw (drop-of-length-le bs h)
+pub listable-end : (nmaxb : ℕ) (bs : List ℕ) (i : ℕ) → length bs ≤ i → listable nmaxb (drop i bs) ≡ true
+listable-end nmaxb bs i h = rw (drop-of-length-le bs h)
 
 -- each of them is at most Nmaxb, and a byte
-pub nameable-each : (nmaxb : ℕ) (bs : List ℕ) → nameable nmaxb bs ≡ true → (i : ℕ) → i < length bs → (byte bs i ≤ nmaxb) × (byte bs i ≤ 255)
-nameable-each nmaxb [] h i l = absurd (omega arith)
-nameable-each nmaxb (b ∷ bs) h zero l =
-    let low : leb b nmaxb && leb b 255 ≡ true = and-three (leb b nmaxb && leb b 255) (not (has b bs)) (nameable nmaxb bs) h .0 in
+pub listable-each : (nmaxb : ℕ) (bs : List ℕ) → listable nmaxb bs ≡ true → (i : ℕ) → i < length bs → (byte bs i ≤ nmaxb) × (byte bs i ≤ 255)
+listable-each nmaxb [] h i l = absurd (omega arith)
+listable-each nmaxb (b ∷ bs) h zero l =
+    let low : leb b nmaxb && leb b 255 ≡ true = and-three (leb b nmaxb && leb b 255) (not (has b bs)) (listable nmaxb bs) h .0 in
     (leb-true b nmaxb (and-l (leb b nmaxb) (leb b 255) low), leb-true b 255 (and-r (leb b nmaxb) (leb b 255) low))
-nameable-each nmaxb (b ∷ bs) h (suc i) l =
-    nameable-each nmaxb bs (and-three (leb b nmaxb && leb b 255) (not (has b bs)) (nameable nmaxb bs) h .2) i (omega arith)
+listable-each nmaxb (b ∷ bs) h (suc i) l =
+    listable-each nmaxb bs (and-three (leb b nmaxb && leb b 255) (not (has b bs)) (listable nmaxb bs) h .2) i (omega arith)
 
 -- ---- names written
 
-pub names-append : (xs ys : List ℕ) → namesBytes (xs ++ ys) ≡ namesBytes xs ++ namesBytes ys
-names-append [] ys = refl
-names-append (x ∷ xs) ys = ap (λ r. 0x80 ∷ x ∷ r) (names-append xs ys)
+pub block-list-append : (xs ys : List ℕ) → blockListBytes (xs ++ ys) ≡ blockListBytes xs ++ blockListBytes ys
+block-list-append [] ys = refl
+block-list-append (x ∷ xs) ys = ap (λ r. 0x80 ∷ x ∷ r) (block-list-append xs ys)
 
 -- one turn of writing names
-pub names-more : (l bs : List ℕ) (i at : ℕ) → i < length bs → at ≡ 13 + 2 * i
-    → set (set (sets l 13 (namesBytes (take i bs))) at 0x80) (at + 1) (byte bs i) ≡ sets l 13 (namesBytes (take (i + 1) bs))
-names-more l bs i at h e =
-    let n : 13 + length (namesBytes (take i bs)) ≡ at = omega (arith, length-names (take i bs), length-take-le i bs (omega arith)) in
+pub block-list-more : (l bs : List ℕ) (i at : ℕ) → i < length bs → at ≡ 13 + 2 * i
+    → set (set (sets l 13 (blockListBytes (take i bs))) at 0x80) (at + 1) (byte bs i) ≡ sets l 13 (blockListBytes (take (i + 1) bs))
+block-list-more l bs i at h e =
+    let n : 13 + length (blockListBytes (take i bs)) ≡ at = omega (arith, length-block-list (take i bs), length-take-le i bs (omega arith)) in
     sym (
-    rw (add-one i, take-suc bs i 0 h, names-append)
-    (sets-append (namesBytes (take i bs)) (0x80 ∷ byte bs i ∷ []) l 13 ∙ rw (n, add-one at))
+    rw (add-one i, take-suc bs i 0 h, block-list-append)
+    (sets-append (blockListBytes (take i bs)) (0x80 ∷ byte bs i ∷ []) l 13 ∙ rw (n, add-one at))
     )
 
 -- ---- names read
 
-pub marked-more : (k : ℕ) (bytes : List ℕ) (at : ℕ) → 0 < k → byte bytes at ≡ 0x80
-    → marked k (drop at bytes) ≡ marked (k - 1) (drop (at + 2) bytes)
-unfolding marked
-marked-more zero bytes at h e = absurd (omega arith)
-marked-more (suc k) bytes at h e =
+pub well-begun-more : (k : ℕ) (bytes : List ℕ) (at : ℕ) → 0 < k → byte bytes at ≡ 0x80
+    → wellBegun k (drop at bytes) ≡ wellBegun (k - 1) (drop (at + 2) bytes)
+unfolding wellBegun
+well-begun-more zero bytes at h e = absurd (omega arith)
+well-begun-more (suc k) bytes at h e =
     let less : suc k - 1 ≡ k = omega arith in
     let here : byte (drop at bytes) 0 ≡ 0x80 = getD-drop at bytes 0 0 ∙ rw add-zero e in
-    rw (here, less) (ap (marked k) (drop-drop 2 at bytes))
+    rw (here, less) (ap (wellBegun k) (drop-drop 2 at bytes))
   where
     add-zero : at + 0 ≡ at
     add-zero = omega arith
 
-pub unmarked : (k : ℕ) (bytes : List ℕ) (at : ℕ) → 0 < k → (byte bytes at ≡ 0x80 → ⊥) → marked k (drop at bytes) ≡ false
-unfolding marked
-unmarked zero bytes at h n = absurd (omega arith)
-unmarked (suc k) bytes at h n =
+pub not-begun : (k : ℕ) (bytes : List ℕ) (at : ℕ) → 0 < k → (byte bytes at ≡ 0x80 → ⊥) → wellBegun k (drop at bytes) ≡ false
+unfolding wellBegun
+not-begun zero bytes at h n = absurd (omega arith)
+not-begun (suc k) bytes at h n =
     let here : byte (drop at bytes) 0 ≡ byte bytes at = getD-drop at bytes 0 0 ∙ rw add-zero in
     rw (here, ne-eqb (byte bytes at) 0x80 n)
   where
     add-zero : at + 0 ≡ at
     add-zero = omega arith
 
-pub marked-none : (k : ℕ) (bytes : List ℕ) → k ≡ 0 → marked k bytes ≡ true
-unfolding marked
-marked-none k bytes e = rw e
+pub well-begun-none : (k : ℕ) (bytes : List ℕ) → k ≡ 0 → wellBegun k bytes ≡ true
+unfolding wellBegun
+well-begun-none k bytes e = rw e
 
 pub length-numbers : (k : ℕ) (bytes : List ℕ) → length (numbers k bytes) ≡ k
 unfolding numbers

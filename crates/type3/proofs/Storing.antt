@@ -9,11 +9,11 @@ use lib.ListN.{take, drop}
 use lib.Seq.{sets, drop-drop, getD-drop}
 use Rattle.tag.specs.Bytes.{byte}
 use Rattle.tag.specs.Stores.{puts, stores}
-use Rattle.type3.specs.Codec.{nameable, decode, storesOf, commandOf}
+use Rattle.type3.specs.Codec.{listable, decode, storesOf, commandOf}
 use Rattle.type3.specs.Views.InPlace.{numbers}
 use Rattle.type3.specs.Views.Framing.{isCommand, Framed}
 use Rattle.type3.specs.Views.Model.{Storable, storesFrom}
-use Rattle.type3.proofs.Naming.{nameable-each, length-numbers}
+use Rattle.type3.proofs.Naming.{listable-each, length-numbers}
 use Rattle.type3.proofs.Decoding.{frame, decode-carried}
 
 -- one number more
@@ -40,13 +40,13 @@ stores-next bytes b k h =
     let e₁ : 13 + 2 * k + 1 ≡ 14 + 2 * k = omega arith in
     let e₂ : 13 + 2 * k + 2 ≡ 13 + 2 * (k + 1) = omega arith in
     let e₃ : 13 + 2 * b + 16 * k + 16 ≡ 13 + 2 * b + 16 * (k + 1) = omega arith in
-    let named : byte here 1 ≡ byte bytes (14 + 2 * k) = getD-drop (13 + 2 * k) bytes 1 0 ∙ ap (byte bytes) e₁ in
+    let listed : byte here 1 ≡ byte bytes (14 + 2 * k) = getD-drop (13 + 2 * k) bytes 1 0 ∙ ap (byte bytes) e₁ in
     let rest : drop 2 here ≡ drop (13 + 2 * (k + 1)) bytes = drop-drop 2 (13 + 2 * k) bytes ∙ ap (λ n. drop n bytes) e₂ in
     let fewer : b - k - 1 ≡ b - (k + 1) = omega arith in
     let data-rest : drop 16 (drop (13 + 2 * b + 16 * k) bytes) ≡ drop (13 + 2 * b + 16 * (k + 1)) bytes
     = drop-drop 16 (13 + 2 * b + 16 * k) bytes ∙ ap (λ n. drop n bytes) e₃ in
     ap (λ ns. storesOf ns (drop (13 + 2 * b + 16 * k) bytes)) (numbers-next (b - k) here (omega arith))
-    ∙ ap (λ a. record { at = 16 * a; bytes = take 16 (drop (13 + 2 * b + 16 * k) bytes) } ∷ storesOf (numbers (b - k - 1) (drop 2 here)) (drop 16 (drop (13 + 2 * b + 16 * k) bytes))) named
+    ∙ ap (λ a. record { at = 16 * a; bytes = take 16 (drop (13 + 2 * b + 16 * k) bytes) } ∷ storesOf (numbers (b - k - 1) (drop 2 here)) (drop 16 (drop (13 + 2 * b + 16 * k) bytes))) listed
     ∙ ap (λ ns. record { at = 16 * byte bytes (14 + 2 * k); bytes = take 16 (drop (13 + 2 * b + 16 * k) bytes) } ∷ storesOf ns (drop 16 (drop (13 + 2 * b + 16 * k) bytes)))
     (ap (λ r. numbers (b - k - 1) r) rest ∙ ap (λ n. numbers n (drop (13 + 2 * (k + 1)) bytes)) fewer)
     ∙ ap (λ r. record { at = 16 * byte bytes (14 + 2 * k); bytes = take 16 (drop (13 + 2 * b + 16 * k) bytes) } ∷ storesOf (numbers (b - (k + 1)) (drop (13 + 2 * (k + 1)) bytes)) r) data-rest
@@ -73,14 +73,14 @@ module _ (idm : List ℕ) (nbw nmaxb : ℕ) (bytes : List ℕ) (h : isCommand (d
         inside = inside (d .2);
       }
     where
-      inside : nameable nmaxb (numbers (byte bytes 12) (drop 13 bytes)) ≡ true → (k : ℕ) → k < byte bytes 12 → 16 * byte bytes (14 + 2 * k) + 16 ≤ n
+      inside : listable nmaxb (numbers (byte bytes 12) (drop 13 bytes)) ≡ true → (k : ℕ) → k < byte bytes 12 → 16 * byte bytes (14 + 2 * k) + 16 ≤ n
       inside q k u =
           let e : 13 + (1 + 2 * k) ≡ 14 + 2 * k = omega arith in
           let at : byte (numbers (byte bytes 12) (drop 13 bytes)) k ≡ byte bytes (14 + 2 * k)
           = number-at (byte bytes 12) (drop 13 bytes) k u ∙ getD-drop 13 bytes (1 + 2 * k) 0 ∙ ap (byte bytes) e in
           omega (
             arith,
-            nameable-each nmaxb (numbers (byte bytes 12) (drop 13 bytes)) q k (omega (arith, length-numbers (byte bytes 12) (drop 13 bytes))),
+            listable-each nmaxb (numbers (byte bytes 12) (drop 13 bytes)) q k (omega (arith, length-numbers (byte bytes 12) (drop 13 bytes))),
           )
 
   -- and it stores what it carries in place

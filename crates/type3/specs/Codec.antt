@@ -1,6 +1,6 @@
 -- Type 3's write command, called Update in the NFC Forum's paper, as bytes: its code 08h; the eight-byte manufacturer number
--- (IDm); 01h, the number of services; 09h 00h, the service's code, low byte first; the block count b; b block names (block list
--- elements); 16·b bytes. The codec is told our number, Nbw and Nmaxb.
+-- (IDm); 01h, the number of services; 09h 00h, the service's code, low byte first; the block count b; the block list,
+-- an element a block; 16·b bytes. The codec is told our IDm, Nbw and Nmaxb.
 -- Assumes nothing.
 use mathlib.Core.Bool.{Bool, true, not, _&&_, cond}
 use mathlib.Core.List.{List, [], _∷_, _++_, map}
@@ -13,57 +13,57 @@ use Rattle.tag.specs.Stores.{Store, Command, malformed, stores}
 use Rattle.tag.specs.TagType.{Output, refused-output, fitted}
 use Rattle.type3.specs.Update.{blocksPerCommand}
 
--- how a command names a block: 80h and its number, a byte
-abbrev pub nameBytes : ℕ → List ℕ
-nameBytes b = 0x80 ∷ b ∷ []
+-- a block list element: 80h and the block's number, a byte
+abbrev pub elementBytes : ℕ → List ℕ
+elementBytes b = 0x80 ∷ b ∷ []
 
-abbrev pub namesBytes : List ℕ → List ℕ
-namesBytes [] = []
-namesBytes (b ∷ bs) = nameBytes b ++ namesBytes bs
+abbrev pub blockListBytes : List ℕ → List ℕ
+blockListBytes [] = []
+blockListBytes (b ∷ bs) = elementBytes b ++ blockListBytes bs
 
--- the block named at the front, with what follows
-pub data Name : Type 0 where
-  unnamed : Name
-  named : ℕ → List ℕ → Name
+-- the block listed at the front, with what follows
+pub data Element : Type 0 where
+  unlisted : Element
+  listed : ℕ → List ℕ → Element
 
-abbrev pub nameOf : List ℕ → Name
-nameOf [] = unnamed
-nameOf (t ∷ []) = unnamed
-nameOf (t ∷ b ∷ rest) = cond (eqb t 0x80) (named b rest) unnamed
+abbrev pub elementOf : List ℕ → Element
+elementOf [] = unlisted
+elementOf (t ∷ []) = unlisted
+elementOf (t ∷ b ∷ rest) = cond (eqb t 0x80) (listed b rest) unlisted
 
--- several blocks named at the front, with what follows
-pub data Names : Type 0 where
-  no-names : Names
-  names : List ℕ → List ℕ → Names
+-- several blocks listed at the front, with what follows
+pub data BlockList : Type 0 where
+  no-block-list : BlockList
+  block-list : List ℕ → List ℕ → BlockList
 
-abbrev pub withName : ℕ → Names → Names
-withName b no-names = no-names
-withName b (names bs rest) = names (b ∷ bs) rest
+abbrev pub withElement : ℕ → BlockList → BlockList
+withElement b no-block-list = no-block-list
+withElement b (block-list bs rest) = block-list (b ∷ bs) rest
 
-unfoldable pub namesOf : ℕ → List ℕ → Names
-namesOf zero bytes = names [] bytes
-namesOf (suc k) bytes = elim (nameOf bytes) [ unnamed ↦ no-names | named b rest ↦ withName b (namesOf k rest) ]
+unfoldable pub blockListOf : ℕ → List ℕ → BlockList
+blockListOf zero bytes = block-list [] bytes
+blockListOf (suc k) bytes = elim (elementOf bytes) [ unlisted ↦ no-block-list | listed b rest ↦ withElement b (blockListOf k rest) ]
 
--- each is at most Nmaxb and a byte, and none is named twice
-abbrev pub nameable : ℕ → List ℕ → Bool
-nameable nmaxb [] = true
-nameable nmaxb (b ∷ bs) = leb b nmaxb && leb b 255 && not (has b bs) && nameable nmaxb bs
+-- each is at most Nmaxb and a byte, and none is listed twice
+abbrev pub listable : ℕ → List ℕ → Bool
+listable nmaxb [] = true
+listable nmaxb (b ∷ bs) = leb b nmaxb && leb b 255 && not (has b bs) && listable nmaxb bs
 
--- b from 1 to w, blocks at most Nmaxb, none named twice
-abbrev pub wellNamed : ℕ → ℕ → List ℕ → Bool
-wellNamed nbw nmaxb bs = leb 1 (length bs) && leb (length bs) (blocksPerCommand nbw) && nameable nmaxb bs
+-- b from 1 to w, blocks at most Nmaxb, none listed twice
+abbrev pub wellListed : ℕ → ℕ → List ℕ → Bool
+wellListed nbw nmaxb bs = leb 1 (length bs) && leb (length bs) (blocksPerCommand nbw) && listable nmaxb bs
 
 -- the bytes up to the block count
 abbrev pub opening : List ℕ → List ℕ
 opening idm = 0x08 ∷ idm ++ 0x01 ∷ 0x09 ∷ 0x00 ∷ []
 
 abbrev pub commandBytes : List ℕ → List ℕ → List ℕ → List ℕ
-commandBytes idm bs bytes = opening idm ++ length bs ∷ namesBytes bs ++ bytes
+commandBytes idm bs bytes = opening idm ++ length bs ∷ blockListBytes bs ++ bytes
 
 -- these blocks and their bytes: 20, then 12, else the number of bytes
 abbrev pub encodeBy : List ℕ → ℕ → ℕ → List ℕ → List ℕ → ℕ → Output
 encodeBy idm nbw nmaxb bs bytes room =
-    cond (wellNamed nbw nmaxb bs) (fitted room (13 + 18 * length bs) (commandBytes idm bs bytes)) (refused-output malformed-command)
+    cond (wellListed nbw nmaxb bs) (fitted room (13 + 18 * length bs) (commandBytes idm bs bytes)) (refused-output malformed-command)
 
 -- the first b of the blocks and 16·b of the bytes, written to a buffer with this much room: 20, then 12, else the number of bytes
 abbrev pub encode : List ℕ → ℕ → ℕ → ℕ → List ℕ → List ℕ → ℕ → Output
@@ -75,15 +75,15 @@ pub data Decoded : Type 0 where
   undecoded : Refusal → Decoded
   decoded : List ℕ → List ℕ → Decoded
 
--- by the names, once the opening and the count are taken; one command a call: 20 at position 0
-unfoldable pub decodeBy : ℕ → ℕ → Names → Decoded
-decodeBy nbw nmaxb no-names = undecoded (positioned malformed-command 0)
-decodeBy nbw nmaxb (names bs bytes) =
-    cond (wellNamed nbw nmaxb bs && eqb (length bytes) (16 * length bs)) (decoded bs bytes) (undecoded (positioned malformed-command 0))
+-- by the block list, once the opening and the count are taken; one command a call: 20 at position 0
+unfoldable pub decodeBy : ℕ → ℕ → BlockList → Decoded
+decodeBy nbw nmaxb no-block-list = undecoded (positioned malformed-command 0)
+decodeBy nbw nmaxb (block-list bs bytes) =
+    cond (wellListed nbw nmaxb bs && eqb (length bytes) (16 * length bs)) (decoded bs bytes) (undecoded (positioned malformed-command 0))
 
 unfoldable pub decode : List ℕ → ℕ → ℕ → List ℕ → Decoded
 decode idm nbw nmaxb bytes =
-    cond (same (take 12 bytes) (opening idm)) (decodeBy nbw nmaxb (namesOf (byte bytes 12) (drop 13 bytes))) (undecoded (positioned malformed-command 0))
+    cond (same (take 12 bytes) (opening idm)) (decodeBy nbw nmaxb (blockListOf (byte bytes 12) (drop 13 bytes))) (undecoded (positioned malformed-command 0))
 
 -- what a command stores: sixteen bytes for each block
 abbrev pub storesOf : List ℕ → List ℕ → List Store

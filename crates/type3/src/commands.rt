@@ -1,8 +1,8 @@
-// The codec of Type 3's write command (Update): 08h, our manufacturer number (IDm), one service and its code, the block count, a
-// name for each block and its sixteen bytes. It is told our number, Nbw and Nmaxb.
+// The codec of Type 3's write command (Update): 08h, our manufacturer number (IDm), one service and its code, the block count, the block
+// list and sixteen bytes for each block. It is told our IDm, Nbw and Nmaxb.
 
 use crate::Command;
-use crate::names;
+use crate::block_list;
 use crate::read;
 use tag::Block;
 use tag::CountAnswer;
@@ -18,24 +18,24 @@ ghost use lib.ListN.{length, take, drop};
 ghost use Rattle.tag.specs.Bytes.{byte, same, overwrite};
 ghost use Rattle.tag.specs.Contracts.{PutOut};
 ghost use Rattle.type3.specs.Update.{blocksPerCommand};
-ghost use Rattle.type3.specs.Codec.{nameable, wellNamed, opening, commandBytes, encode, decode, span};
+ghost use Rattle.type3.specs.Codec.{listable, wellListed, opening, commandBytes, encode, decode, span};
 ghost use Rattle.type3.specs.Views.InPlace.{numbers, framed, carried};
 ghost use Rattle.type3.specs.CodecContracts.{commandAs, EncodedTo, DecodedTo};
 ghost use Rattle.type3.specs.Views.Framing.{isCommand, PutAsked, Framed};
 
-// A command may name so many blocks.
+// A command may list so many blocks.
 pub const MOST_BLOCKS: usize = 8;
 
 // Where a command has its block count.
 pub(crate) const COUNT: usize = 12;
 
-// The bytes of a command before the names of its blocks; the count is the last of them.
+// The bytes of a command before its block list; the count is the last of them.
 pub const FRONT: usize = COUNT + 1;
 
-// The bytes that a command has for each block: its name and its data.
-pub const PER_BLOCK: usize = names::LENGTH + read::BLOCK_SIZE;
+// The bytes that a command has for each block: its list element and its data.
+pub const PER_BLOCK: usize = block_list::ELEMENT + read::BLOCK_SIZE;
 
-// The data of as many blocks as a command may name.
+// The data of as many blocks as a command may list.
 pub const MOST_BYTES: usize = MOST_BLOCKS * read::BLOCK_SIZE;
 
 // The answer of `decode`: a refusal with an empty command, or 0 and the command.
@@ -44,7 +44,7 @@ pub struct Decoded {
     pub command: Command,
 }
 
-// Whether a command may name so many blocks.
+// Whether a command may list so many blocks.
 fn countable(count: usize, nbw: usize) -> bool
     ensures { λ r. ⌜ r ≡ leb 1 count && leb count (blocksPerCommand nbw) ⌝ }
 {
@@ -81,7 +81,7 @@ pub fn opening(idm: [u8; 8], count: u8) -> [u8; FRONT]
     ]
 }
 
-// Writes a command whose blocks may be named.
+// Writes a command whose blocks may be listed.
 fn put(idm: [u8; 8], blocks: &[usize], blockdata: &[u8], bytes: &mut [u8])
     requires { ⌜ PutAsked (now blocks) (now blockdata) (now bytes) ⌝ }
     ensures { λ _. ⌜ now (bytes .exit) ≡ overwrite (commandBytes idm (now (blocks .entry)) (now (blockdata .entry))) (now (bytes .entry)) ⌝ }
@@ -89,17 +89,17 @@ fn put(idm: [u8; 8], blocks: &[usize], blockdata: &[u8], bytes: &mut [u8])
     let count = blocks.len();
     let front = opening(idm, count as u8);
     slices::store(&front, 0, bytes);
-    names::put(blocks, bytes);
-    slices::store(blockdata, FRONT + names::LENGTH * count, bytes);
+    block_list::put(blocks, bytes);
+    slices::store(blockdata, FRONT + block_list::ELEMENT * count, bytes);
 }
 
-// Whether a command may name the first `count` of the blocks.
-fn well_named(count: usize, blocks: &[usize], nbw: usize, nmaxb: usize) -> bool
+// Whether a command may list the first `count` of the blocks.
+fn well_listed(count: usize, blocks: &[usize], nbw: usize, nmaxb: usize) -> bool
     requires { ⌜ length (now blocks) ≡ 8 ⌝ }
-    ensures { λ r. ⌜ r ≡ leb count (length (now (blocks .entry))) && wellNamed nbw nmaxb (take count (now (blocks .entry))) ⌝ }
+    ensures { λ r. ⌜ r ≡ leb count (length (now (blocks .entry))) && wellListed nbw nmaxb (take count (now (blocks .entry))) ⌝ }
 {
     if countable(count, nbw) {
-        return names::nameable(&blocks[..count], nmaxb);
+        return block_list::listable(&blocks[..count], nmaxb);
     }
     false
 }
@@ -117,7 +117,7 @@ fn encode_parts(
     requires { ⌜ (length (now blocks) ≡ 8) × (length (now blockdata) ≡ 128) ⌝ }
     ensures { λ r. ⌜ PutOut (encode idm nbw nmaxb count (now (blocks .entry)) (now (blockdata .entry))) (now (bytes .entry)) r (now (bytes .exit)) ⌝ }
 {
-    if !well_named(count, blocks, nbw, nmaxb) {
+    if !well_listed(count, blocks, nbw, nmaxb) {
         return CountAnswer::Refused(refusals::MALFORMED_COMMAND);
     }
     let size = FRONT + PER_BLOCK * count;
@@ -129,7 +129,7 @@ fn encode_parts(
     CountAnswer::Count(size)
 }
 
-// Writes the command's bytes to the front of `bytes`: 20 if its blocks may not be named together, 12 if the bytes do not fit.
+// Writes the command's bytes to the front of `bytes`: 20 if its blocks may not be listed together, 12 if the bytes do not fit.
 pub fn encode(
     command: Command,
     idm: &[u8; 8],
@@ -140,8 +140,8 @@ pub fn encode(
     ensures { λ r. ⌜ EncodedTo (now (idm .entry)) nbw nmaxb command (now (bytes .entry)) r (now (bytes .exit)) ⌝ }
 {
     let count = command.count;
-    let named = command.blocks;
-    let blocks = names::block_numbers(named);
+    let listed = command.blocks;
+    let blocks = block_list::block_numbers(listed);
     let blockdata = command.bytes;
     encode_parts(count, &blocks, &blockdata, *idm, nbw, nmaxb, bytes)
 }
@@ -177,7 +177,7 @@ fn opens(bytes: &[u8], idm: &[u8]) -> bool
     bytes[11] == 0x00
 }
 
-// Whether the bytes have a command's count, length, opening and names; the blocks may still be wrong.
+// Whether the bytes have a command's count, length, opening and block list; the blocks may still be wrong.
 fn is_framed(bytes: &[u8], idm: &[u8], nbw: usize) -> bool
     requires { ⌜ length (now idm) ≡ 8 ⌝ }
     ensures { λ r. ⌜ r ≡ framed (now (idm .entry)) nbw (now (bytes .entry)) ⌝ }
@@ -195,18 +195,18 @@ fn is_framed(bytes: &[u8], idm: &[u8], nbw: usize) -> bool
     if !opens(bytes, idm) {
         return false;
     }
-    names::marked(bytes, count)
+    block_list::well_begun(bytes, count)
 }
 
-// Whether the blocks that framed bytes name may be named together.
+// Whether the blocks that framed bytes list may be listed together.
 fn blocks_fit(bytes: &[u8], nmaxb: usize) -> bool
     requires { ⌜ Framed (now bytes) ⌝ }
-    ensures { λ r. ⌜ r ≡ nameable nmaxb (numbers (byte (now (bytes .entry)) 12) (drop 13 (now (bytes .entry)))) ⌝ }
+    ensures { λ r. ⌜ r ≡ listable nmaxb (numbers (byte (now (bytes .entry)) 12) (drop 13 (now (bytes .entry)))) ⌝ }
 {
     let count = bytes[COUNT] as usize;
     let mut blocks = [0usize; MOST_BLOCKS];
-    names::read(bytes, count, &mut blocks);
-    names::nameable(&blocks[..count], nmaxb)
+    block_list::read(bytes, count, &mut blocks);
+    block_list::listable(&blocks[..count], nmaxb)
 }
 
 // Whether the bytes are a well-formed command.
@@ -226,9 +226,9 @@ fn carried(bytes: &[u8]) -> Command
 {
     let count = bytes[COUNT] as usize;
     let mut numbers = [0usize; MOST_BLOCKS];
-    names::read(bytes, count, &mut numbers);
-    let blocks = names::blocks_of(numbers);
-    let start = FRONT + names::LENGTH * count;
+    block_list::read(bytes, count, &mut numbers);
+    let blocks = block_list::blocks_of(numbers);
+    let start = FRONT + block_list::ELEMENT * count;
     let mut blockdata = [0u8; MOST_BYTES];
     slices::store(&bytes[start..], 0, &mut blockdata);
     Command {

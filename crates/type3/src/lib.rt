@@ -1,10 +1,10 @@
 // Type 3 tags: the attributes, reading, the commands, the model, the refusals of writing. Writing and judging are crates of their
 // own.
 
+pub mod block_list;
 pub mod commands;
 pub mod kept;
 pub mod model;
-pub mod names;
 pub mod read;
 pub mod space;
 mod stores;

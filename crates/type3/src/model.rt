@@ -38,7 +38,7 @@ pub fn take_command(
     true
 }
 
-// Reading's refusals, then 20; else the blocks that the command names are stored, protected or not.
+// Reading's refusals, then 20; else the blocks that the command lists are stored, protected or not.
 pub fn model(image: &mut [u8], idm: &[u8; 8], command: &[u8]) -> ModelAnswer
     ensures { λ r. ⌜ Took (type3 (now (idm .entry))) (now (image .entry)) (now (command .entry)) r (now (image .exit)) ⌝ }
 {

@@ -1,7 +1,7 @@
-// What a well-formed command stores, taken from its bytes in place: block k's name at 13 + 2k, its data behind the names.
+// What a well-formed command stores, taken from its bytes in place: block k's list element at 13 + 2k, its data behind the block list.
 
+use crate::block_list;
 use crate::commands;
-use crate::names;
 use crate::read;
 use tag::Block;
 use tag::numbers;
@@ -25,19 +25,19 @@ fn store_sixteen(from: &[u8], f: usize, to: &mut [u8], at: usize)
     slices::store(&sixteen, at, to);
 }
 
-// Stores block `k` of the `count` blocks that the command names.
+// Stores block `k` of the `count` blocks that the command lists.
 fn store_block(command: &[u8], count: usize, k: usize, image: &mut [u8])
     requires { ⌜ (count ≤ 8) × (k < count) × (13 + 18 * count ≤ length (now command)) × (16 * byte (now command) (14 + 2 * k) + 16 ≤ length (now image)) ⌝ }
     ensures { λ _. ⌜ now (image .exit) ≡ sets (now (image .entry)) (16 * byte (now (command .entry)) (14 + 2 * k)) (take 16 (drop (13 + 2 * count + 16 * k) (now (command .entry)))) ⌝ }
 {
-    let block = numbers::wide(command[names::FIRST_NUMBER + names::LENGTH * k]);
+    let block = numbers::wide(command[block_list::FIRST_NUMBER + block_list::ELEMENT * k]);
     let at = Block(block).address(read::BLOCK_SIZE);
     let start = at.0;
-    let from = commands::FRONT + names::LENGTH * count + read::BLOCK_SIZE * k;
+    let from = commands::FRONT + block_list::ELEMENT * count + read::BLOCK_SIZE * k;
     store_sixteen(command, from, image, start);
 }
 
-// Stores every block that the command names, protected or not.
+// Stores every block that the command lists, protected or not.
 pub(crate) fn store_blocks(command: &[u8], image: &mut [u8])
     requires { ⌜ Storable (now command) (length (now image)) ⌝ }
     ensures { λ _. ⌜ now (image .exit) ≡ puts (now (image .entry)) (storesFrom (now (command .entry)) (byte (now (command .entry)) 12) 0) ⌝ }

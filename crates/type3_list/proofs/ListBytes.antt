@@ -25,9 +25,9 @@ use Rattle.type3_list.proofs.MessageBlocks.{part-chosen, all-chosen}
 use Rattle.type3_list.proofs.Dealing.{length-commands}
 use Rattle.type3_list.proofs.StoredBlocks.{closed-block, new-block, new-at}
 
-names-of : (j us : List ℕ) → map (λ s. s .at / 16) (map (blockOf 16 j) us) ≡ us
-names-of j [] = refl
-names-of j (b ∷ us) = let back : 16 * b / 16 ≡ b = omega arith in cc (names-of j us)
+block-list-of : (j us : List ℕ) → map (λ s. s .at / 16) (map (blockOf 16 j) us) ≡ us
+block-list-of j [] = refl
+block-list-of j (b ∷ us) = let back : 16 * b / 16 ≡ b = omega arith in cc (block-list-of j us)
 
 -- ---- the commands between block 0's two
 
@@ -48,7 +48,7 @@ module _ (idm i m : List ℕ) (r : HasRoom i m) where
   -- a command that stores some of the message's blocks
   block-commands : (bs : List ℕ) → Chosen m bs → encoded idm (map new bs) ≡ messageCommand idm m bs
   unfolding new
-  block-commands bs c = cc (names-of (newImage (plan i m) i) bs, stored-blocks bs (c .from-one) (c .inside))
+  block-commands bs c = cc (block-list-of (newImage (plan i m) i) bs, stored-blocks bs (c .from-one) (c .inside))
 
   -- those of the blocks bs, w to a command
   chunk-bytes : (bs : List ℕ) → Chosen m bs → (w t : ℕ) → joined (map (encoded idm) (chunk w t (map new bs))) ≡ messageCommands idm m w bs t

@@ -4,19 +4,19 @@
 use crate::blocks;
 use tag::numbers;
 use tag::slices;
+use type3::block_list;
 use type3::commands;
-use type3::names;
 use type3::read;
 ghost use mathlib.Core.Path.{_≡_};
 ghost use mathlib.Core.List.{[], _∷_, _++_};
 ghost use Prim.Native.Nat.{_+_, _*_, _<_, _≤_};
 ghost use lib.ListN.{length, drop};
-ghost use Rattle.type3.specs.Codec.{namesBytes, opening};
+ghost use Rattle.type3.specs.Codec.{blockListBytes, opening};
 ghost use Rattle.type3_list.specs.Views.Blocks.{Chosen};
 ghost use Rattle.type3_list.specs.Views.Listing.{attributeBlock, attributeCommand, messageCommand, messageCommands, listAs, Dealt, Listing};
 
 // Where the command for block 0 has its data.
-const ATTRIBUTE_DATA: usize = commands::FRONT + names::LENGTH;
+const ATTRIBUTE_DATA: usize = commands::FRONT + block_list::ELEMENT;
 
 // The bytes of the command for block 0.
 pub const ATTRIBUTE_COMMAND: usize = commands::FRONT + commands::PER_BLOCK;
@@ -32,16 +32,16 @@ fn put_opening(idm: [u8; 8], count: usize, out: &mut [u8])
     bytes::copy(&front, out);
 }
 
-// The names of the blocks.
-fn put_names(blocks: &[u8], out: &mut [u8])
+// The block list.
+fn put_block_list(blocks: &[u8], out: &mut [u8])
     requires { ⌜ 2 * length (now blocks) ≤ length (now out) ⌝ }
-    ensures { λ _. ⌜ now (out .exit) ≡ namesBytes (now (blocks .entry)) ++ drop (2 * length (now (blocks .entry))) (now (out .entry)) ⌝ }
+    ensures { λ _. ⌜ now (out .exit) ≡ blockListBytes (now (blocks .entry)) ++ drop (2 * length (now (blocks .entry))) (now (out .entry)) ⌝ }
 {
     let mut j = 0usize;
     while j < blocks.len() {
-        let two = names::name(blocks[j]);
-        out[names::LENGTH * j] = two[0];
-        out[names::LENGTH * j + 1] = two[1];
+        let two = block_list::element(blocks[j]);
+        out[block_list::ELEMENT * j] = two[0];
+        out[block_list::ELEMENT * j + 1] = two[1];
         j += 1;
     }
 }
@@ -89,7 +89,7 @@ fn put_attributes(image: &[u8], idm: [u8; 8], flag: u8, ln: usize, out: &mut [u8
     ensures { λ _. ⌜ now (out .exit) ≡ attributeCommand idm (now (image .entry)) flag ln ++ drop 31 (now (out .entry)) ⌝ }
 {
     put_opening(idm, 1, out);
-    put_names(&[0u8], &mut out[commands::FRONT..]);
+    put_block_list(&[0u8], &mut out[commands::FRONT..]);
     put_attribute_block(image, flag, ln, &mut out[ATTRIBUTE_DATA..]);
 }
 
@@ -99,9 +99,9 @@ fn put_command(message: &[u8], idm: [u8; 8], blocks: &[u8], out: &mut [u8])
     ensures { λ _. ⌜ now (out .exit) ≡ messageCommand idm (now (message .entry)) (now (blocks .entry)) ++ drop (13 + 18 * length (now (blocks .entry))) (now (out .entry)) ⌝ }
 {
     let count = blocks.len();
-    let at = commands::FRONT + names::LENGTH * count;
+    let at = commands::FRONT + block_list::ELEMENT * count;
     put_opening(idm, count, out);
-    put_names(blocks, &mut out[commands::FRONT..]);
+    put_block_list(blocks, &mut out[commands::FRONT..]);
     blocks::put_blocks(message, blocks, &mut out[at..]);
 }
 

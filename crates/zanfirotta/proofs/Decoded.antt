@@ -21,8 +21,8 @@ used-blocks idm nbw nmaxb all d (e, k) z =
     let ns = numbers (byte all 12) (drop 13 all) in
     let used = take (d .command .count) (blockNumbers (d .command .blocks)) in
     let read : decodedAs d ≡ decoded used (take (16 * d .command .count) (d .command .bytes)) = rw (eq-eqb (d .refusal) 0 z) in
-    let (was, ok, named-once) = decode-carried idm nbw nmaxb all (ap isCommand (sym e ∙ read)) in
+    let (was, ok, listed-once) = decode-carried idm nbw nmaxb all (ap isCommand (sym e ∙ read)) in
     let same : decoded used (take (16 * d .command .count) (d .command .bytes)) ≡ carried all = sym read ∙ e ∙ was in
-    let named : used ≡ ns = cc same in
+    let listed : used ≡ ns = cc same in
     let n : d .command .count ≡ length ns = ap (λ x. x .count) (k ∙ ap commandAs was) in
-    (omega (arith, length-numbers (byte all 12) (drop 13 all), frame idm nbw all ok .few), ap length named ∙ sym n)
+    (omega (arith, length-numbers (byte all 12) (drop 13 all), frame idm nbw all ok .few), ap length listed ∙ sym n)

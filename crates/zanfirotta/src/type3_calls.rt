@@ -6,8 +6,8 @@ use tag::CountAnswer;
 use tag::refusals;
 use tag::slices;
 use type3::Command;
+use type3::block_list;
 use type3::commands;
-use type3::names;
 use type3::read;
 ghost use mathlib.Core.Path.{_≡_};
 ghost use mathlib.Core.List.{[]};
@@ -83,12 +83,12 @@ pub extern "C" fn zan_type3_encode(
 ) -> u64
     ensures { λ r. ⌜ PutOutToC (encode (now (idm .entry)) nbw nmaxb count (now (blocks .entry)) (now (blockdata .entry))) (now (bytes .entry)) r (now (bytes .exit)) ⌝ }
 {
-    let named = blocks_from(blocks);
+    let listed = blocks_from(blocks);
     let carried = *blockdata;
     let used = count as usize;
     let command = Command {
         count: used,
-        blocks: named,
+        blocks: listed,
         bytes: carried,
     };
     let answer = commands::encode(command, idm, nbw as usize, nmaxb as usize, bytes);
@@ -127,17 +127,17 @@ fn store(from: &[usize], to: &mut [u64])
 // Stores the first `count` of a command's block numbers, and their bytes.
 fn store_used(
     count: usize,
-    named: &[usize],
+    listed: &[usize],
     carried: &[u8],
     blocks: &mut [u64],
     blockdata: &mut [u8],
 )
-    requires { ⌜ (count ≤ 8) × (length (now named) ≡ 8) × (length (now carried) ≡ 128) × (length (now blocks) ≡ 8) × (length (now blockdata) ≡ 128) ⌝ }
-    ensures { λ _. ⌜ now (blocks .exit) ≡ overwrite (take count (now (named .entry))) (now (blocks .entry)) ⌝ }
+    requires { ⌜ (count ≤ 8) × (length (now listed) ≡ 8) × (length (now carried) ≡ 128) × (length (now blocks) ≡ 8) × (length (now blockdata) ≡ 128) ⌝ }
+    ensures { λ _. ⌜ now (blocks .exit) ≡ overwrite (take count (now (listed .entry))) (now (blocks .entry)) ⌝ }
     ensures { λ _. ⌜ now (blockdata .exit) ≡ overwrite (take (16 * count) (now (carried .entry))) (now (blockdata .entry)) ⌝ }
 {
     let used = read::BLOCK_SIZE * count;
-    store(&named[..count], blocks);
+    store(&listed[..count], blocks);
     slices::store(&carried[..used], 0, blockdata);
 }
 
@@ -155,10 +155,10 @@ fn deliver(
 {
     let used = command.count;
     let read = command.blocks;
-    let named = names::block_numbers(read);
+    let listed = block_list::block_numbers(read);
     let carried = command.bytes;
     *count = used as u64;
-    store_used(used, &named, &carried, blocks, blockdata);
+    store_used(used, &listed, &carried, blocks, blockdata);
 }
 
 #[no_mangle]
@@ -173,7 +173,7 @@ pub extern "C" fn zan_type3_decode(
 ) -> u64
     ensures answer { λ r. ⌜ r ≡ packedDecoded3 (decode (now (idm .entry)) nbw nmaxb (now (bytes .entry))) ⌝ }
     ensures many { λ _. ⌜ now (count .exit) ≡ countInto (now (count .entry)) (decode (now (idm .entry)) nbw nmaxb (now (bytes .entry))) ⌝ }
-    ensures named { λ _. ⌜ now (blocks .exit) ≡ blocksInto (now (blocks .entry)) (decode (now (idm .entry)) nbw nmaxb (now (bytes .entry))) ⌝ }
+    ensures listed { λ _. ⌜ now (blocks .exit) ≡ blocksInto (now (blocks .entry)) (decode (now (idm .entry)) nbw nmaxb (now (bytes .entry))) ⌝ }
     ensures carried { λ _. ⌜ now (blockdata .exit) ≡ blockdataInto (now (blockdata .entry)) (decode (now (idm .entry)) nbw nmaxb (now (bytes .entry))) ⌝ }
 {
     let decoded = commands::decode(bytes, idm, nbw as usize, nmaxb as usize);

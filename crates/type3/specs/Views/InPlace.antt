@@ -1,4 +1,4 @@
--- A command's bytes looked at in place, as the code does: the names of its blocks lie from byte 13 on, two bytes each.
+-- A command's bytes looked at in place, as the code does: the block list lies from byte 13 on, two bytes an element.
 -- Assumes nothing.
 use mathlib.Core.Bool.{Bool, true, _&&_}
 use mathlib.Core.List.{List, [], _∷_}
@@ -9,20 +9,20 @@ use Rattle.tag.specs.Bytes.{byte, same}
 use Rattle.type3.specs.Update.{blocksPerCommand}
 use Rattle.type3.specs.Codec.{opening, Decoded, decoded}
 
--- do k names stand at the front, each with 80h first
-unfoldable pub marked : ℕ → List ℕ → Bool
-marked zero bytes = true
-marked (suc k) bytes = eqb (byte bytes 0) 0x80 && marked k (drop 2 bytes)
+-- does each of the k elements at the front begin with 80h
+unfoldable pub wellBegun : ℕ → List ℕ → Bool
+wellBegun zero bytes = true
+wellBegun (suc k) bytes = eqb (byte bytes 0) 0x80 && wellBegun k (drop 2 bytes)
 
--- the numbers of the k blocks named at the front
+-- the numbers of the k blocks listed at the front
 unfoldable pub numbers : ℕ → List ℕ → List ℕ
 numbers zero bytes = []
 numbers (suc k) bytes = byte bytes 1 ∷ numbers k (drop 2 bytes)
 
--- all of a well-formed command but that its blocks may be named: the count b, the length, the opening and the marks
+-- all of a well-formed command but that its blocks may be listed: the count b, the length, the opening and the marks
 unfoldable pub framedBy : List ℕ → ℕ → ℕ → List ℕ → Bool
 framedBy idm nbw b bytes =
-    leb 1 b && leb b (blocksPerCommand nbw) && eqb (length bytes) (13 + 18 * b) && same (take 12 bytes) (opening idm) && marked b (drop 13 bytes)
+    leb 1 b && leb b (blocksPerCommand nbw) && eqb (length bytes) (13 + 18 * b) && same (take 12 bytes) (opening idm) && wellBegun b (drop 13 bytes)
 
 abbrev pub framed : List ℕ → ℕ → List ℕ → Bool
 framed idm nbw bytes = framedBy idm nbw (byte bytes 12) bytes

@@ -11,11 +11,11 @@ use Rattle.tag.specs.Stores.{Store}
 use Rattle.type3.specs.Codec.{Decoded, undecoded, decode, storesOf}
 use Rattle.type3.specs.Views.InPlace.{numbers}
 
--- what the blocks from place k on store, of a command that names b blocks
+-- what the blocks from place k on store, of a command that lists b blocks
 abbrev pub storesFrom : List ℕ → ℕ → ℕ → List Store
 storesFrom bytes b k = storesOf (numbers (b - k) (drop (13 + 2 * k) bytes)) (drop (13 + 2 * b + 16 * k) bytes)
 
--- every block that a command's bytes name lies in an image of n bytes
+-- every block that a command's bytes list lies in an image of n bytes
 pub record Storable (bytes : List ℕ) (n : ℕ) : Type 0 where
   pub few : byte bytes 12 ≤ 8
   pub whole : 13 + 18 * byte bytes 12 ≤ length bytes

@@ -6,14 +6,14 @@ use lib.ListN.{length, take, drop, replicate}
 use lib.Seq.{take-at, length-take-le}
 use Rattle.tag.specs.Bytes.{byte}
 use Rattle.tag.proofs.Storing.{sets-front}
-use Rattle.type3.specs.Codec.{nameable}
+use Rattle.type3.specs.Codec.{listable}
 use Rattle.type3.specs.Views.InPlace.{numbers}
 use Rattle.type3.proofs.Naming.{length-numbers}
 use Rattle.type3.proofs.commands.blocks_fit.Statement.{statement}
 use Rattle.type3.proofs.commands.blocks_fit.Tie as tie
 
-slice-aggregate-nameable : tie.Need-slice-aggregate-nameable
-slice-aggregate-nameable c =
+slice-aggregate-listable : tie.Need-slice-aggregate-listable
+slice-aggregate-listable c =
     let bs = c .before .before .before .before .before .before .args .bytes .now in
     sym (length-take-le (byte bs 12) (c .before .before .read .last .1 .1 .0) (omega arith))
 
@@ -27,7 +27,7 @@ returns c =
     let k : length ns ≡ byte bs 12 = length-numbers (byte bs 12) (drop 13 bs) in
     let front : take (byte bs 12) (r .last .1 .1 .0) ≡ ns
     = ap (take (byte bs 12)) (r .ensures ∙ sets-front ns (replicate 8 0) (omega (arith, f .few))) ∙ take-at ns (drop (length ns) (replicate 8 0)) (byte bs 12) k in
-    c .nameable .ensures ∙ ap (nameable (a .nmaxb)) front
+    c .listable .ensures ∙ ap (listable (a .nmaxb)) front
 
 pub blocks-fit-spec : {M : Type 1} → statement M
 blocks-fit-spec =
@@ -38,6 +38,6 @@ blocks-fit-spec =
     (λ c. search needs)
     (λ c κs. search needs)
     (λ c. search needs)
-    slice-aggregate-nameable
+    slice-aggregate-listable
     (λ c κs. search needs)
     returns)

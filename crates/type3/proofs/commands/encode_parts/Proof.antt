@@ -8,23 +8,23 @@ use lib.ListN.{length, take}
 use lib.Seq.{length-take-le}
 use Rattle.tag.specs.Answers.{countOf}
 use Rattle.tag.specs.TagType.{outputInto}
-use Rattle.type3.proofs.Naming.{nameable-each}
-use Rattle.type3.proofs.Encoding.{Used, used, encode-unnamed, encode-short, encode-written}
+use Rattle.type3.proofs.Naming.{listable-each}
+use Rattle.type3.proofs.Encoding.{Used, used, encode-unlisted, encode-short, encode-written}
 use Rattle.type3.proofs.commands.encode_parts.Statement.{statement}
 use Rattle.type3.proofs.commands.encode_parts.Tie as tie
 
 returns : tie.Need-returns
 returns c =
     let a = c .before .before .before .before .before .args in
-    let w = c .before .well-named in
-    let e = encode-unnamed (a .idm) (a .nbw) (a .nmaxb) (a .count) (a .blocks .now) (a .blockdata .now) (length (a .bytes .now)) (sym (w .ensures) ∙ not-true (w .result) (c .if1 .taken)) in
+    let w = c .before .well-listed in
+    let e = encode-unlisted (a .idm) (a .nbw) (a .nmaxb) (a .count) (a .blocks .now) (a .blockdata .now) (length (a .bytes .now)) (sym (w .ensures) ∙ not-true (w .result) (c .if1 .taken)) in
     (sym (ap countOf e), sym (ap (outputInto (a .bytes .now)) e))
 
 -- the blocks that are used
 blocks-used : (c : tie.Else1) → (let a = c .before .before .before .before .before .args in Used (a .nmaxb) (a .count) (a .blocks .now))
 blocks-used c =
     let a = c .before .before .before .before .before .args in
-    let w = c .before .well-named in
+    let w = c .before .well-listed in
     used (a .nbw) (a .nmaxb) (a .count) (a .blocks .now) (omega arith) (sym (w .ensures) ∙ not-false (w .result) (c .if1 .left))
 
 mul-size : tie.Need-mul-size
@@ -36,7 +36,7 @@ add-size c = omega (arith, blocks-used c)
 returns-2 : tie.Need-returns-2
 returns-2 c =
     let a = c .before .before .before .before .before .before .args in
-    let w = c .before .before .well-named in
+    let w = c .before .before .well-listed in
     let e = encode-short (a .idm) (a .nbw) (a .nmaxb) (a .count) (a .blocks .now) (a .blockdata .now) (length (a .bytes .now)) (omega arith) (omega arith) (omega arith) (sym (w .ensures) ∙ not-false (w .result) (c .before .if1 .left)) (omega arith) in
     (sym (ap countOf e), sym (ap (outputInto (a .bytes .now)) e))
 
@@ -55,7 +55,7 @@ put-requires c κs =
     let u = blocks-used (c .before .before .before .before) in
     record {
       few = omega arith;
-      each-byte = λ i l. nameable-each (a .nmaxb) (take (a .count) (a .blocks .now)) (u .named) i l .1;
+      each-byte = λ i l. listable-each (a .nmaxb) (take (a .count) (a .blocks .now)) (u .listed) i l .1;
       blockdata = omega (arith, length-take-le (16 * a .count) (a .blockdata .now) (omega arith));
       room = omega arith;
     }
@@ -63,7 +63,7 @@ put-requires c κs =
 returns-3 : tie.Need-returns-3
 returns-3 c =
     let a = c .before .before .before .before .before .before .before .before .before .before .before .before .args in
-    let w = c .before .before .before .before .before .before .before .before .well-named in
+    let w = c .before .before .before .before .before .before .before .before .well-listed in
     let e = encode-written (a .idm) (a .nbw) (a .nmaxb) (a .count) (a .blocks .now) (a .blockdata .now) (length (a .bytes .now)) (omega arith) (omega arith) (omega arith) (sym (w .ensures) ∙ not-false (w .result) (c .before .before .before .before .before .before .before .if1 .left)) (omega arith) in
     (sym (ap countOf e), c .before .before .put .ensures ∙ sym (ap (outputInto (a .bytes .now)) e))
 

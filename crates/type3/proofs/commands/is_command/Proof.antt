@@ -5,7 +5,7 @@ use native.Mathlib.Omega.{arith}
 use borrow.Author.Needs.{needs}
 use lib.ListN.{drop}
 use Rattle.tag.specs.Bytes.{byte}
-use Rattle.type3.specs.Codec.{nameable}
+use Rattle.type3.specs.Codec.{listable}
 use Rattle.type3.specs.Views.InPlace.{numbers}
 use Rattle.type3.proofs.Decoding.{frame, is-command-by}
 use Rattle.type3.proofs.commands.is_command.Statement.{statement}
@@ -20,16 +20,16 @@ returns : tie.Need-returns
 returns c =
     let a = c .before .before .before .before .before .args in
     let bs = a .bytes .now in
-    let named = nameable (a .nmaxb) (numbers (byte bs 12) (drop 13 bs)) in
+    let listed = listable (a .nmaxb) (numbers (byte bs 12) (drop 13 bs)) in
     c .blocks-fit .ensures
-    ∙ sym (is-command-by (a .idm .now) (a .nbw) (a .nmaxb) bs (omega arith) ∙ ap (λ f. f && named) (sym (c .before .before .is-framed .ensures) ∙ c .before .if1 .taken))
+    ∙ sym (is-command-by (a .idm .now) (a .nbw) (a .nmaxb) bs (omega arith) ∙ ap (λ f. f && listed) (sym (c .before .before .is-framed .ensures) ∙ c .before .if1 .taken))
 
 returns-2 : tie.Need-returns-2
 returns-2 c =
     let a = c .before .before .before .before .args in
     let bs = a .bytes .now in
-    let named = nameable (a .nmaxb) (numbers (byte bs 12) (drop 13 bs)) in
-    sym (is-command-by (a .idm .now) (a .nbw) (a .nmaxb) bs (omega arith) ∙ ap (λ f. f && named) (sym (c .before .is-framed .ensures) ∙ c .if1 .left))
+    let listed = listable (a .nmaxb) (numbers (byte bs 12) (drop 13 bs)) in
+    sym (is-command-by (a .idm .now) (a .nbw) (a .nmaxb) bs (omega arith) ∙ ap (λ f. f && listed) (sym (c .before .is-framed .ensures) ∙ c .if1 .left))
 
 pub is-command-spec : {M : Type 1} → statement M
 is-command-spec = tie.close

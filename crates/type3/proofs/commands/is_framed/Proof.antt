@@ -57,7 +57,7 @@ unfolding framedBy
 returns-5 c =
     let a = c .before .before .before .before .before .before .before .before .before .before .args in
     let bs = a .bytes .now in
-    rw (sym (c .before .before .before .before .before .countable .ensures) ∙ not-false (c .before .before .before .before .before .countable .result) (c .before .before .before .before .if2 .left), eq-eqb (length bs) (13 + 18 * byte bs 12) (c .before .before .before .if3 .left), sym (c .before .before .opens .ensures) ∙ not-false (c .before .before .opens .result) (c .before .if4 .left)) (c .marked .ensures)
+    rw (sym (c .before .before .before .before .before .countable .ensures) ∙ not-false (c .before .before .before .before .before .countable .result) (c .before .before .before .before .if2 .left), eq-eqb (length bs) (13 + 18 * byte bs 12) (c .before .before .before .if3 .left), sym (c .before .before .opens .ensures) ∙ not-false (c .before .before .opens .result) (c .before .if4 .left)) (c .well-begun .ensures)
 
 pub is-framed-spec : {M : Type 1} → statement M
 is-framed-spec =

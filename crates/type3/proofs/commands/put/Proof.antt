@@ -4,7 +4,7 @@ use Prim.Native.Nat.{_+_, _*_}
 use borrow.Author.Needs.{needs}
 use lib.ListN.{length}
 use lib.Seq.{sets}
-use Rattle.type3.specs.Codec.{namesBytes}
+use Rattle.type3.specs.Codec.{blockListBytes}
 use Rattle.type3.proofs.Encoding.{command-stored}
 use Rattle.type3.proofs.commands.put.Statement.{statement}
 use Rattle.type3.proofs.commands.put.Tie as tie
@@ -16,8 +16,8 @@ returns c =
     let bs = a .blocks .now in
     c .before .before .store2 .ensures
     ∙ ap (λ t. sets t (13 + 2 * length bs) (a .blockdata .now)) (c .before .before .before .before .before .before .put .ensures)
-    ∙ ap (λ t. sets (sets t 13 (namesBytes bs)) (13 + 2 * length bs) (a .blockdata .now)) (c .before .before .before .before .before .before .before .before .before .before .store .ensures)
-    ∙ ap (λ o. sets (sets (sets (a .bytes .now) 0 o) 13 (namesBytes bs)) (13 + 2 * length bs) (a .blockdata .now)) (c .before .before .before .before .before .before .before .before .before .before .before .before .before .opening .ensures)
+    ∙ ap (λ t. sets (sets t 13 (blockListBytes bs)) (13 + 2 * length bs) (a .blockdata .now)) (c .before .before .before .before .before .before .before .before .before .before .store .ensures)
+    ∙ ap (λ o. sets (sets (sets (a .bytes .now) 0 o) 13 (blockListBytes bs)) (13 + 2 * length bs) (a .blockdata .now)) (c .before .before .before .before .before .before .before .before .before .before .before .before .before .opening .ensures)
     ∙ command-stored (a .bytes .now) (a .idm) bs (a .blockdata .now) (search needs) (s .pre .blockdata) (s .pre .room)
 
 pub put-spec : {M : Type 1} → statement M

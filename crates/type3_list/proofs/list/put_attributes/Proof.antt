@@ -11,15 +11,15 @@ use Rattle.type3_list.proofs.list.put_attributes.Tie as tie
 returns : tie.Need-returns
 returns c =
     let at-block = c .before .before in
-    let at-names = at-block .before .before .before .before in
-    let at-arg = at-names .before .before in
+    let at-block-list = at-block .before .before .before .before in
+    let at-arg = at-block-list .before .before in
     let at-opening = at-arg .before .before .before in
     let at-start = at-opening .before .before .before .before in
     let a = at-start .args in
     let opened = at-opening .put-opening in
-    let named = at-names .put-names in
-    lay-command (a .idm) (0 ∷ []) (attributeBlock (a .image .now) (a .flag) (a .ln)) (a .out .now) (opened .last .1 .1 .0) (named .last .1 .0) _ 1 (search needs) refl
-    (length-attribute-block (a .image .now) (a .flag) (a .ln)) (search needs) (opened .ensures) (named .ensures) (at-block .put-attribute-block .ensures)
+    let listed = at-block-list .put-block-list in
+    lay-command (a .idm) (0 ∷ []) (attributeBlock (a .image .now) (a .flag) (a .ln)) (a .out .now) (opened .last .1 .1 .0) (listed .last .1 .0) _ 1 (search needs) refl
+    (length-attribute-block (a .image .now) (a .flag) (a .ln)) (search needs) (opened .ensures) (listed .ensures) (at-block .put-attribute-block .ensures)
 
 pub put-attributes-spec : {M : Type 1} → statement M
 put-attributes-spec =

@@ -11,17 +11,17 @@ use Rattle.type3_list.proofs.list.put_command.Tie as tie
 returns : tie.Need-returns
 returns c =
     let at-blocks = c .before .before in
-    let at-names = at-blocks .before .before .before .before in
-    let at-opening = at-names .before .before .before .before in
+    let at-block-list = at-blocks .before .before .before .before in
+    let at-opening = at-block-list .before .before .before .before in
     let at-known = at-opening .before .before in
     let at-start = at-known .before .before .before in
     let a = at-start .args in
     let m = a .message .now in
     let bs = a .blocks .now in
     let opened = at-opening .put-opening in
-    let named = at-names .put-names in
-    lay-command (a .idm) bs (blocksBytes m bs) (a .out .now) (opened .last .1 .1 .0) (named .last .1 .0) _ (length bs)
-    (search needs) refl (length-blocks m bs) (search needs) (opened .ensures) (named .ensures) (at-blocks .put-blocks .ensures)
+    let listed = at-block-list .put-block-list in
+    lay-command (a .idm) bs (blocksBytes m bs) (a .out .now) (opened .last .1 .1 .0) (listed .last .1 .0) _ (length bs)
+    (search needs) refl (length-blocks m bs) (search needs) (opened .ensures) (listed .ensures) (at-blocks .put-blocks .ensures)
 
 pub put-command-spec : {M : Type 1} → statement M
 put-command-spec =

@@ -8,8 +8,8 @@ use Rattle.zanfirotta.proofs.type3_calls.deliver.Tie as tie
 
 returns : tie.Need-returns
 returns c =
-    let at-named = c .before .before .before .before in
-    let at-numbers = at-named .before .before in
+    let at-listed = c .before .before .before .before in
+    let at-numbers = at-listed .before .before in
     let a = at-numbers .before .before .args in
     let stored = c .store-used .ensures in
     (refl, (stored .0 ∙ ap (λ l. overwrite (take (a .command .count) l) (a .blocks .now)) (at-numbers .block-numbers .ensures), stored .1))

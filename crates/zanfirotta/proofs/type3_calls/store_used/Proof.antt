@@ -13,13 +13,13 @@ slice-aggregate-store : tie.Need-slice-aggregate-store
 slice-aggregate-store c =
     let at-slice-known2 = c .before in
     let at-start = at-slice-known2 .before .before .before .before in
-    sym (length-take-le (at-start .args .count) (at-start .args .named .now) (omega arith))
+    sym (length-take-le (at-start .args .count) (at-start .args .listed .now) (omega arith))
 
 store-requires : tie.Need-store-requires
 store-requires c κs =
     let at-slice-known2 = c .before .before in
     let at-start = at-slice-known2 .before .before .before .before in
-    omega (arith, length-take-le (at-start .args .count) (at-start .args .named .now) (omega arith))
+    omega (arith, length-take-le (at-start .args .count) (at-start .args .listed .now) (omega arith))
 
 slice-aggregate-store-2 : tie.Need-slice-aggregate-store-2
 slice-aggregate-store-2 c =
@@ -43,9 +43,9 @@ returns c =
     let at-slice-known2 = at-store .before .before .before in
     let at-start = at-slice-known2 .before .before .before .before in
     let a = at-start .args in
-    let n = length-take-le (a .count) (a .named .now) (omega arith) in
+    let n = length-take-le (a .count) (a .listed .now) (omega arith) in
     let m = length-take-le (16 * a .count) (a .carried .now) (omega arith) in (
-      at-store .store .ensures ∙ sets-front (take (a .count) (a .named .now)) (a .blocks .now) (omega arith),
+      at-store .store .ensures ∙ sets-front (take (a .count) (a .listed .now)) (a .blocks .now) (omega arith),
       at-store2 .store2 .ensures
           ∙ sets-front (take (16 * a .count) (a .carried .now)) (a .blockdata .now) (omega arith),
     )

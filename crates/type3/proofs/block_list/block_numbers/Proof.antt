@@ -1,11 +1,11 @@
--- `names::block_numbers` meets its contract. Assumes nothing.
+-- `block_list::block_numbers` meets its contract. Assumes nothing.
 use borrow.Author.Needs.{needs}
 use lib.ListN.{length-map}
 use Rattle.tag.proofs.Runs.{bytes-of}
 use Rattle.type3.specs.CodecContracts.{blockNumbers}
 use Rattle.type3.proofs.Numbering.{number-at}
-use Rattle.type3.proofs.names.block_numbers.Statement.{statement}
-use Rattle.type3.proofs.names.block_numbers.Tie as tie
+use Rattle.type3.proofs.block_list.block_numbers.Statement.{statement}
+use Rattle.type3.proofs.block_list.block_numbers.Tie as tie
 
 returns : tie.Need-returns
 returns c = simp number-at (bytes-of (blockNumbers (c .args .t1)) 8 (simp length-map (search needs)))

@@ -1,4 +1,4 @@
--- `names::nameable` meets its contract. Assumes nothing.
+-- `block_list::listable` meets its contract. Assumes nothing.
 use mathlib.Core.Path.{_≡_, refl, sym, ap, _∙_}
 use mathlib.Core.Bool.{true, false}
 use Prim.Native.Nat.{_+_, _-_, _≤_}
@@ -8,13 +8,13 @@ use borrow.Author.Tests.{le-leb, lt-leb}
 use lib.ListN.{length, drop, length-drop}
 use lib.Seq.{take-all}
 use Rattle.tag.specs.Bytes.{byte, has}
-use Rattle.type3.specs.Codec.{nameable}
-use Rattle.type3.proofs.Naming.{nameable-at, nameable-end}
-use Rattle.type3.proofs.names.nameable.Statement.{statement}
-use Rattle.type3.proofs.names.nameable.Tie as tie
+use Rattle.type3.specs.Codec.{listable}
+use Rattle.type3.proofs.Naming.{listable-at, listable-end}
+use Rattle.type3.proofs.block_list.listable.Statement.{statement}
+use Rattle.type3.proofs.block_list.listable.Tie as tie
 
 abbrev Inv-loop : tie.InvT-loop
-Inv-loop blocks nmaxb i₀ i = (i ≤ length blocks) × (nameable nmaxb blocks ≡ nameable nmaxb (drop i blocks))
+Inv-loop blocks nmaxb i₀ i = (i ≤ length blocks) × (listable nmaxb blocks ≡ listable nmaxb (drop i blocks))
 
 abbrev μ-loop : tie.MeasureT-loop
 μ-loop blocks nmaxb i₀ i = length blocks - i
@@ -27,7 +27,7 @@ returns c =
     let l = c .before .before .before .loop in
     let a = c .before .before .before .before .before .args in
     let b = byte (a .blocks .now) (l .i) in
-    sym (l .inv .1 ∙ nameable-at (a .nmaxb) (a .blocks .now) (l .i) (omega arith) ∙ rw (lt-leb b (a .nmaxb) (c .if1 .taken)))
+    sym (l .inv .1 ∙ listable-at (a .nmaxb) (a .blocks .now) (l .i) (omega arith) ∙ rw (lt-leb b (a .nmaxb) (c .if1 .taken)))
 
 returns-2 : tie.Need-returns-2 Inv-loop μ-loop
 returns-2 c =
@@ -36,7 +36,7 @@ returns-2 c =
     let b = byte (a .blocks .now) (l .i) in
     sym (
     l .inv .1
-    ∙ nameable-at (a .nmaxb) (a .blocks .now) (l .i) (omega arith)
+    ∙ listable-at (a .nmaxb) (a .blocks .now) (l .i) (omega arith)
     ∙ rw (le-leb b (a .nmaxb) (c .before .if1 .left), lt-leb b 255 (c .if2 .taken))
     )
 
@@ -50,7 +50,7 @@ returns-3 c =
     = ap (has b) (sym (take-all (length bs - (l .i + 1)) (drop (l .i + 1) bs) (omega (arith, length-drop (l .i + 1) bs)))) ∙ sym (c .before .has .ensures) ∙ c .if3 .taken in
     sym (
     l .inv .1
-    ∙ nameable-at (a .nmaxb) bs (l .i) (omega arith)
+    ∙ listable-at (a .nmaxb) bs (l .i) (omega arith)
     ∙ rw (le-leb b (a .nmaxb) (c .before .before .before .before .if1 .left), le-leb b 255 (c .before .before .before .if2 .left), rest)
     )
 
@@ -64,7 +64,7 @@ loop-again c =
     = ap (has b) (sym (take-all (length bs - (l .i + 1)) (drop (l .i + 1) bs) (omega (arith, length-drop (l .i + 1) bs)))) ∙ sym (c .before .has .ensures) ∙ c .if3 .left in (
       search needs,
       l .inv .1
-          ∙ nameable-at (a .nmaxb) bs (l .i) (omega arith)
+          ∙ listable-at (a .nmaxb) bs (l .i) (omega arith)
           ∙ rw (le-leb b (a .nmaxb) (c .before .before .before .before .if1 .left), le-leb b 255 (c .before .before .before .if2 .left), rest),
     )
 
@@ -72,10 +72,10 @@ returns-4 : tie.Need-returns-4 Inv-loop μ-loop
 returns-4 c =
     let l = c .before .loop in
     let a = c .before .before .before .args in
-    sym (l .inv .1 ∙ nameable-end (a .nmaxb) (a .blocks .now) (l .i) (omega arith))
+    sym (l .inv .1 ∙ listable-end (a .nmaxb) (a .blocks .now) (l .i) (omega arith))
 
-pub nameable-spec : {M : Type 1} → statement M
-nameable-spec =
+pub listable-spec : {M : Type 1} → statement M
+listable-spec =
     tie.close
     (tie.spec
     Inv-loop

@@ -1,4 +1,4 @@
--- `names::has` meets its contract. Assumes nothing.
+-- `block_list::has` meets its contract. Assumes nothing.
 use mathlib.Core.Path.{_≡_, refl, sym, _∙_}
 use Prim.Native.Nat.{_-_, _≤_}
 use native.Mathlib.Omega.{arith}
@@ -6,8 +6,8 @@ use borrow.Author.Needs.{needs}
 use lib.ListN.{length, drop}
 use Rattle.tag.specs.Bytes.{has}
 use Rattle.type3.proofs.Naming.{has-found, has-more, has-end}
-use Rattle.type3.proofs.names.has.Statement.{statement}
-use Rattle.type3.proofs.names.has.Tie as tie
+use Rattle.type3.proofs.block_list.has.Statement.{statement}
+use Rattle.type3.proofs.block_list.has.Tie as tie
 
 abbrev Inv-loop : tie.InvT-loop
 Inv-loop blocks block i₀ i = (i ≤ length blocks) × (has block blocks ≡ has block (drop i blocks))

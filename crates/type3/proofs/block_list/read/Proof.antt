@@ -1,4 +1,4 @@
--- `names::read` meets its contract: after i turns the first i numbers are stored. Assumes nothing.
+-- `block_list::read` meets its contract: after i turns the first i numbers are stored. Assumes nothing.
 use mathlib.Core.Path.{_≡_, refl, ap, _∙_}
 use Prim.Native.Nat.{_+_, _-_, _*_, _≤_}
 use native.Mathlib.Omega.{arith}
@@ -8,8 +8,8 @@ use lib.Seq.{sets}
 use Rattle.tag.specs.Bytes.{byte}
 use Rattle.type3.specs.Views.InPlace.{numbers}
 use Rattle.type3.proofs.Naming.{numbers-more}
-use Rattle.type3.proofs.names.read.Statement.{statement}
-use Rattle.type3.proofs.names.read.Tie as tie
+use Rattle.type3.proofs.block_list.read.Statement.{statement}
+use Rattle.type3.proofs.block_list.read.Tie as tie
 
 abbrev Inv-loop : tie.InvT-loop
 Inv-loop bytes count blocks₀ i₀ blocks i = (i ≤ count) × (length blocks ≡ length blocks₀) × (blocks ≡ sets blocks₀ 0 (numbers i (drop 13 bytes)))

@@ -1,10 +1,10 @@
--- `names::blocks_of` meets its contract. Assumes nothing.
+-- `block_list::blocks_of` meets its contract. Assumes nothing.
 use mathlib.Core.Path.{ap}
 use borrow.Author.Needs.{needs}
 use Rattle.tag.proofs.Runs.{bytes-of}
 use Rattle.type3.specs.CodecContracts.{blocksOf}
-use Rattle.type3.proofs.names.blocks_of.Statement.{statement}
-use Rattle.type3.proofs.names.blocks_of.Tie as tie
+use Rattle.type3.proofs.block_list.blocks_of.Statement.{statement}
+use Rattle.type3.proofs.block_list.blocks_of.Tie as tie
 
 returns : tie.Need-returns
 returns c = ap blocksOf (bytes-of (c .args .t1) 8 (search needs))

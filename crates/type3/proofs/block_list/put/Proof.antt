@@ -1,4 +1,4 @@
--- `names::put` meets its contract: after i turns the names of the first i blocks are stored. Assumes nothing.
+-- `block_list::put` meets its contract: after i turns the names of the first i blocks are stored. Assumes nothing.
 use mathlib.Core.Path.{_≡_, refl, ap, _∙_}
 use Prim.Native.Nat.{_+_, _-_, _*_, _≤_}
 use native.Mathlib.Omega.{arith}
@@ -6,13 +6,13 @@ use borrow.Author.Needs.{needs}
 use lib.ListN.{length, take, set, length-set}
 use lib.Seq.{sets, take-all}
 use Rattle.tag.specs.Bytes.{byte}
-use Rattle.type3.specs.Codec.{namesBytes}
-use Rattle.type3.proofs.Naming.{names-more}
-use Rattle.type3.proofs.names.put.Statement.{statement}
-use Rattle.type3.proofs.names.put.Tie as tie
+use Rattle.type3.specs.Codec.{blockListBytes}
+use Rattle.type3.proofs.Naming.{block-list-more}
+use Rattle.type3.proofs.block_list.put.Statement.{statement}
+use Rattle.type3.proofs.block_list.put.Tie as tie
 
 abbrev Inv-loop : tie.InvT-loop
-Inv-loop blocks bytes₀ i₀ bytes i = (i ≤ length blocks) × (length bytes ≡ length bytes₀) × (bytes ≡ sets bytes₀ 13 (namesBytes (take i blocks)))
+Inv-loop blocks bytes₀ i₀ bytes i = (i ≤ length blocks) × (length bytes ≡ length bytes₀) × (bytes ≡ sets bytes₀ 13 (blockListBytes (take i blocks)))
 
 abbrev μ-loop : tie.MeasureT-loop
 μ-loop blocks bytes₀ i₀ bytes i = length blocks - i
@@ -20,8 +20,8 @@ abbrev μ-loop : tie.MeasureT-loop
 loop-holds : tie.Need-loop-holds Inv-loop μ-loop
 loop-holds c = (search needs, refl, refl)
 
-cast-name : tie.Need-cast-name Inv-loop μ-loop
-cast-name c = record { fits = omega (arith, c .before .before .before .before .before .pre .1 (c .before .before .loop .i) (omega arith)) }
+cast-element : tie.Need-cast-element Inv-loop μ-loop
+cast-element c = record { fits = omega (arith, c .before .before .before .before .before .pre .1 (c .before .before .loop .i) (omega arith)) }
 
 slice-write-bytes-2 : tie.Need-slice-write-bytes-2 Inv-loop μ-loop
 slice-write-bytes-2 c = simp length-set (omega arith)
@@ -34,15 +34,15 @@ loop-again c =
     let at = 13 + 2 * l .i in (
       search needs,
       simp length-set (l .inv .1),
-      ap (λ two. set (set (l .bytes) at (byte two 0)) (at + 1) (byte two 1)) (c .name .ensures)
-          ∙ ap (λ t. set (set t at 0x80) (at + 1) b) (l .inv .2) ∙ names-more (a .bytes .now) (a .blocks .now) (l .i) at (omega arith) refl,
+      ap (λ two. set (set (l .bytes) at (byte two 0)) (at + 1) (byte two 1)) (c .element .ensures)
+          ∙ ap (λ t. set (set t at 0x80) (at + 1) b) (l .inv .2) ∙ block-list-more (a .bytes .now) (a .blocks .now) (l .i) at (omega arith) refl,
     )
 
 returns : tie.Need-returns Inv-loop μ-loop
 returns c =
     let l = c .before .loop in
     let a = c .before .before .before .before .args in
-    l .inv .2 ∙ ap (λ r. sets (a .bytes .now) 13 (namesBytes r)) (take-all (l .i) (a .blocks .now) (omega arith))
+    l .inv .2 ∙ ap (λ r. sets (a .bytes .now) 13 (blockListBytes r)) (take-all (l .i) (a .blocks .now) (omega arith))
 
 pub put-spec : {M : Type 1} → statement M
 put-spec =
@@ -55,7 +55,7 @@ put-spec =
     (λ c. search needs)
     (λ c. search needs)
     (λ c. search needs)
-    cast-name
+    cast-element
     (λ c κs. search needs)
     (λ c. search needs)
     (λ c. search needs)

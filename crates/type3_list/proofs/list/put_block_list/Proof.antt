@@ -1,4 +1,4 @@
--- `list::put_names` meets its contract. The loop's invariant: the names passed are laid over the buffer. Assumes nothing.
+-- `list::put_block_list` meets its contract. The loop's invariant: the names passed are laid over the buffer. Assumes nothing.
 use mathlib.Core.Path.{_≡_, refl, ap, _∙_}
 use mathlib.Core.List.{_++_}
 use Prim.Native.Nat.{_+_, _-_, _*_, _≤_}
@@ -8,15 +8,15 @@ use lib.ListN.{length, take, drop, set, length-set}
 use lib.Seq.{take-all, length-take-le}
 use Rattle.tag.specs.Bytes.{byte}
 use Rattle.tag.proofs.Filling.{lay-two}
-use Rattle.type3.specs.Codec.{namesBytes}
-use Rattle.type3.proofs.Codec.{length-names}
-use Rattle.type3_list.proofs.Laying.{names-more}
-use Rattle.type3_list.proofs.list.put_names.Statement.{statement}
-use Rattle.type3_list.proofs.list.put_names.Tie as tie
+use Rattle.type3.specs.Codec.{blockListBytes}
+use Rattle.type3.proofs.Codec.{length-block-list}
+use Rattle.type3_list.proofs.Laying.{block-list-more}
+use Rattle.type3_list.proofs.list.put_block_list.Statement.{statement}
+use Rattle.type3_list.proofs.list.put_block_list.Tie as tie
 
 abbrev Inv-loop : tie.InvT-loop
 Inv-loop blocks out₀ j₀ out j =
-    (j ≤ length blocks) × (length out ≡ length out₀) × (out ≡ namesBytes (take j blocks) ++ drop (2 * j) out₀)
+    (j ≤ length blocks) × (length out ≡ length out₀) × (out ≡ blockListBytes (take j blocks) ++ drop (2 * j) out₀)
 
 abbrev μ-loop : tie.MeasureT-loop
 μ-loop blocks out₀ j₀ out j = length blocks - j
@@ -31,13 +31,13 @@ loop-again c =
     let a = at-start .args in
     let l = at-loop .loop in
     let bs = a .blocks .now in
-    let names = namesBytes (take (l .j) bs) in
-    let long : length names ≡ 2 * l .j = length-names (take (l .j) bs) ∙ ap (λ n. 2 * n) (length-take-le (l .j) bs (l .inv .0)) in
-    let two = lay-two (l .out) names (a .out .now) (2 * l .j) 0x80 (byte bs (l .j)) (l .inv .2) long (omega (arith, at-start .pre)) in
+    let block-list = blockListBytes (take (l .j) bs) in
+    let long : length block-list ≡ 2 * l .j = length-block-list (take (l .j) bs) ∙ ap (λ n. 2 * n) (length-take-le (l .j) bs (l .inv .0)) in
+    let two = lay-two (l .out) block-list (a .out .now) (2 * l .j) 0x80 (byte bs (l .j)) (l .inv .2) long (omega (arith, at-start .pre)) in
     let next : 2 * l .j + 2 ≡ 2 * (l .j + 1) = omega arith in (
       omega arith,
       simp length-set (search needs),
-      ap (λ n. set (set (l .out) (2 * l .j) (byte n 0)) (2 * l .j + 1) (byte n 1)) (c .name .ensures) ∙ two ∙ rw (next, names-more bs (l .j) (omega arith)),
+      ap (λ n. set (set (l .out) (2 * l .j) (byte n 0)) (2 * l .j + 1) (byte n 1)) (c .element .ensures) ∙ two ∙ rw (next, block-list-more bs (l .j) (omega arith)),
     )
 
 returns : tie.Need-returns Inv-loop μ-loop
@@ -48,8 +48,8 @@ returns c =
     let all : at-loop .loop .j ≡ length bs = omega (arith, at-loop .loop .inv .0) in
     rw (all, take-all (length bs) bs (omega arith)) at (at-loop .loop .inv .2)
 
-pub put-names-spec : {M : Type 1} → statement M
-put-names-spec =
+pub put-block-list-spec : {M : Type 1} → statement M
+put-block-list-spec =
     tie.close
     (tie.spec
     Inv-loop

@@ -1,16 +1,16 @@
--- `names::marked` meets its contract. Assumes nothing.
+-- `block_list::well_begun` meets its contract. Assumes nothing.
 use mathlib.Core.Path.{_≡_, sym, _∙_}
 use Prim.Native.Nat.{_+_, _-_, _*_, _≤_}
 use native.Mathlib.Omega.{arith}
 use borrow.Author.Needs.{needs}
 use lib.ListN.{drop}
-use Rattle.type3.specs.Views.InPlace.{marked}
-use Rattle.type3.proofs.Naming.{marked-more, unmarked, marked-none}
-use Rattle.type3.proofs.names.marked.Statement.{statement}
-use Rattle.type3.proofs.names.marked.Tie as tie
+use Rattle.type3.specs.Views.InPlace.{wellBegun}
+use Rattle.type3.proofs.Naming.{well-begun-more, not-begun, well-begun-none}
+use Rattle.type3.proofs.block_list.well_begun.Statement.{statement}
+use Rattle.type3.proofs.block_list.well_begun.Tie as tie
 
 abbrev Inv-loop : tie.InvT-loop
-Inv-loop bytes count i₀ i = (i ≤ count) × (marked count (drop 13 bytes) ≡ marked (count - i) (drop (13 + 2 * i) bytes))
+Inv-loop bytes count i₀ i = (i ≤ count) × (wellBegun count (drop 13 bytes) ≡ wellBegun (count - i) (drop (13 + 2 * i) bytes))
 
 abbrev μ-loop : tie.MeasureT-loop
 μ-loop bytes count i₀ i = count - i
@@ -24,7 +24,7 @@ returns : tie.Need-returns Inv-loop μ-loop
 returns c =
     let l = c .before .before .before .loop in
     let a = c .before .before .before .before .args in
-    sym (l .inv .1 ∙ unmarked (a .count - l .i) (a .bytes .now) (13 + 2 * l .i) (omega arith) (c .if1 .taken))
+    sym (l .inv .1 ∙ not-begun (a .count - l .i) (a .bytes .now) (13 + 2 * l .i) (omega arith) (c .if1 .taken))
 
 loop-again : tie.Need-loop-again Inv-loop μ-loop
 loop-again c =
@@ -32,17 +32,17 @@ loop-again c =
     let a = c .before .before .before .before .args in
     let k : a .count - l .i - 1 ≡ a .count - (l .i + 1) = omega arith in
     let n : 13 + 2 * l .i + 2 ≡ 13 + 2 * (l .i + 1) = omega arith in
-    let e = marked-more (a .count - l .i) (a .bytes .now) (13 + 2 * l .i) (omega arith) (c .if1 .left) in
+    let e = well-begun-more (a .count - l .i) (a .bytes .now) (13 + 2 * l .i) (omega arith) (c .if1 .left) in
     (search needs, l .inv .1 ∙ e ∙ rw (k, n))
 
 returns-2 : tie.Need-returns-2 Inv-loop μ-loop
 returns-2 c =
     let l = c .before .loop in
     let a = c .before .before .args in
-    sym (l .inv .1 ∙ marked-none (a .count - l .i) (drop (13 + 2 * l .i) (a .bytes .now)) (omega arith))
+    sym (l .inv .1 ∙ well-begun-none (a .count - l .i) (drop (13 + 2 * l .i) (a .bytes .now)) (omega arith))
 
-pub marked-spec : {M : Type 1} → statement M
-marked-spec =
+pub well-begun-spec : {M : Type 1} → statement M
+well-begun-spec =
     tie.close
     (tie.spec
     Inv-loop

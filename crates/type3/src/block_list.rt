@@ -1,4 +1,4 @@
-// How a command names its blocks (a block list element each): 80h and the block's number, a byte. The loops work with the number inside a
+// The block list of a command: an element for each block, 80h and the block's number, a byte. The loops work with the number inside a
 // block.
 
 use crate::commands;
@@ -8,19 +8,19 @@ ghost use Prim.Native.Nat.{ℕ, _+_, _*_, _<_, _≤_};
 ghost use lib.ListN.{length, drop, getD};
 ghost use lib.Seq.{sets};
 ghost use Rattle.tag.specs.Bytes.{has};
-ghost use Rattle.type3.specs.Codec.{nameBytes, namesBytes, nameable};
-ghost use Rattle.type3.specs.Views.InPlace.{marked, numbers};
+ghost use Rattle.type3.specs.Codec.{elementBytes, blockListBytes, listable};
+ghost use Rattle.type3.specs.Views.InPlace.{wellBegun, numbers};
 ghost use Rattle.type3.specs.CodecContracts.{blockNumbers, blocksOf};
 
-// The bytes of a block's name.
-pub const LENGTH: usize = 2;
+// The bytes of a block list element.
+pub const ELEMENT: usize = 2;
 
-// Where the number of the first block stands: in its name behind 80h.
+// Where the number of the first block stands: in its element, behind 80h.
 pub(crate) const FIRST_NUMBER: usize = commands::FRONT + 1;
 
-// How a command names the block.
-pub fn name(block: u8) -> [u8; LENGTH]
-    ensures { λ r. ⌜ r ≡ nameBytes block ⌝ }
+// The element of a block.
+pub fn element(block: u8) -> [u8; ELEMENT]
+    ensures { λ r. ⌜ r ≡ elementBytes block ⌝ }
 {
     [0x80, block]
 }
@@ -71,9 +71,9 @@ fn has(blocks: &[usize], block: usize) -> bool
     false
 }
 
-// Whether each block is at most Nmaxb and a byte, and none is named twice.
-pub(crate) fn nameable(blocks: &[usize], nmaxb: usize) -> bool
-    ensures { λ r. ⌜ r ≡ nameable nmaxb (now (blocks .entry)) ⌝ }
+// Whether each block is at most Nmaxb and a byte, and none is listed twice.
+pub(crate) fn listable(blocks: &[usize], nmaxb: usize) -> bool
+    ensures { λ r. ⌜ r ≡ listable nmaxb (now (blocks .entry)) ⌝ }
 {
     let mut i = 0usize;
     while i < blocks.len() {
@@ -92,29 +92,29 @@ pub(crate) fn nameable(blocks: &[usize], nmaxb: usize) -> bool
     true
 }
 
-// Writes the names from byte 13 on.
+// Writes the block list from byte 13 on.
 pub(crate) fn put(blocks: &[usize], bytes: &mut [u8])
     requires { ⌜ (13 + 2 * length (now blocks) ≤ length (now bytes)) × ((i : ℕ) → i < length (now blocks) → getD (now blocks) i 0 ≤ 255) ⌝ }
-    ensures { λ _. ⌜ now (bytes .exit) ≡ sets (now (bytes .entry)) 13 (namesBytes (now (blocks .entry))) ⌝ }
+    ensures { λ _. ⌜ now (bytes .exit) ≡ sets (now (bytes .entry)) 13 (blockListBytes (now (blocks .entry))) ⌝ }
 {
     let mut i = 0usize;
     while i < blocks.len() {
-        let at = commands::FRONT + LENGTH * i;
-        let two = name(blocks[i] as u8);
+        let at = commands::FRONT + ELEMENT * i;
+        let two = element(blocks[i] as u8);
         bytes[at] = two[0];
         bytes[at + 1] = two[1];
         i += 1;
     }
 }
 
-// Whether each of the `count` names from byte 13 on begins with 80h.
-pub(crate) fn marked(bytes: &[u8], count: usize) -> bool
+// Whether each of the `count` elements from byte 13 on begins with 80h.
+pub(crate) fn well_begun(bytes: &[u8], count: usize) -> bool
     requires { ⌜ 13 + 2 * count ≤ length (now bytes) ⌝ }
-    ensures { λ r. ⌜ r ≡ marked count (drop 13 (now (bytes .entry))) ⌝ }
+    ensures { λ r. ⌜ r ≡ wellBegun count (drop 13 (now (bytes .entry))) ⌝ }
 {
     let mut i = 0usize;
     while i < count {
-        if bytes[commands::FRONT + LENGTH * i] != 0x80 {
+        if bytes[commands::FRONT + ELEMENT * i] != 0x80 {
             return false;
         }
         i += 1;
@@ -122,14 +122,14 @@ pub(crate) fn marked(bytes: &[u8], count: usize) -> bool
     true
 }
 
-// Reads the numbers of the `count` blocks that are named from byte 13 on.
+// Reads the numbers of the `count` blocks that are listed from byte 13 on.
 pub(crate) fn read(bytes: &[u8], count: usize, blocks: &mut [usize])
     requires { ⌜ (13 + 2 * count ≤ length (now bytes)) × (count ≤ length (now blocks)) ⌝ }
     ensures { λ _. ⌜ now (blocks .exit) ≡ sets (now (blocks .entry)) 0 (numbers count (drop 13 (now (bytes .entry)))) ⌝ }
 {
     let mut i = 0usize;
     while i < count {
-        blocks[i] = bytes[FIRST_NUMBER + LENGTH * i] as usize;
+        blocks[i] = bytes[FIRST_NUMBER + ELEMENT * i] as usize;
         i += 1;
     }
 }
