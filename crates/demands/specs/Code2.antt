@@ -67,7 +67,7 @@ codec2 blocks =
       used = λ c. c;
     }
 
--- Type 3's, told our number, Nbw and Nmaxb
+-- Type 3's, told our IDm, Nbw and Nmaxb
 abbrev pub codec3 : List ℕ → ℕ → ℕ → CommandCodec
 codec3 idm nbw nmaxb =
     record {

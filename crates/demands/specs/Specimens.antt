@@ -127,7 +127,7 @@ row3 i q e = record { kind = type3 (replicate 8 0x00); image = i; question = q; 
 
 -- is every answer the one expected
 pub holds : List Row → Bool
-unfolding picks writing splitList fault judge allowedArea without longBy lengthBy passValue areaBy controlBy find viewBy viewed reading fitsIn lengthField decode message3.viewBy message3.reading codec3.namesOf codec3.decodeBy codec3.decode
+unfolding picks writing splitList fault judge allowedArea without longBy lengthBy passValue areaBy controlBy find viewBy viewed reading fitsIn lengthField decode message3.viewBy message3.reading codec3.blockListOf codec3.decodeBy codec3.decode
 holds [] = true
 holds (r ∷ rs) = same (numbers (outcome (r .kind) (r .image) (r .question))) (numbers (r .expected)) && holds rs
 

@@ -39,10 +39,10 @@ commandAs (decoded bs bytes) =
       bytes = overwrite bytes (replicate 128 0);
     }
 
--- `encode`, given our number, Nbw, Nmaxb, a command and a buffer, answers r and leaves the buffer as out
+-- `encode`, given our IDm, Nbw, Nmaxb, a command and a buffer, answers r and leaves the buffer as out
 abbrev pub EncodedTo : List ℕ → ℕ → ℕ → Command → List ℕ → CountAnswer → List ℕ → Type 0
 EncodedTo idm nbw nmaxb c buffer r out = PutOut (encode idm nbw nmaxb (c .count) (blockNumbers (c .blocks)) (c .bytes)) buffer r out
 
--- `decode`, given our number, Nbw, Nmaxb and bytes, answers d
+-- `decode`, given our IDm, Nbw, Nmaxb and bytes, answers d
 abbrev pub DecodedTo : List ℕ → ℕ → ℕ → List ℕ → code.Decoded → Type 0
 DecodedTo idm nbw nmaxb bytes d = (decodedAs d ≡ decode idm nbw nmaxb bytes) × (d .command ≡ commandAs (decode idm nbw nmaxb bytes))

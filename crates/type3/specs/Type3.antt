@@ -1,4 +1,4 @@
--- Type 3 as a type of tag, for a caller who states our manufacturer number.
+-- Type 3 as a type of tag, for a caller who states our manufacturer number (IDm).
 -- Assumes nothing.
 use mathlib.Core.List.{List}
 use Prim.Native.Nat.{ℕ}

@@ -10,11 +10,15 @@ use Rattle.first_use.proofs.holds.Tie as tie
 
 returns : tie.Need-returns
 returns c =
-    let a = c .before .before .before .before .before .before .before .before .args in
-    let r = c .before .before .before .before .read in
+    let at-shown = c .before in
+    let at-read = at-shown .before .before .before in
+    let at-start = at-read .before .before .before .before in
+    let a = at-start .args in
+    let r = at-read .read in
     c .holds .ensures
     ∙ ap (λ h. holdsAs h (a .message .now))
-    (held-read (a .image .now) (replicate 1024 0) (r .last .1 .0) (readAs (r .result)) (c .before .shown .result .now) refl (r .ensures .0) (r .ensures .1) (c .before .shown .ensures))
+    (held-read (a .image .now) (replicate 1024 0) (r .last .1 .0) (readAs (r .result)) (at-shown .shown .result .now) refl (r .ensures .0) (r .ensures .1)
+    (at-shown .shown .ensures))
 
 pub holds-spec : {M : Type 1} → statement M
 holds-spec =

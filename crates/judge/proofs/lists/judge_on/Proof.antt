@@ -10,24 +10,25 @@ use Rattle.judge.proofs.lists.judge_on.Tie as tie
 
 judge-list-requires : tie.Need-judge-list-requires
 judge-list-requires c κs =
-    let at-message = c .before .before in
-    let at-shown = at-message .before in
+    let at-is-message = c .before .before in
+    let at-shown = at-is-message .before in
     let at-read = at-shown .before .before .before .before in
     let at-store = at-read .before .before .before .before in
-    let at-slices = at-store .before .before .before .before in
-    let at-first = at-slices .before .before .before .before in
-    let s = at-first .before in
-    let a = s .args in
+    let at-store-arg = at-store .before in
+    let at-shared-slice-known4 = at-store-arg .before .before .before .before in
+    let at-start = at-shared-slice-known4 .before .before .before .before in
+    let a = at-start .args in
     let r = at-read .read in
     let shown = at-shown .shown in
-    let h = held-read (a .kind) (a .idm .now) (a .image .now) (a .first .now) (r .last .1 .1 .1 .0) (readAs (r .result)) (shown .result .now) (s .pre .2) (r .ensures .0) (r .ensures .1) (shown .ensures) in (
+    let h = held-read (a .kind) (a .idm .now) (a .image .now) (a .first .now) (r .last .1 .1 .1 .0) (readAs (r .result)) (shown .result .now)
+    (at-start .pre .2) (r .ensures .0) (r .ensures .1) (shown .ensures) in (
       record {
-        attested = s .pre .0 .attested;
-        protects = s .pre .0 .protects;
-        old-is = old-is (readAs (r .result)) _ (shown .result .now) _ (at-message .is-message .ensures) h (s .pre .0 .reads);
+        attested = at-start .pre .0 .attested;
+        protects = at-start .pre .0 .protects;
+        old-is = old-is (readAs (r .result)) _ (shown .result .now) _ (at-is-message .is-message .ensures) h (at-start .pre .0 .reads);
       },
-      at-store .store .ensures ∙ copied (a .image .now) (a .work .now) (s .pre .1),
-      s .pre .3,
+      at-store .store .ensures ∙ copied (a .image .now) (a .work .now) (at-start .pre .1),
+      at-start .pre .3,
     )
 
 pub judge-on-spec : {M : Type 1} → statement M

@@ -8,21 +8,28 @@ use Rattle.judge.proofs.lists.judge_writable.Tie as tie
 
 array-borrow-prefix-work : tie.Need-array-borrow-prefix-work
 array-borrow-prefix-work c =
-    let s = c .before .before .before .before in
-    omega (arith, short-enough (s .args .kind) (s .args .image .now) (s .pre .attested))
+    let at-start = c .before .before .before .before in
+    omega (arith, short-enough (at-start .args .kind) (at-start .args .image .now) (at-start .pre .attested))
 
 slice-aggregate-judge-on : tie.Need-slice-aggregate-judge-on
 slice-aggregate-judge-on c =
-    let at-first = c .before .before .before .before in
-    let s = at-first .before in
-    simp length-take (omega (arith, short-enough (s .args .kind) (s .args .image .now) (s .pre .attested)))
+    let at-shared-slice-known4 = c .before in
+    let at-start = at-shared-slice-known4 .before .before .before .before in
+    simp length-take (omega (arith, short-enough (at-start .args .kind) (at-start .args .image .now) (at-start .pre .attested)))
 
 judge-on-requires : tie.Need-judge-on-requires
 judge-on-requires c κs =
-    let at-work = c .before .before in
-    let at-first = at-work .before .before .before .before in
-    let s = at-first .before in
-    (s .pre, simp length-take (omega (arith, short-enough (s .args .kind) (s .args .image .now) (s .pre .attested))), search needs, search needs)
+    let at-shared-slice-known4 = c .before .before .before in
+    let at-start = at-shared-slice-known4 .before .before .before .before in (
+      at-start .pre,
+      simp length-take (omega (
+        arith,
+        short-enough (at-start .args .kind) (at-start .args .image .now)
+            (at-start .pre .attested),
+      )),
+      search needs,
+      search needs,
+    )
 
 pub judge-writable-spec : {M : Type 1} → statement M
 judge-writable-spec =

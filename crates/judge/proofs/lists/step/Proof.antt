@@ -7,51 +7,56 @@ use Rattle.judge.proofs.lists.step.Tie as tie
 
 returns : tie.Need-returns
 returns c =
-    let at-taken = c .before .before .before in
-    let at-slices = at-taken .before .before .before .before in
-    let at-first = at-slices .before .before .before .before in
-    let a = at-first .before .args in
-    step-malformed (typeOf (a .kind) (a .idm .now)) (a .image .now) (a .message .now) (a .work .now) (a .command .now) _ _ (at-taken .take-command .ensures) (c .if1 .taken)
+    let at-take-command = c .before .before .before in
+    let at-take-command-arg = at-take-command .before in
+    let at-shared-slice-known4 = at-take-command-arg .before .before .before .before in
+    let at-start = at-shared-slice-known4 .before .before .before .before in
+    let a = at-start .args in
+    step-malformed (typeOf (a .kind) (a .idm .now)) (a .image .now) (a .message .now) (a .work .now) (a .command .now) _ _
+    (at-take-command .take-command .ensures) (c .if1 .taken)
 
 returns-2 : tie.Need-returns-2
 returns-2 c =
-    let at-kept = c .before in
-    let at-formed = at-kept .before .before in
-    let at-taken = at-formed .before .before .before in
-    let at-slices = at-taken .before .before .before .before in
-    let at-first = at-slices .before .before .before .before in
-    let s = at-first .before in
-    let a = s .args in
-    step-change (typeOf (a .kind) (a .idm .now)) (a .image .now) (a .message .now) (a .work .now) (a .command .now) _ _ (at-taken .take-command .ensures)
-    (a .old .now) (a .had) (s .pre .0 .old-is) (at-formed .if1 .left) _ (at-kept .is-kept .ensures) (c .if2 .taken)
+    let at-is-kept = c .before in
+    let at-if1 = at-is-kept .before .before in
+    let at-take-command = at-if1 .before .before .before in
+    let at-take-command-arg = at-take-command .before in
+    let at-shared-slice-known4 = at-take-command-arg .before .before .before .before in
+    let at-start = at-shared-slice-known4 .before .before .before .before in
+    let a = at-start .args in
+    step-change (typeOf (a .kind) (a .idm .now)) (a .image .now) (a .message .now) (a .work .now) (a .command .now) _ _ (at-take-command .take-command .ensures)
+    (a .old .now) (a .had) (at-start .pre .0 .old-is) (at-if1 .if1 .left) _ (at-is-kept .is-kept .ensures) (c .if2 .taken)
 
 returns-3 : tie.Need-returns-3
 returns-3 c =
-    let at-safe = c .before .before .before in
-    let at-unchanged = at-safe .before .before .before in
-    let at-kept = at-unchanged .before in
-    let at-formed = at-kept .before .before in
-    let at-taken = at-formed .before .before .before in
-    let at-slices = at-taken .before .before .before .before in
-    let at-first = at-slices .before .before .before .before in
-    let s = at-first .before in
-    let a = s .args in
-    step-misread (typeOf (a .kind) (a .idm .now)) (a .image .now) (a .message .now) (a .work .now) (a .command .now) _ _ (at-taken .take-command .ensures)
-    (a .old .now) (a .had) (s .pre .0 .old-is) (at-formed .if1 .left) _ (at-kept .is-kept .ensures) (at-unchanged .if2 .left) _ (at-safe .is-safe .ensures) (c .if3 .taken)
+    let at-is-safe = c .before .before .before in
+    let at-if2 = at-is-safe .before .before .before in
+    let at-is-kept = at-if2 .before in
+    let at-if1 = at-is-kept .before .before in
+    let at-take-command = at-if1 .before .before .before in
+    let at-take-command-arg = at-take-command .before in
+    let at-shared-slice-known4 = at-take-command-arg .before .before .before .before in
+    let at-start = at-shared-slice-known4 .before .before .before .before in
+    let a = at-start .args in
+    step-misread (typeOf (a .kind) (a .idm .now)) (a .image .now) (a .message .now) (a .work .now) (a .command .now) _ _
+    (at-take-command .take-command .ensures)
+    (a .old .now) (a .had) (at-start .pre .0 .old-is) (at-if1 .if1 .left) _ (at-is-kept .is-kept .ensures) (at-if2 .if2 .left) _ (at-is-safe .is-safe .ensures)
+    (c .if3 .taken)
 
 returns-4 : tie.Need-returns-4
 returns-4 c =
-    let at-safe = c .before .before .before in
-    let at-unchanged = at-safe .before .before .before in
-    let at-kept = at-unchanged .before in
-    let at-formed = at-kept .before .before in
-    let at-taken = at-formed .before .before .before in
-    let at-slices = at-taken .before .before .before .before in
-    let at-first = at-slices .before .before .before .before in
-    let s = at-first .before in
-    let a = s .args in
-    step-none (typeOf (a .kind) (a .idm .now)) (a .image .now) (a .message .now) (a .work .now) (a .command .now) _ _ (at-taken .take-command .ensures)
-    (a .old .now) (a .had) (s .pre .0 .old-is) (at-formed .if1 .left) _ (at-kept .is-kept .ensures) (at-unchanged .if2 .left) _ (at-safe .is-safe .ensures) (c .if3 .left)
+    let at-is-safe = c .before .before .before in
+    let at-if2 = at-is-safe .before .before .before in
+    let at-is-kept = at-if2 .before in
+    let at-if1 = at-is-kept .before .before in
+    let at-take-command = at-if1 .before .before .before in
+    let at-take-command-arg = at-take-command .before in
+    let at-shared-slice-known4 = at-take-command-arg .before .before .before .before in
+    let at-start = at-shared-slice-known4 .before .before .before .before in
+    let a = at-start .args in
+    step-none (typeOf (a .kind) (a .idm .now)) (a .image .now) (a .message .now) (a .work .now) (a .command .now) _ _ (at-take-command .take-command .ensures)
+    (a .old .now) (a .had) (at-start .pre .0 .old-is) (at-if1 .if1 .left) _ (at-is-kept .is-kept .ensures) (at-if2 .if2 .left) _ (at-is-safe .is-safe .ensures)
+    (c .if3 .left)
 
 pub step-spec : {M : Type 1} → statement M
 step-spec =

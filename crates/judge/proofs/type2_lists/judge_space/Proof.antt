@@ -8,17 +8,17 @@ use Rattle.judge.proofs.type2_lists.judge_space.Tie as tie
 
 judge-writable-requires : tie.Need-judge-writable-requires
 judge-writable-requires c κs =
-    let at-extent = c .before in
-    let at-first = at-extent .before .before .before .before in
-    let s = at-first .before in
-    let a = s .args in
+    let at-extent-of = c .before in
+    let at-shared-slice-known4 = at-extent-of .before in
+    let at-start = at-shared-slice-known4 .before .before .before .before in
+    let a = at-start .args in
     let i = a .image .now in
     let m = a .message .now in
-    let e = at-extent .extent-of in
+    let e = at-extent-of .extent-of in
     record {
-      attested = s .pre .0 .short;
-      protects = covered i m (a .table .now) (a .w) (e .result) (s .pre .1) (s .pre .2) (e .ensures .0) (e .ensures .1);
-      reads = ready-reads type2 i m (written-ready type2 i m ((type2 .plan) i m) (s .pre .0 .plan-is) .0);
+      attested = at-start .pre .0 .short;
+      protects = covered i m (a .table .now) (a .w) (e .result) (at-start .pre .1) (at-start .pre .2) (e .ensures .0) (e .ensures .1);
+      reads = ready-reads type2 i m (written-ready type2 i m ((type2 .plan) i m) (at-start .pre .0 .plan-is) .0);
     }
 
 pub judge-space-spec : {M : Type 1} → statement M

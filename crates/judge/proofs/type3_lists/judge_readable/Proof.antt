@@ -17,21 +17,21 @@ use Rattle.judge.proofs.type3_lists.judge_readable.Tie as tie
 returns : tie.Need-returns
 returns c =
     let at-refusal = c .before in
-    let s = at-refusal .before .before .before .before in
-    let a = s .args in
+    let at-start = at-refusal .before .before .before .before in
+    let a = at-start .args in
     sym (ap (judgeBy (type3 (a .idm .now)) (a .image .now) (a .message .now) (a .list .now))
-    (writing-refused (a .idm .now) (a .image .now) (a .message .now) (a .a) (s .pre) _ (at-refusal .refusal .ensures) (c .if1 .taken)))
+    (writing-refused (a .idm .now) (a .image .now) (a .message .now) (a .a) (at-start .pre) _ (at-refusal .refusal .ensures) (c .if1 .taken)))
 
 judge-writable-requires : tie.Need-judge-writable-requires
 judge-writable-requires c κs =
-    let at-if = c .before in
-    let at-refusal = at-if .before in
-    let s = at-refusal .before .before .before .before in
-    let a = s .args in
-    let k = s .pre .known in
+    let at-if1 = c .before in
+    let at-refusal = at-if1 .before in
+    let at-start = at-refusal .before .before .before .before in
+    let a = at-start .args in
+    let k = at-start .pre .known in
     let i = a .image .now in
     let m = a .message .now in
-    let planned = writing-planned (a .idm .now) i m (a .a) (s .pre) _ (at-refusal .refusal .ensures) (at-if .if1 .left) in
+    let planned = writing-planned (a .idm .now) i m (a .a) (at-start .pre) _ (at-refusal .refusal .ensures) (at-if1 .if1 .left) in
     let ready = written-ready (type3 (a .idm .now)) i m (plan i m) planned .0 in
     record {
       attested = record { nbw-is = k .says .nbw-is; nmaxb-is = k .says .nmaxb-is; reach = k .reach; most = k .whole .most };
@@ -41,11 +41,11 @@ judge-writable-requires c κs =
 
 returns-2 : tie.Need-returns-2
 returns-2 c =
-    let at-if = c .before .before in
-    let at-refusal = at-if .before in
-    let s = at-refusal .before .before .before .before in
-    let a = s .args in
-    let planned = writing-planned (a .idm .now) (a .image .now) (a .message .now) (a .a) (s .pre) _ (at-refusal .refusal .ensures) (at-if .if1 .left) in
+    let at-if1 = c .before .before in
+    let at-refusal = at-if1 .before in
+    let at-start = at-refusal .before .before .before .before in
+    let a = at-start .args in
+    let planned = writing-planned (a .idm .now) (a .image .now) (a .message .now) (a .a) (at-start .pre) _ (at-refusal .refusal .ensures) (at-if1 .if1 .left) in
     c .judge-writable .ensures ∙ sym (ap (judgeBy (type3 (a .idm .now)) (a .image .now) (a .message .now) (a .list .now)) planned)
 
 pub judge-readable-spec : {M : Type 1} → statement M

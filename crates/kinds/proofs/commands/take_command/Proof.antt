@@ -7,26 +7,27 @@ use Rattle.kinds.proofs.commands.take_command.Tie as tie
 
 returns : tie.Need-returns
 returns c =
-    let at-taken = c .before .before in
-    let at-kind = at-taken .before .before .before in
+    let at-take-command = c .before .before in
+    let at-kind = at-take-command .before .before .before in
     let at-match = at-kind .before in
-    let s = at-match .before .before .before .before in
-    let a = s .args in
-    let t = at-taken .take-command in
-    rw (at-kind .kind .given .1) (two.applied (a .image .now) (a .work .now) (a .command .now) (s .pre .1) (t .result) _ (t .ensures .0) (t .ensures .1))
+    let at-start = at-match .before .before .before .before in
+    let a = at-start .args in
+    let t = at-take-command .take-command in
+    rw (at-kind .kind .given .1) (two.applied (a .image .now) (a .work .now) (a .command .now) (at-start .pre .1) (t .result) _ (t .ensures .0) (t .ensures .1))
 
 returns-2 : tie.Need-returns-2
 returns-2 c =
-    let at-taken = c .before .before in
-    let at-kind = at-taken .before .before .before in
-    let at-match = at-kind .before in
-    let s = at-match .before .before .before .before in
-    let a = s .args in
-    let t = at-taken .take-command2 in
-    let g = at-kind .kind2 .given in
-    let k = rw (g .1) at (s .pre .0) in
+    let at-take-command2 = c .before .before in
+    let at-kind2 = at-take-command2 .before .before .before in
+    let at-match = at-kind2 .before in
+    let at-start = at-match .before .before .before .before in
+    let a = at-start .args in
+    let t = at-take-command2 .take-command2 in
+    let g = at-kind2 .kind2 .given in
+    let k = rw (g .1) at (at-start .pre .0) in
     rw (g .1)
-    (three.applied (a .idm .now) (a .image .now) (a .work .now) (a .command .now) (s .pre .1) _ _ (k .nbw-is) (k .nmaxb-is) (k .reach) (t .result) _ (t .ensures .0) (t .ensures .1))
+    (three.applied (a .idm .now) (a .image .now) (a .work .now) (a .command .now) (at-start .pre .1) _ _ (k .nbw-is) (k .nmaxb-is) (k .reach) (t .result) _
+    (t .ensures .0) (t .ensures .1))
 
 pub take-command-spec : {M : Type 1} → statement M
 take-command-spec =

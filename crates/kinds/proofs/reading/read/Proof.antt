@@ -11,14 +11,16 @@ use Rattle.kinds.proofs.reading.read.Tie as tie
 returns : tie.Need-returns
 returns c =
     let at-read = c .before .before in
-    rw (at-read .before .before .before .kind .given .1) (at-read .read .ensures)
+    let at-kind = at-read .before .before .before in
+    rw (at-kind .kind .given .1) (at-read .read .ensures)
 
 returns-2 : tie.Need-returns-2
 returns-2 c =
-    let at-kind = c .before .before in
-    let a = at-kind .before .before .before .before .args in
+    let at-kind2 = c .before .before in
+    let at-start = at-kind2 .before .before .before .before in
+    let a = at-start .args in
     let i = a .image .now in
-    rw (at-kind .kind2 .given .1)
+    rw (at-kind2 .kind2 .given .1)
     (c .read2 .ensures .0 ∙ plain-answer (reading i) (plain i) 0 (length (a .gathered .now)), sym (plain-buffer (reading i) (plain i) (a .gathered .now)))
 
 pub read-spec : {M : Type 1} → statement M

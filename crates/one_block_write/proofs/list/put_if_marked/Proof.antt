@@ -15,36 +15,37 @@ use Rattle.one_block_write.proofs.list.put_if_marked.Tie as tie
 
 returns : tie.Need-returns
 returns c =
-    let at-slices = c .before .before in
-    let s = at-slices .before .before .before .before in
-    let a = s .args in
+    let at-slice-known = c .before .before in
+    let at-start = at-slice-known .before .before .before .before in
+    let a = at-start .args in
     let q : marked (a .marks .now) (a .block .0) ≡ false = ne-eqb _ _ (c .if1 .taken) in
     let e : a .at ≡ a .at + 0 = omega arith in
     (e ∙ ap (λ t. a .at + cond t (commandLength (a .front .now) (a .size)) 0) (sym q), no-case _ _ _ _ q refl)
 
 put-block-requires : tie.Need-put-block-requires
 put-block-requires c κs =
-    let at-if = c .before in
-    let at-slices = at-if .before .before in
-    let s = at-slices .before .before .before .before in
-    let a = s .args in
-    let q : marked (a .marks .now) (a .block .0) ≡ true = eq-eqb _ _ (at-if .if1 .left) in
-    let room = room-yes _ (a .at) (commandLength (a .front .now) (a .size)) (length (a .out .now)) q (s .pre .4) in
+    let at-if1 = c .before in
+    let at-slice-known = at-if1 .before .before in
+    let at-start = at-slice-known .before .before .before .before in
+    let a = at-start .args in
+    let q : marked (a .marks .now) (a .block .0) ≡ true = eq-eqb _ _ (at-if1 .if1 .left) in
+    let room = room-yes _ (a .at) (commandLength (a .front .now) (a .size)) (length (a .out .now)) q (at-start .pre .4) in
     (search needs, omega arith, search needs, search (needs, room))
 
 returns-2 : tie.Need-returns-2
 returns-2 c =
-    let at-put = c .before .before in
-    let at-if = at-put .before .before in
-    let at-slices = at-if .before .before in
-    let s = at-slices .before .before .before .before in
-    let a = s .args in
+    let at-put-block = c .before .before in
+    let at-if1 = at-put-block .before .before in
+    let at-slice-known = at-if1 .before .before in
+    let at-start = at-slice-known .before .before .before .before in
+    let a = at-start .args in
     let step = commandLength (a .front .now) (a .size) in
-    let q : marked (a .marks .now) (a .block .0) ≡ true = eq-eqb _ _ (at-if .if1 .left) in
-    let room : a .at + step ≤ length (a .out .now) = room-yes _ (a .at) step (length (a .out .now)) q (s .pre .4) in (
+    let q : marked (a .marks .now) (a .block .0) ≡ true = eq-eqb _ _ (at-if1 .if1 .left) in
+    let room : a .at + step ≤ length (a .out .now) = room-yes _ (a .at) step (length (a .out .now)) q (at-start .pre .4) in (
       ap (λ t. a .at + cond t step 0) (sym q),
       yes-case _ _ _ _ q
-          (lent (a .out .now) (blockBytes (a .front .now) (a .size) (a .image .now) (a .block .0)) _ (a .at) (length (a .out .now)) step room (omega arith) (at-put .put-block .ensures)),
+          (lent (a .out .now) (blockBytes (a .front .now) (a .size) (a .image .now) (a .block .0)) _ (a .at) (length (a .out .now)) step room (omega arith)
+          (at-put-block .put-block .ensures)),
     )
 
 pub put-if-marked-spec : {M : Type 1} → statement M

@@ -29,28 +29,38 @@ loop-holds c =
 
 put-if-marked-requires : tie.Need-put-if-marked-requires Inv-loop μ-loop
 put-if-marked-requires c κs =
-    let at-loop = c .before .before in
-    let at-slices = at-loop .before in
-    let s = at-slices .before .before .before .before in
-    let a = s .args in
+    let at-loop-test = c .before in
+    let at-loop = at-loop-test .before in
+    let at-slice-known = at-loop .before in
+    let at-start = at-slice-known .before .before .before .before in
+    let a = at-start .args in
     let b = at-loop .loop .b in
     let l = at-loop .loop .inv in
-    let room = room-next (a .front .now) (a .size) (s .pre .5) (marked (a .marks .now)) (a .image .now) b (a .blocks) (length (a .out .now)) (c .before .loop-test .taken) (s .pre .4) in
-    (omega arith, s .pre .1, block-inside (a .size) b (a .blocks) (length (a .image .now)) (c .before .loop-test .taken) (s .pre .2), omega arith, omega (arith, room, l .1, l .2))
+    let room = room-next (a .front .now) (a .size) (at-start .pre .5) (marked (a .marks .now)) (a .image .now) b (a .blocks) (length (a .out .now))
+    (at-loop-test .loop-test .taken) (at-start .pre .4) in (
+      omega arith,
+      at-start .pre .1,
+      block-inside (a .size) b (a .blocks) (length (a .image .now)) (at-loop-test .loop-test .taken)
+          (at-start .pre .2),
+      omega arith,
+      omega (arith, room, l .1, l .2),
+    )
 
 loop-again : tie.Need-loop-again Inv-loop μ-loop
 loop-again c =
-    let at-put = c .before .before in
-    let at-loop = at-put .before .before .before in
-    let at-slices = at-loop .before in
-    let a = at-slices .before .before .before .before .args in
-    let pos = at-slices .before .before .before .before .pre .5 in
+    let at-put-if-marked = c .before .before in
+    let at-loop-test = at-put-if-marked .before .before in
+    let at-loop = at-loop-test .before in
+    let at-slice-known = at-loop .before in
+    let at-start = at-slice-known .before .before .before .before in
+    let a = at-start .args in
+    let pos = at-start .pre .5 in
     let l = at-loop .loop in
-    let p = at-put .put-if-marked in
+    let p = at-put-if-marked .put-if-marked in
     let t = marked (a .marks .now) in
     let step = commandLength (a .front .now) (a .size) in
     let inside : a .size * l .b ≤ length (a .image .now)
-    = omega (arith, block-inside (a .size) (l .b) (a .blocks) (length (a .image .now)) (at-put .before .before .loop-test .taken) (at-slices .before .before .before .before .pre .2)) in (
+    = omega (arith, block-inside (a .size) (l .b) (a .blocks) (length (a .image .now)) (at-loop-test .loop-test .taken) (at-start .pre .2)) in (
       search needs,
       p .ensures .0 ∙ ap (λ at. at + cond (t (l .b)) step 0) (l .inv .1) ∙ sym (further (a .front .now) (a .size) pos t (a .image .now) (l .b)),
       search needs,
@@ -61,9 +71,11 @@ loop-again c =
 
 returns : tie.Need-returns Inv-loop μ-loop
 returns c =
-    let l = c .before .loop in
-    let at-slices = c .before .before in
-    let e : l .b ≡ at-slices .before .before .before .before .args .blocks = omega arith in
+    let at-loop = c .before in
+    let at-slice-known = at-loop .before in
+    let at-start = at-slice-known .before .before .before .before in
+    let l = at-loop .loop in
+    let e : l .b ≡ at-start .args .blocks = omega arith in
     rw e at (l .inv .3)
 
 pub put-marked-spec : {M : Type 1} → statement M

@@ -7,11 +7,11 @@ use Rattle.one_block_write.proofs.list.put_six.Tie as tie
 returns : tie.Need-returns
 returns c =
     let at-copy = c .before .before in
-    let at-held = at-copy .before .before .before .before in
-    let at-front = at-held .before .before .before .before in
-    let s = at-front .before .before .before .before in
-    let a = s .args in
-    six-laid (a .front .now) (a .held .now) (a .out .now) _ (a .block .0) (s .pre .1) (s .pre .2) (at-copy .copy .ensures .1)
+    let at-shared-slice-known6 = at-copy .before .before .before .before in
+    let at-shared-slice-known3 = at-shared-slice-known6 .before .before .before .before in
+    let at-start = at-shared-slice-known3 .before .before .before .before in
+    let a = at-start .args in
+    six-laid (a .front .now) (a .held .now) (a .out .now) _ (a .block .0) (at-start .pre .1) (at-start .pre .2) (at-copy .copy .ensures .1)
 
 pub put-six-spec : {M : Type 1} → statement M
 put-six-spec =

@@ -18,17 +18,22 @@ front-is n w i = let z : n - 0 ≡ n = omega arith in rw z
 
 returns : tie.Need-returns
 returns c =
-    let at-args = c .before .before .before .before in
-    let a = at-args .before .before .args in
-    sym (ap (λ b. b && same (drop (a .stop .0) (a .work .now)) (drop (a .stop .0) (a .image .now))) (sym (c .before .same .ensures ∙ front-is (a .first .0) (a .work .now) (a .image .now)) ∙ not-true _ (c .if1 .taken)))
+    let at-same = c .before in
+    let at-same-arg2 = at-same .before in
+    let at-start = at-same-arg2 .before .before .before .before in
+    let a = at-start .args in
+    sym (ap (λ b. b && same (drop (a .stop .0) (a .work .now)) (drop (a .stop .0) (a .image .now)))
+    (sym (at-same .same .ensures ∙ front-is (a .first .0) (a .work .now) (a .image .now)) ∙ not-true _ (c .if1 .taken)))
 
 returns-2 : tie.Need-returns-2
 returns-2 c =
-    let at-if = c .before .before .before in
-    let at-args = at-if .before .before .before .before in
-    let a = at-args .before .before .args in
+    let at-if1 = c .before .before .before in
+    let at-same = at-if1 .before in
+    let at-same-arg2 = at-same .before in
+    let at-start = at-same-arg2 .before .before .before .before in
+    let a = at-start .args in
     let z = a .stop .0 in
-    let front = sym (at-if .before .same .ensures ∙ front-is (a .first .0) (a .work .now) (a .image .now)) ∙ not-false _ (at-if .if1 .left) in
+    let front = sym (at-same .same .ensures ∙ front-is (a .first .0) (a .work .now) (a .image .now)) ∙ not-false _ (at-if1 .if1 .left) in
     let x = take-all (length (a .work .now) - z) (drop z (a .work .now)) (omega (arith, length-drop z (a .work .now))) in
     let y = take-all (length (a .image .now) - z) (drop z (a .image .now)) (omega (arith, length-drop z (a .image .now))) in
     c .same2 .ensures ∙ rw (x, y) (sym (ap (λ b. b && same (drop z (a .work .now)) (drop z (a .image .now))) front))

@@ -27,8 +27,10 @@ loop-holds c = (search needs, search needs, search needs, refl, search needs)
 
 loop-again : tie.Need-loop-again Inv-loop μ-loop
 loop-again c =
-    let i = c .before .before .before .before .before .args .bytes .now in
-    let more = sum-more i (c .before .before .before .loop .k) in
+    let at-loop = c .before .before .before in
+    let at-start = at-loop .before .before in
+    let i = at-start .args .bytes .now in
+    let more = sum-more i (at-loop .loop .k) in
     (search needs, search needs, search needs, omega (arith, more), omega arith)
 
 returns : tie.Need-returns Inv-loop μ-loop

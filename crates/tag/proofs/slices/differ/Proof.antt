@@ -29,7 +29,8 @@ loop-holds c = (search needs, refl)
 loop-again : tie.Need-loop-again Inv-loop μ-loop
 loop-again c =
     let at-loop = c .before .before .before .before in
-    let x = at-loop .before .before .before .args in
+    let at-start = at-loop .before .before .before in
+    let x = at-start .args in
     let l = at-loop .loop in
     let e = ap (λ n. cond (equal (x .a .now) (x .b .now) (l .k)) n 1) (l .inv .1) in
     (search needs, c .flag .ensures ∙ e ∙ sym (flag-more (equal (x .a .now) (x .b .now)) (l .k)))

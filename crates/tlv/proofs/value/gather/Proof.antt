@@ -22,22 +22,32 @@ abbrev μ-loop : tie.MeasureT-loop
 
 loop-holds : tie.Need-loop-holds Inv-loop μ-loop
 loop-holds c =
-    let e : c .before .before .before .before .before .args .n - 0 ≡ c .before .before .before .before .before .args .n = omega arith in
+    let at-end = c .before in
+    let at-start = at-end .before .before .before .before in
+    let e : at-start .args .n - 0 ≡ at-start .args .n = omega arith in
     (record { within = search needs; in-table = search needs; free = c .next-usable .ensures .1 .1 }, search needs, search needs, search needs, refl, rw e)
 
 returns : tie.Need-returns Inv-loop μ-loop
 returns c =
-    let a = c .before .before .before .before .before .before .before .before .args in
-    let l = c .before .before .loop in
+    let at-loop = c .before .before in
+    let at-next-usable = at-loop .before in
+    let at-end = at-next-usable .before in
+    let at-start = at-end .before .before .before .before in
+    let a = at-start .args in
+    let l = at-loop .loop in
     let z : a .n - l .k ≡ 0 = omega arith in
-    sym (take-append-drop (l .k) (l .out)) ∙ rw z at (l .inv .5) ∙ ap (λ us. overwrite (map (byte (a .image .now)) (take (a .n) us)) (a .out .now)) (sym (c .before .before .before .next-usable .ensures .1 .0))
+    sym (take-append-drop (l .k) (l .out)) ∙ rw z at (l .inv .5)
+    ∙ ap (λ us. overwrite (map (byte (a .image .now)) (take (a .n) us)) (a .out .now)) (sym (at-next-usable .next-usable .ensures .1 .0))
 
 loop-again : tie.Need-loop-again Inv-loop μ-loop
 loop-again c =
-    let a = c .before .before .before .before .before .before .before .before .before .before .args in
+    let at-loop = c .before .before .before .before in
+    let at-end = at-loop .before .before in
+    let at-start = at-end .before .before .before .before in
+    let a = at-start .args in
     let t = a .table .now in
     let e = a .w .end .0 in
-    let l = c .before .before .before .before .loop in
+    let l = at-loop .loop in
     let f = c .next-usable2 .result .0 in
     let u : from t (l .a) e ≡ l .a ∷ from t f e = from-next t (l .a) f e (l .inv .0) (omega arith) (c .next-usable2 .ensures .1 .0) in (
       record { within = search needs; in-table = search needs; free = c .next-usable2 .ensures .1 .1 },
@@ -50,12 +60,17 @@ loop-again c =
 
 returns-2 : tie.Need-returns-2 Inv-loop μ-loop
 returns-2 c =
-    let a = c .before .before .before .before .before .before .before .args in
+    let at-loop = c .before in
+    let at-next-usable = at-loop .before in
+    let at-end = at-next-usable .before in
+    let at-start = at-end .before .before .before .before in
+    let a = at-start .args in
     let t = a .table .now in
     let e = a .w .end .0 in
-    let l = c .before .loop in
+    let l = at-loop .loop in
     let u : from t (l .a) e ≡ [] = from-end t (l .a) e (omega arith) in
-    sym (take-append-drop (l .k) (l .out)) ∙ rw (u, take-nil (a .n - l .k)) at (l .inv .5) ∙ ap (λ us. overwrite (map (byte (a .image .now)) (take (a .n) us)) (a .out .now)) (sym (c .before .before .next-usable .ensures .1 .0))
+    sym (take-append-drop (l .k) (l .out)) ∙ rw (u, take-nil (a .n - l .k)) at (l .inv .5)
+    ∙ ap (λ us. overwrite (map (byte (a .image .now)) (take (a .n) us)) (a .out .now)) (sym (at-next-usable .next-usable .ensures .1 .0))
 
 pub gather-spec : {M : Type 1} → statement M
 gather-spec =

@@ -29,54 +29,69 @@ loop-holds c =
 
 returns : tie.Need-returns Inv-loop μ-loop
 returns c =
-    let a = c .before .before .before .before .before .before .before .args in
+    let at-loop = c .before .before in
+    let at-next-usable = at-loop .before in
+    let at-start = at-next-usable .before .before .before .before in
+    let a = at-start .args in
     let t = a .table .now in
     let e = a .w .end .0 in
-    let l = c .before .before .loop in
+    let l = at-loop .loop in
     let z : l .left ≡ 0 = c .if1 .taken in
-    let us : ahead t (a .w) ≡ from t (c .before .before .before .next-usable .result .0) e = c .before .before .before .next-usable .ensures .1 .0 in
+    let us : ahead t (a .w) ≡ from t (at-next-usable .next-usable .result .0) e = at-next-usable .next-usable .ensures .1 .0 in
     λ vs b h _.
     sym (mark-done (a .size) (l .marks) (from t (l .a) e) b) ∙ rw z at (l .inv .3 b)
-    ∙ ap (λ x. cond x 1 (byte (a .marks .now) b)) (touches-any (a .size) (from t (c .before .before .before .next-usable .result .0) e) (replicate (a .k) 0) vs b (length-replicate (a .k) 0 ∙ sym h))
+    ∙ ap (λ x. cond x 1 (byte (a .marks .now) b)) (touches-any (a .size) (from t (at-next-usable .next-usable .result .0) e) (replicate (a .k) 0) vs b
+    (length-replicate (a .k) 0 ∙ sym h))
     ∙ ap (λ us. markOf (a .size) (a .marks .now) us vs b) (sym us)
 
 slice-write-marks : tie.Need-slice-write-marks Inv-loop μ-loop
 slice-write-marks c =
-    let a = c .before .before .before .before .before .before .before .before .args in
-    let l = c .before .before .before .loop in
-    let h : l .a / a .size < length (l .marks) = div-lt-iff-lt-mul (c .before .before .before .before .before .before .before .before .pre .1) .1 (omega arith) in
+    let at-loop = c .before .before .before in
+    let at-next-usable = at-loop .before in
+    let at-start = at-next-usable .before .before .before .before in
+    let a = at-start .args in
+    let l = at-loop .loop in
+    let h : l .a / a .size < length (l .marks) = div-lt-iff-lt-mul (at-start .pre .1) .1 (omega arith) in
     omega (arith, c .block .ensures)
 
 loop-again : tie.Need-loop-again Inv-loop μ-loop
 loop-again c =
-    let a = c .before .before .before .before .before .before .before .before .before .args in
+    let at-block = c .before in
+    let at-loop = at-block .before .before .before in
+    let at-next-usable = at-loop .before in
+    let at-start = at-next-usable .before .before .before .before in
+    let a = at-start .args in
     let t = a .table .now in
     let e = a .w .end .0 in
-    let l = c .before .before .before .before .loop in
+    let l = at-loop .loop in
     let f = c .next-usable2 .result .0 in
     let u : from t (l .a) e ≡ l .a ∷ from t f e = from-next t (l .a) f e (l .inv .0) (omega arith) (c .next-usable2 .ensures .1 .0) in
     let r : _≡_ {A = List ℕ} (replicate (l .left) 0) (0 ∷ replicate (l .left - 1) 0) = replicate-next (l .left) 0 (omega arith) in
-    let h : l .a / a .size < length (l .marks) = div-lt-iff-lt-mul (c .before .before .before .before .before .before .before .before .before .pre .1) .1 (omega arith) in (
+    let h : l .a / a .size < length (l .marks) = div-lt-iff-lt-mul (at-start .pre .1) .1 (omega arith) in (
       record { within = search needs; in-table = search needs; free = c .next-usable2 .ensures .1 .1 },
       simp length-set (omega arith),
       simp length-set (omega arith),
       λ b.
-          ap (λ x. markOf (a .size) (set (l .marks) x 1) (from t f e) (replicate (l .left - 1) 0) b) (c .before .block .ensures)
-          ∙ mark-next (a .size) (l .a) 0 (l .marks) (from t f e) (replicate (l .left - 1) 0) b (c .before .before .before .before .before .before .before .before .before .pre .1) h
+          ap (λ x. markOf (a .size) (set (l .marks) x 1) (from t f e) (replicate (l .left - 1) 0) b) (at-block .block .ensures)
+          ∙ mark-next (a .size) (l .a) 0 (l .marks) (from t f e) (replicate (l .left - 1) 0) b (at-start .pre .1) h
           ∙ rw (u, r) at (l .inv .3 b),
     )
 
 returns-2 : tie.Need-returns-2 Inv-loop μ-loop
 returns-2 c =
-    let a = c .before .before .before .before .before .before .args in
+    let at-loop = c .before in
+    let at-next-usable = at-loop .before in
+    let at-start = at-next-usable .before .before .before .before in
+    let a = at-start .args in
     let t = a .table .now in
     let e = a .w .end .0 in
-    let l = c .before .loop in
+    let l = at-loop .loop in
     let u : from t (l .a) e ≡ [] = from-end t (l .a) e (omega arith) in
-    let us : ahead t (a .w) ≡ from t (c .before .before .next-usable .result .0) e = c .before .before .next-usable .ensures .1 .0 in
+    let us : ahead t (a .w) ≡ from t (at-next-usable .next-usable .result .0) e = at-next-usable .next-usable .ensures .1 .0 in
     λ vs b h _.
     sym (mark-none (a .size) (l .marks) (replicate (l .left) 0) b) ∙ rw u at (l .inv .3 b)
-    ∙ ap (λ x. cond x 1 (byte (a .marks .now) b)) (touches-any (a .size) (from t (c .before .before .next-usable .result .0) e) (replicate (a .k) 0) vs b (length-replicate (a .k) 0 ∙ sym h))
+    ∙ ap (λ x. cond x 1 (byte (a .marks .now) b)) (touches-any (a .size) (from t (at-next-usable .next-usable .result .0) e) (replicate (a .k) 0) vs b
+    (length-replicate (a .k) 0 ∙ sym h))
     ∙ ap (λ us. markOf (a .size) (a .marks .now) us vs b) (sym us)
 
 pub mark-blocks-spec : {M : Type 1} → statement M

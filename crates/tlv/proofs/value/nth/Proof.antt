@@ -32,29 +32,38 @@ returns c =
 
 returns-2 : tie.Need-returns-2 Inv-loop μ-loop
 returns-2 c =
-    let a = c .before .before .before .before .before .args in
+    let at-none-skipped = c .before in
+    let at-start = at-none-skipped .before .before .before .before in
+    let a = at-start .args in
     let s : a .w .at .0 + a .k + 1 - a .w .at .0 ≡ suc (a .k) = omega arith in
     let free : noneSkipped (a .table .now) (a .w .at .0) (suc (a .k)) ≡ true
-    = ap (noneSkipped (a .table .now) (a .w .at .0)) (sym s) ∙ sym (c .before .none-skipped .ensures) ∙ c .if2 .taken in
+    = ap (noneSkipped (a .table .now) (a .w .at .0)) (sym s) ∙ sym (at-none-skipped .none-skipped .ensures) ∙ c .if2 .taken in
     (sym (unskipped-nth (a .table .now) (a .w .at .0) (a .k) (a .w .end .0 - a .w .at .0) (a .w .end .0) (omega arith) free), search needs)
 
 returns-3 : tie.Need-returns-3 Inv-loop μ-loop
 returns-3 c =
-    let a = c .before .before .before .before .before .before .before .before .before .args in
+    let at-loop = c .before .before in
+    let at-next-usable = at-loop .before in
+    let at-none-skipped = at-next-usable .before .before in
+    let at-start = at-none-skipped .before .before .before .before in
+    let a = at-start .args in
     let t = a .table .now in
     let e = a .w .end .0 in
-    let l = c .before .before .loop in
+    let l = at-loop .loop in
     let u : from t (l .a) e ≡ l .a ∷ from t (l .a + 1) e = from-next t (l .a) (l .a + 1) e (l .inv .0) (omega arith) refl in
     let z : l .left ≡ 0 = c .if3 .taken in
     let g : getD (from t (l .a) e) (l .left) e ≡ l .a = rw (u, z) in
-    (sym g ∙ l .inv .2 ∙ ap (λ us. getD us (a .k) e) (sym (c .before .before .before .next-usable .ensures .1 .0)), search needs)
+    (sym g ∙ l .inv .2 ∙ ap (λ us. getD us (a .k) e) (sym (at-next-usable .next-usable .ensures .1 .0)), search needs)
 
 loop-again : tie.Need-loop-again Inv-loop μ-loop
 loop-again c =
-    let a = c .before .before .before .before .before .before .before .before .before .before .args in
+    let at-loop = c .before .before .before in
+    let at-none-skipped = at-loop .before .before .before in
+    let at-start = at-none-skipped .before .before .before .before in
+    let a = at-start .args in
     let t = a .table .now in
     let e = a .w .end .0 in
-    let l = c .before .before .before .loop in
+    let l = at-loop .loop in
     let f = c .next-usable2 .result .0 in
     let u : from t (l .a) e ≡ l .a ∷ from t f e = from-next t (l .a) f e (l .inv .0) (omega arith) (c .next-usable2 .ensures .1 .0) in (
       record { within = search needs; in-table = search needs; free = c .next-usable2 .ensures .1 .1 },
@@ -64,12 +73,16 @@ loop-again c =
 
 returns-4 : tie.Need-returns-4 Inv-loop μ-loop
 returns-4 c =
-    let a = c .before .before .before .before .before .before .before .before .args in
+    let at-loop = c .before in
+    let at-next-usable = at-loop .before in
+    let at-none-skipped = at-next-usable .before .before in
+    let at-start = at-none-skipped .before .before .before .before in
+    let a = at-start .args in
     let t = a .table .now in
     let e = a .w .end .0 in
-    let l = c .before .loop in
+    let l = at-loop .loop in
     let u : from t (l .a) e ≡ [] = from-end t (l .a) e (omega arith) in
-    (sym (ap (λ us. getD us (l .left) e) u) ∙ l .inv .2 ∙ ap (λ us. getD us (a .k) e) (sym (c .before .before .next-usable .ensures .1 .0)), search needs)
+    (sym (ap (λ us. getD us (l .left) e) u) ∙ l .inv .2 ∙ ap (λ us. getD us (a .k) e) (sym (at-next-usable .next-usable .ensures .1 .0)), search needs)
 
 pub nth-spec : {M : Type 1} → statement M
 nth-spec =

@@ -9,15 +9,16 @@ use Rattle.tlv_tag.proofs.kept.extent_of.Tie as tie
 
 returns : tie.Need-returns
 returns c =
-    let at-length = c .before .before in
-    let s = at-length .before .before .before in
-    let a = s .args in
-    let z = c .before .nth in (
-      set-below (a .table .now) (a .w) (s .pre .0) (a .n) _ _ (at-length .tlv-bytes-length .ensures) (z .ensures .0),
+    let at-nth = c .before in
+    let at-tlv-bytes-length = at-nth .before in
+    let at-start = at-tlv-bytes-length .before .before .before in
+    let a = at-start .args in
+    let z = at-nth .nth in (
+      set-below (a .table .now) (a .w) (at-start .pre .0) (a .n) _ _ (at-tlv-bytes-length .tlv-bytes-length .ensures) (z .ensures .0),
       record {
         ordered = z .ensures .1 .0;
         below = z .ensures .1 .1;
-        in-table = omega (arith, z .ensures .1 .1, s .pre .0 .in-table);
+        in-table = omega (arith, z .ensures .1 .1, at-start .pre .0 .in-table);
         skips-is = ap not (c .none-skipped .ensures);
       },
     )

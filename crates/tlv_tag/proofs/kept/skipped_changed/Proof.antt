@@ -28,9 +28,10 @@ loop-holds c = (search needs, refl)
 
 loop-again : tie.Need-loop-again Inv-loop μ-loop
 loop-again c =
-    let at-test = c .before .before .before .before in
-    let at-loop = at-test .before in
-    let x = at-loop .before .before .before .before .args in
+    let at-loop-test = c .before .before .before .before in
+    let at-loop = at-loop-test .before in
+    let at-start = at-loop .before .before .before .before in
+    let x = at-start .args in
     let l = at-loop .loop in
     let test = kept (x .image .now) (x .work .now) (x .table .now) (x .first) in
     (search needs, c .flag .ensures ∙ ap (λ n. cond (test (l .k)) n 1) (l .inv .1) ∙ sym (flag-more test (l .k)))
@@ -38,7 +39,8 @@ loop-again c =
 returns : tie.Need-returns Inv-loop μ-loop
 returns c =
     let at-loop = c .before in
-    let x = at-loop .before .before .before .before .args in
+    let at-start = at-loop .before .before .before .before in
+    let x = at-start .args in
     let all : at-loop .loop .k ≡ x .stop - x .first = omega arith in
     at-loop .loop .inv .1 ∙ ap (flagTo (kept (x .image .now) (x .work .now) (x .table .now) (x .first))) all
 

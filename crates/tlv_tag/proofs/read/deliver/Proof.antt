@@ -8,22 +8,27 @@ use Rattle.tlv_tag.proofs.read.deliver.Tie as tie
 
 returns : tie.Need-returns
 returns c =
-    let s = c .before .before .before .before in
-    let a = s .args in
-    whole (a .image .now) (ahead (a .table .now) (a .w)) (a .gathered .now) (a .report) (s .pre .1) (not-true _ (c .if1 .taken))
+    let at-start = c .before .before .before .before in
+    let a = at-start .args in
+    whole (a .image .now) (ahead (a .table .now) (a .w)) (a .gathered .now) (a .report) (at-start .pre .1) (not-true _ (c .if1 .taken))
 
 returns-2 : tie.Need-returns-2
 returns-2 c =
-    let s = c .before .before .before .before .before in
-    let a = s .args in
-    unfit (a .image .now) (ahead (a .table .now) (a .w)) (a .gathered .now) (a .report) (s .pre .1) (not-false _ (c .before .if1 .left)) (c .if2 .taken)
+    let at-if1 = c .before in
+    let at-start = at-if1 .before .before .before .before in
+    let a = at-start .args in
+    unfit (a .image .now) (ahead (a .table .now) (a .w)) (a .gathered .now) (a .report) (at-start .pre .1) (not-false _ (at-if1 .if1 .left)) (c .if2 .taken)
 
 returns-3 : tie.Need-returns-3
 returns-3 c =
-    let s = c .before .before .before .before .before .before .before .before .before in
-    let a = s .args in
-    let g = c .before .before .gather in
-    fit (a .image .now) (ahead (a .table .now) (a .w)) (a .gathered .now) (a .report) (s .pre .1) _ (not-false _ (c .before .before .before .before .before .if1 .left)) (c .before .before .before .before .if2 .left) (g .ensures)
+    let at-gather = c .before .before in
+    let at-if2 = at-gather .before .before in
+    let at-if1 = at-if2 .before in
+    let at-start = at-if1 .before .before .before .before in
+    let a = at-start .args in
+    let g = at-gather .gather in
+    fit (a .image .now) (ahead (a .table .now) (a .w)) (a .gathered .now) (a .report) (at-start .pre .1) _ (not-false _ (at-if1 .if1 .left))
+    (at-if2 .if2 .left) (g .ensures)
 
 pub deliver-spec : {M : Type 1} → statement M
 deliver-spec =

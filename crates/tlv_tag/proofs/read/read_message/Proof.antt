@@ -13,17 +13,24 @@ read-value-requires c κs = field-placed (c .before .before .before .before .tak
 
 returns : tie.Need-returns
 returns c =
-    let a = c .before .before .before .before .before .before .args in
+    let at-take-length = c .before .before in
+    let at-start = at-take-length .before .before .before .before in
+    let a = at-start .args in
     let t = a .table .now in
-    rw (field-bad (a .writable) (a .image .now) (ahead t (a .w)) (sym (ap (fieldAs t) (c .enum-told .given .1)) ∙ c .before .before .take-length .ensures .0)) (refl, refl)
+    rw (field-bad (a .writable) (a .image .now) (ahead t (a .w)) (sym (ap (fieldAs t) (c .enum-told .given .1)) ∙ at-take-length .take-length .ensures .0))
+    (refl, refl)
 
 returns-2 : tie.Need-returns-2
 returns-2 c =
-    let a = c .before .before .before .before .before .before .before .before .before .before .before .args in
+    let at-read-value = c .before .before in
+    let at-n = at-read-value .before .before .before in
+    let at-take-length = at-n .before .before in
+    let at-start = at-take-length .before .before .before .before in
+    let a = at-start .args in
     let t = a .table .now in
-    let g = c .before .before .before .before .before .n .given in
-    let f = c .before .before .before .before .before .before .before .take-length .ensures in
-    rw (field-is (a .writable) (a .image .now) (ahead t (a .w)) _ _ (sym (ap (fieldAs t) (g .1)) ∙ f .0)) (c .before .before .read-value .ensures)
+    let g = at-n .n .given in
+    let f = at-take-length .take-length .ensures in
+    rw (field-is (a .writable) (a .image .now) (ahead t (a .w)) _ _ (sym (ap (fieldAs t) (g .1)) ∙ f .0)) (at-read-value .read-value .ensures)
 
 pub read-message-spec : {M : Type 1} → statement M
 read-message-spec =

@@ -15,25 +15,37 @@ returns c =
 
 deliver-requires : tie.Need-deliver-requires
 deliver-requires c κs =
-    let s = c .before .before .before .before .before .before .before .before .before in
-    let a = s .args in
-    (s .pre, subst (ValueRoom (a .n) (ahead (a .table .now) (a .w))) (c .before .before .address .given .1) (c .before .before .before .before .measure .ensures .1))
+    let at-address = c .before .before in
+    let at-measure = at-address .before .before in
+    let at-if1 = at-measure .before in
+    let at-start = at-if1 .before .before .before .before in
+    let a = at-start .args in
+    (at-start .pre, subst (ValueRoom (a .n) (ahead (a .table .now) (a .w))) (at-address .address .given .1) (at-measure .measure .ensures .1))
 
 returns-2 : tie.Need-returns-2
 returns-2 c =
-    let a = c .before .before .before .before .before .before .before .args in
+    let at-measure = c .before .before in
+    let at-if1 = at-measure .before in
+    let at-start = at-if1 .before .before .before .before in
+    let a = at-start .args in
     let us = ahead (a .table .now) (a .w) in
-    let l = subst (ValueRoom (a .n) us) (c .enum-told .given .1) (c .before .before .measure .ensures .1) in
+    let l = subst (ValueRoom (a .n) us) (c .enum-told .given .1) (at-measure .measure .ensures .1) in
     rw (value-short (a .writable) (a .image .now) us (a .n) l) (refl, refl)
 
 returns-3 : tie.Need-returns-3
 returns-3 c =
-    let a = c .before .before .before .before .before .before .before .before .before .before .before .before .args in
+    let at-deliver = c .before .before in
+    let at-address = at-deliver .before .before .before in
+    let at-measure = at-address .before .before in
+    let at-if1 = at-measure .before in
+    let at-start = at-if1 .before .before .before .before in
+    let a = at-start .args in
     let us = ahead (a .table .now) (a .w) in
-    let g = c .before .before .before .before .before .address .given in
-    let m = c .before .before .before .before .before .before .before .measure .ensures in
+    let g = at-address .address .given in
+    let m = at-measure .measure .ensures in
     let l = subst (ValueRoom (a .n) us) (g .1) (m .1) in
-    rw (value-measured (a .writable) (a .image .now) us (a .n) (g .0 .0 .0) (g .0 .1 .0) (omega arith) l (sym (ap valueAs (g .1)) ∙ m .0)) (c .before .before .deliver .ensures)
+    rw (value-measured (a .writable) (a .image .now) us (a .n) (g .0 .0 .0) (g .0 .1 .0) (omega arith) l (sym (ap valueAs (g .1)) ∙ m .0))
+    (at-deliver .deliver .ensures)
 
 pub read-value-spec : {M : Type 1} → statement M
 read-value-spec =

@@ -16,9 +16,13 @@ returns c =
 
 returns-2 : tie.Need-returns-2
 returns-2 c =
-    let a = c .before .before .before .before .before .args in
+    let at-if1 = c .before in
+    let at-message-refusal = at-if1 .before in
+    let at-start = at-message-refusal .before .before .before in
+    let a = at-start .args in
     let us = ahead (a .table .now) (a .w) in (
-      whole-space (a .writable) (a .n) us (lengthOf (a .image .now) us) (sym (c .before .before .message-refusal .ensures) ∙ c .before .if1 .left) (c .space-at .ensures .0),
+      whole-space (a .writable) (a .n) us (lengthOf (a .image .now) us) (sym (at-message-refusal .message-refusal .ensures) ∙ at-if1 .if1 .left)
+          (c .space-at .ensures .0),
       c .space-at .ensures .1,
     )
 

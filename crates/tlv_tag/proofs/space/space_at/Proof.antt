@@ -18,22 +18,30 @@ returns-2 c =
 
 returns-3 : tie.Need-returns-3
 returns-3 c =
-    let a = c .before .before .before .before .before .before .before .args in
-    let w : a .writable ≡ true = not-false _ (c .before .before .before .if2 .left) in
+    let at-fits2 = c .before in
+    let at-count = at-fits2 .before in
+    let at-if2 = at-count .before in
+    let at-start = at-if2 .before .before .before .before in
+    let a = at-start .args in
+    let w : a .writable ≡ true = not-false _ (at-if2 .if2 .left) in
     let f : fitsIn (a .n) (length (ahead (a .table .now) (a .w))) ≡ false
-    = sym (c .before .fits2 .ensures ∙ ap (fitsIn (a .n)) (c .before .before .count .ensures .0)) ∙ not-true _ (c .if3 .taken) in
+    = sym (at-fits2 .fits2 .ensures ∙ ap (fitsIn (a .n)) (at-count .count .ensures .0)) ∙ not-true _ (c .if3 .taken) in
     ((λ ms. search (cases, w, f) depth 12), tt)
 
 returns-4 : tie.Need-returns-4
 returns-4 c =
-    let a = c .before .before .before .before .before .before .before .args in
-    let w : a .writable ≡ true = not-false _ (c .before .before .before .if2 .left) in
+    let at-fits2 = c .before in
+    let at-count = at-fits2 .before in
+    let at-if2 = at-count .before in
+    let at-start = at-if2 .before .before .before .before in
+    let a = at-start .args in
+    let w : a .writable ≡ true = not-false _ (at-if2 .if2 .left) in
     let f : fitsIn (a .n) (length (ahead (a .table .now) (a .w))) ≡ true
-    = sym (c .before .fits2 .ensures ∙ ap (fitsIn (a .n)) (c .before .before .count .ensures .0)) ∙ not-false _ (c .if3 .left) in (
+    = sym (at-fits2 .fits2 .ensures ∙ ap (fitsIn (a .n)) (at-count .count .ensures .0)) ∙ not-false _ (c .if3 .left) in (
       (λ ms. search (cases, w, f) depth 12),
       (
         record {
-          placed = c .before .before .before .before .before .before .before .pre;
+          placed = at-start .pre;
           enough = fits-less (a .n) (length (ahead (a .table .now) (a .w))) f;
           few = search needs;
         },

@@ -14,8 +14,10 @@ cast-t6 c = omega (arith, c .shared-slice-known .given 1)
 
 returns : tie.Need-returns
 returns c =
-    let bs = c .before .before .before .before .before .args .bytes .now in
-    ap (λ r. commandAs (decoded (byte bs 1) r)) (sym (carried bs (c .before .before .before .before .before .pre)))
+    let at-shared-slice-known4 = c .before in
+    let at-start = at-shared-slice-known4 .before .before .before .before in
+    let bs = at-start .args .bytes .now in
+    ap (λ r. commandAs (decoded (byte bs 1) r)) (sym (carried bs (at-start .pre)))
 
 pub carried-spec : {M : Type 1} → statement M
 carried-spec =

@@ -22,18 +22,26 @@ returns c =
 
 returns-2 : tie.Need-returns-2
 returns-2 c =
-    let a = c .before .before .before .before .before .args in
-    let n = c .before .before .nameable in
+    let at-if1 = c .before in
+    let at-nameable = at-if1 .before in
+    let at-start = at-nameable .before .before .before in
+    let a = at-start .args in
+    let n = at-nameable .nameable in
     let four : length (a .command .bytes) ≡ 4 = search needs in
-    let e = encode-short (a .blocks) (a .command .block .0) (a .command .bytes) (length (a .bytes .now)) (sym (n .ensures) ∙ not-false (n .result) (c .before .if1 .left)) four (omega arith) in
+    let e = encode-short (a .blocks) (a .command .block .0) (a .command .bytes) (length (a .bytes .now))
+    (sym (n .ensures) ∙ not-false (n .result) (at-if1 .if1 .left)) four (omega arith) in
     (sym (ap countOf e), sym (ap (outputInto (a .bytes .now)) e))
 
 cast-command-bytes : tie.Need-cast-command-bytes
 cast-command-bytes c =
-    let a = c .before .before .before .before .before .args in
-    let n = c .before .before .nameable in
-    omega (arith, name-bounds (a .blocks) (a .command .block .0) (sym (n .ensures) ∙ not-false (n .result) (c .before .if1 .left)))
+    let at-if1 = c .before in
+    let at-nameable = at-if1 .before in
+    let at-start = at-nameable .before .before .before in
+    let a = at-start .args in
+    let n = at-nameable .nameable in
+    omega (arith, name-bounds (a .blocks) (a .command .block .0) (sym (n .ensures) ∙ not-false (n .result) (at-if1 .if1 .left)))
 
+-- long paths: `search` and `omega` read at most 128 records in reach, and with points named the proof is not found
 returns-3 : tie.Need-returns-3
 returns-3 c =
     let a = c .before .before .before .before .before .before .before .before .before .before .before .args in

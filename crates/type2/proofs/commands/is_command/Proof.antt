@@ -20,8 +20,11 @@ cast-nameable c = omega (arith, c .shared-slice-known3 .given 1)
 
 returns-3 : tie.Need-returns-3
 returns-3 c =
-    let bs = c .before .before .before .before .before .before .args .bytes .now in
-    rw (eq-eqb (length bs) 6 (c .before .before .before .before .if1 .left), eq-eqb (byte bs 0) 0xA2 (c .before .before .if2 .left)) (c .nameable .ensures)
+    let at-if2 = c .before .before in
+    let at-if1 = at-if2 .before .before in
+    let at-start = at-if1 .before .before in
+    let bs = at-start .args .bytes .now in
+    rw (eq-eqb (length bs) 6 (at-if1 .if1 .left), eq-eqb (byte bs 0) 0xA2 (at-if2 .if2 .left)) (c .nameable .ensures)
 
 pub is-command-spec : {M : Type 1} → statement M
 is-command-spec =

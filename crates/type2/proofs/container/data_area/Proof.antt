@@ -18,12 +18,17 @@ returns-6 c =
 
 returns-7 : tie.Need-returns-7
 returns-7 c =
-    let v = sym (c .before .before .before .before .before .before .is-known .ensures) ∙ not-false _ (c .before .before .before .before .before .if5 .left) in
-    (search (read-only, v), rw (ne-eqb _ _ (c .before .before .before .if6 .left)) (c .area2 .ensures .1))
+    let at-if6 = c .before .before .before in
+    let at-if5 = at-if6 .before .before in
+    let at-is-known = at-if5 .before in
+    let v = sym (at-is-known .is-known .ensures) ∙ not-false _ (at-if5 .if5 .left) in
+    (search (read-only, v), rw (ne-eqb _ _ (at-if6 .if6 .left)) (c .area2 .ensures .1))
 
 returns-8 : tie.Need-returns-8
 returns-8 c =
-    let v = sym (c .before .before .before .before .before .is-known .ensures) ∙ not-false _ (c .before .before .before .before .if5 .left) in
+    let at-if5 = c .before .before .before .before in
+    let at-is-known = at-if5 .before in
+    let v = sym (at-is-known .is-known .ensures) ∙ not-false _ (at-if5 .if5 .left) in
     (search (bad-access, v), tt)
 
 pub data-area-spec : {M : Type 1} → statement M

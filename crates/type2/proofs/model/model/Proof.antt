@@ -10,27 +10,37 @@ use Rattle.type2.proofs.model.model.Tie as tie
 
 returns : tie.Need-returns
 returns c =
-    let a = c .before .before .before .before .before .args in
-    let f = c .before .refusal in
+    let at-refusal = c .before in
+    let at-start = at-refusal .before .before .before .before in
+    let a = at-start .args in
+    let f = at-refusal .refusal in
     let e = model-unread (a .image .now) (a .command .now) (λ z. c .if1 .taken (f .ensures ∙ z)) in
     (ap refusesOne (f .ensures) ∙ sym (ap storingOf e), sym (ap (imageAfter (a .image .now)) e))
 
 returns-2 : tie.Need-returns-2
 returns-2 c =
-    let a = c .before .before .before .before .before .before .before .before .before .before .args in
-    let f = c .before .before .before .before .before .before .refusal in
-    let k = c .before .before .before .take-command in
+    let at-take-command = c .before .before .before in
+    let at-if1 = at-take-command .before .before in
+    let at-refusal = at-if1 .before in
+    let at-start = at-refusal .before .before .before .before in
+    let a = at-start .args in
+    let f = at-refusal .refusal in
+    let k = at-take-command .take-command in
     let w = sym (k .ensures .0) ∙ c .if2 .taken in
-    let e = model-stored (a .image .now) (a .command .now) (sym (f .ensures) ∙ c .before .before .before .before .before .if1 .left) w in
+    let e = model-stored (a .image .now) (a .command .now) (sym (f .ensures) ∙ at-if1 .if1 .left) w in
     (sym (ap storingOf e), k .ensures .1 ∙ ap (tagAfter (a .image .now)) (command-formed (a .image .now) (a .command .now) w) ∙ sym (ap (imageAfter (a .image .now)) e))
 
 returns-3 : tie.Need-returns-3
 returns-3 c =
-    let a = c .before .before .before .before .before .before .before .before .before .before .args in
-    let f = c .before .before .before .before .before .before .refusal in
-    let k = c .before .before .before .take-command in
+    let at-take-command = c .before .before .before in
+    let at-if1 = at-take-command .before .before in
+    let at-refusal = at-if1 .before in
+    let at-start = at-refusal .before .before .before .before in
+    let a = at-start .args in
+    let f = at-refusal .refusal in
+    let k = at-take-command .take-command in
     let w = sym (k .ensures .0) ∙ c .if2 .left in
-    let e = model-malformed (a .image .now) (a .command .now) (sym (f .ensures) ∙ c .before .before .before .before .before .if1 .left) w in
+    let e = model-malformed (a .image .now) (a .command .now) (sym (f .ensures) ∙ at-if1 .if1 .left) w in
     (sym (ap storingOf e), k .ensures .1 ∙ ap (tagAfter (a .image .now)) (command-malformed (a .image .now) (a .command .now) w) ∙ sym (ap (imageAfter (a .image .now)) e))
 
 pub model-spec : {M : Type 1} → statement M

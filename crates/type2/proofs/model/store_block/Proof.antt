@@ -11,8 +11,8 @@ use Rattle.type2.proofs.model.store_block.Tie as tie
 
 shared-slice-read-store : tie.Need-shared-slice-read-store
 shared-slice-read-store c =
-    let s = c .before .before .before in
-    omega (arith, formed (length (s .args .image .now) / 4) (s .args .command .now) (s .pre) .six)
+    let at-start = c .before .before .before in
+    omega (arith, formed (length (at-start .args .image .now) / 4) (at-start .args .command .now) (at-start .pre) .six)
 
 cast-store : tie.Need-cast-store
 cast-store c = omega (arith, c .shared-slice-known2 .given 1)
@@ -22,31 +22,34 @@ address-requires c κs = omega (arith, c .shared-slice-known2 .given 1)
 
 sub-store : tie.Need-sub-store
 sub-store c =
-    let s = c .before .before .before .before in
-    omega (arith, formed (length (s .args .image .now) / 4) (s .args .command .now) (s .pre) .six)
+    let at-start = c .before .before .before .before in
+    omega (arith, formed (length (at-start .args .image .now) / 4) (at-start .args .command .now) (at-start .pre) .six)
 
 part-store-start : tie.Need-part-store-start
 part-store-start c =
-    let s = c .before .before .before .before in
-    omega (arith, formed (length (s .args .image .now) / 4) (s .args .command .now) (s .pre) .six)
+    let at-start = c .before .before .before .before in
+    omega (arith, formed (length (at-start .args .image .now) / 4) (at-start .args .command .now) (at-start .pre) .six)
 
 store-requires : tie.Need-store-requires
 store-requires c κs =
-    let s = c .before .before .before .before .before .before in
-    let i = s .args .image .now in
-    let bs = s .args .command .now in
-    let f = formed (length i / 4) bs (s .pre) in
+    let at-address = c .before .before in
+    let at-start = at-address .before .before .before .before in
+    let i = at-start .args .image .now in
+    let bs = at-start .args .command .now in
+    let f = formed (length i / 4) bs (at-start .pre) in
     let e : take (length bs - 2) (drop 2 bs) ≡ drop 2 bs = take-all (length bs - 2) (drop 2 bs) (omega (arith, length-drop 2 bs)) in
     let n : length (drop 2 bs) ≡ 4 = omega (arith, length-drop 2 bs, f .six) in
-    rw (e, n) (omega (arith, f .named-block .inside, c .before .before .address .ensures))
+    rw (e, n) (omega (arith, f .named-block .inside, at-address .address .ensures))
 
 returns : tie.Need-returns
 returns c =
-    let s = c .before .before .before .before .before .before .before .before .before in
-    let i = s .args .image .now in
-    let bs = s .args .command .now in
+    let at-store = c .before .before in
+    let at-address = at-store .before .before .before in
+    let at-start = at-address .before .before .before .before in
+    let i = at-start .args .image .now in
+    let bs = at-start .args .command .now in
     let e : take (length bs - 2) (drop 2 bs) ≡ drop 2 bs = take-all (length bs - 2) (drop 2 bs) (omega (arith, length-drop 2 bs)) in
-    c .before .before .store .ensures ∙ rw (e, c .before .before .before .before .before .address .ensures)
+    at-store .store .ensures ∙ rw (e, at-address .address .ensures)
 
 pub store-block-spec : {M : Type 1} → statement M
 store-block-spec =

@@ -11,14 +11,20 @@ store-block-requires c κs = sym (c .before .before .is-command-for .ensures) �
 
 returns : tie.Need-returns
 returns c =
-    let a = c .before .before .before .before .before .before .before .before .before .args in
-    let w = sym (c .before .before .before .before .before .is-command-for .ensures) ∙ c .before .before .before .before .if1 .taken in
-    (sym w, c .before .before .store-block .ensures ∙ sym (ap (tagAfter (a .image .now)) (command-formed (a .image .now) (a .command .now) w)))
+    let at-store-block = c .before .before in
+    let at-if1 = at-store-block .before .before in
+    let at-is-command-for = at-if1 .before in
+    let at-start = at-is-command-for .before .before .before .before in
+    let a = at-start .args in
+    let w = sym (at-is-command-for .is-command-for .ensures) ∙ at-if1 .if1 .taken in
+    (sym w, at-store-block .store-block .ensures ∙ sym (ap (tagAfter (a .image .now)) (command-formed (a .image .now) (a .command .now) w)))
 
 returns-2 : tie.Need-returns-2
 returns-2 c =
-    let a = c .before .before .before .before .before .args in
-    let w = sym (c .before .is-command-for .ensures) ∙ c .if1 .left in
+    let at-is-command-for = c .before in
+    let at-start = at-is-command-for .before .before .before .before in
+    let a = at-start .args in
+    let w = sym (at-is-command-for .is-command-for .ensures) ∙ c .if1 .left in
     (sym w, sym (ap (tagAfter (a .image .now)) (command-malformed (a .image .now) (a .command .now) w)))
 
 pub take-command-spec : {M : Type 1} → statement M

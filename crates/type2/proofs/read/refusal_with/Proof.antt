@@ -8,23 +8,32 @@ use Rattle.type2.proofs.read.refusal_with.Tie as tie
 
 area-refusal-requires : tie.Need-area-refusal-requires
 area-refusal-requires c κs =
-    let s = c .before .before .before .before .before .before .before in
-    let d = c .before .before .before .before .data-area in
-    let h = checks-pass (s .args .image .now) (d .result) _ _ (d .ensures .0) (d .ensures .1) (c .before .before .end .given .1) in
-    blank (s .args .image .now) (s .args .table .now) _ _ (h .area) (s .pre)
+    let at-end = c .before .before in
+    let at-data-area = at-end .before .before in
+    let at-start = at-data-area .before .before .before in
+    let d = at-data-area .data-area in
+    let h = checks-pass (at-start .args .image .now) (d .result) _ _ (d .ensures .0) (d .ensures .1) (at-end .end .given .1) in
+    blank (at-start .args .image .now) (at-start .args .table .now) _ _ (h .area) (at-start .pre)
 
 returns : tie.Need-returns
 returns c =
-    let a = c .before .before .before .before .before .before .args in
-    let d = c .before .before .before .data-area in
-    sym (ap refusalNumber (refused (a .image .now) (d .result) _ (d .ensures .0) (c .before .r .given .1)))
+    let at-r = c .before in
+    let at-data-area = at-r .before .before in
+    let at-start = at-data-area .before .before .before in
+    let a = at-start .args in
+    let d = at-data-area .data-area in
+    sym (ap refusalNumber (refused (a .image .now) (d .result) _ (d .ensures .0) (at-r .r .given .1)))
 
 returns-2 : tie.Need-returns-2
 returns-2 c =
-    let a = c .before .before .before .before .before .before .before .before .before .before .args in
-    let d = c .before .before .before .before .before .before .before .data-area in
-    let h = checks-pass (a .image .now) (d .result) _ _ (d .ensures .0) (d .ensures .1) (c .before .before .before .before .before .end .given .1) in
-    c .before .before .area-refusal .ensures .0 ∙ sym (refusal-by-area (a .image .now) _ _ h)
+    let at-area-refusal = c .before .before in
+    let at-end = at-area-refusal .before .before .before in
+    let at-data-area = at-end .before .before in
+    let at-start = at-data-area .before .before .before in
+    let a = at-start .args in
+    let d = at-data-area .data-area in
+    let h = checks-pass (a .image .now) (d .result) _ _ (d .ensures .0) (d .ensures .1) (at-end .end .given .1) in
+    at-area-refusal .area-refusal .ensures .0 ∙ sym (refusal-by-area (a .image .now) _ _ h)
 
 pub refusal-with-spec : {M : Type 1} → statement M
 refusal-with-spec =

@@ -13,14 +13,15 @@ use Rattle.type2_write.proofs.list.put_list.Tie as tie
 
 returns : tie.Need-returns
 returns c =
-    let at-put = c .before .before in
-    let at-shut = at-put .before .before .before .before in
-    let at-guard = at-shut .before in
-    let at-slices = at-guard .before in
-    let a = at-slices .before .before .before .before .args in
+    let at-put-list = c .before .before in
+    let at-shut-bytes = at-put-list .before .before .before .before in
+    let at-block = at-shut-bytes .before in
+    let at-slice-known = at-block .before in
+    let at-start = at-slice-known .before .before .before .before in
+    let a = at-start .args in
     let o : ℕ → List ℕ → Output = λ g shut. guardedOutput (length (a .list .now)) front 4 (a .new .now) (a .marks .now) g shut in
-    let e = ap (λ g. o g (at-shut .shut-bytes .result)) (at-guard .block .ensures) ∙ ap (o (a .first .0 / 4)) (at-shut .shut-bytes .ensures) in
-    (at-put .put-list .ensures .0 ∙ ap countOf e, at-put .put-list .ensures .1 ∙ ap (outputInto (a .list .now)) e)
+    let e = ap (λ g. o g (at-shut-bytes .shut-bytes .result)) (at-block .block .ensures) ∙ ap (o (a .first .0 / 4)) (at-shut-bytes .shut-bytes .ensures) in
+    (at-put-list .put-list .ensures .0 ∙ ap countOf e, at-put-list .put-list .ensures .1 ∙ ap (outputInto (a .list .now)) e)
 
 pub put-list-spec : {M : Type 1} → statement M
 put-list-spec =

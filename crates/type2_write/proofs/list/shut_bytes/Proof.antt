@@ -8,14 +8,14 @@ use Rattle.type2_write.proofs.list.shut_bytes.Tie as tie
 
 returns : tie.Need-returns
 returns c =
-    let at-struct = c .before .before .before .before in
-    let at-start = at-struct .before in
-    let at-guard = at-start .before in
-    let s = at-guard .before .before in
-    let a = s .args in
-    let start = at-start .address in
+    let at-struct-known = c .before .before .before .before in
+    let at-address = at-struct-known .before in
+    let at-block = at-address .before in
+    let at-start = at-block .before .before in
+    let a = at-start .args in
+    let start = at-address .address in
     shut-made (a .image .now) (a .first .0) (start .result .0) (a .first .0 - start .result .0)
-    (start .ensures ∙ ap (λ b. 4 * b) (at-guard .block .ensures)) refl (s .pre .0)
+    (start .ensures ∙ ap (λ b. 4 * b) (at-block .block .ensures)) refl (at-start .pre .0)
 
 pub shut-bytes-spec : {M : Type 1} → statement M
 shut-bytes-spec =

@@ -15,34 +15,62 @@ use Rattle.type2_write.proofs.write.write_on.Statement.{statement}
 use Rattle.type2_write.proofs.write.write_on.Tie as tie
 
 -- the data area that was found
-found : (c : tie.After-write-inside-arg) → Inside (c .before .before .before .before .before .before .before .before .before .before .before .args .image .now) (c .before .before .end .given .0 .0 .0) (c .before .before .end .given .0 .1 .0)
+found : (c : tie.After-write-inside-arg) →
+    let at-end = c .before .before in
+    let at-match = at-end .before in
+    let at-slice-known2 = at-match .before .before .before .before in
+    let at-start = at-slice-known2 .before .before .before .before in
+    Inside (at-start .args .image .now) (at-end .end .given .0 .0 .0) (at-end .end .given .0 .1 .0)
 found c =
-    let d = c .before .before .before .before .data-area in
-    let g = c .before .before .end .given in
-    checks-pass (c .before .before .before .before .before .before .before .before .before .before .before .args .image .now) (d .result) (g .0 .0) (g .0 .1 .0) (d .ensures .0) (d .ensures .1) (g .1)
+    let at-end = c .before .before in
+    let at-data-area = at-end .before .before in
+    let at-slice-known2 = at-data-area .before .before .before in
+    let at-start = at-slice-known2 .before .before .before .before in
+    let d = at-data-area .data-area in
+    let g = at-end .end .given in
+    checks-pass (at-start .args .image .now) (d .result) (g .0 .0) (g .0 .1 .0) (d .ensures .0) (d .ensures .1) (g .1)
 
-long-enough : (c : tie.After-write-inside-arg) → length (c .before .before .before .before .before .before .before .before .before .before .before .args .image .now) ≤ length (c .before .before .before .before .before .before .before .before .before .before .before .args .new .now)
-long-enough c = omega (arith, found c .area .short, c .before .before .before .before .before .before .before .before .before .before .before .pre .1)
+long-enough : (c : tie.After-write-inside-arg) →
+    let at-match = c .before .before .before in
+    let at-slice-known2 = at-match .before .before .before .before in
+    let at-start = at-slice-known2 .before .before .before .before in
+    length (at-start .args .image .now) ≤ length (at-start .args .new .now)
+long-enough c =
+    let at-match = c .before .before .before in
+    let at-slice-known2 = at-match .before .before .before .before in
+    let at-start = at-slice-known2 .before .before .before .before in
+    omega (arith, found c .area .short, at-start .pre .1)
 
 slice-relend-prefix-write-inside : tie.Need-slice-relend-prefix-write-inside
 slice-relend-prefix-write-inside c = long-enough c
 
 slice-aggregate-write-inside : tie.Need-slice-aggregate-write-inside
 slice-aggregate-write-inside c =
-    let a = c .before .before .before .before .before .before .before .before .before .before .before .before .args in
-    sym (length-take-le (length (a .image .now)) (a .new .now) (long-enough (c .before)))
+    let at-write-inside-arg = c .before in
+    let at-match = at-write-inside-arg .before .before .before in
+    let at-slice-known2 = at-match .before .before .before .before in
+    let at-start = at-slice-known2 .before .before .before .before in
+    let a = at-start .args in
+    sym (length-take-le (length (a .image .now)) (a .new .now) (long-enough at-write-inside-arg))
 
 write-inside-requires : tie.Need-write-inside-requires
 write-inside-requires c κs =
-    let s = c .before .before .before .before .before .before .before .before .before .before .before .before .before .before in
-    let a = s .args in
-    (found (c .before .before .before), s .pre .0, length-take-le (length (a .image .now)) (a .new .now) (long-enough (c .before .before .before)))
+    let at-write-inside-arg = c .before .before .before in
+    let at-match = at-write-inside-arg .before .before .before in
+    let at-slice-known2 = at-match .before .before .before .before in
+    let at-start = at-slice-known2 .before .before .before .before in
+    let a = at-start .args in
+    (found at-write-inside-arg, at-start .pre .0, length-take-le (length (a .image .now)) (a .new .now) (long-enough at-write-inside-arg))
 
 returns : tie.Need-returns
 returns c =
-    let a = c .before .before .before .before .before .before .before .before .before .before .args in
-    let d = c .before .before .before .data-area in
-    let g = c .before .r .given in
+    let at-r = c .before in
+    let at-data-area = at-r .before .before in
+    let at-slice-known2 = at-data-area .before .before .before in
+    let at-start = at-slice-known2 .before .before .before .before in
+    let a = at-start .args in
+    let d = at-data-area .data-area in
+    let g = at-r .r .given in
     let e = refused-writing (a .image .now) (a .message .now) (g .0 .0) (sym (ap checkedAs (g .1)) ∙ d .ensures .0) in
     (sym (ap (λ v. countOf (writeBy type2 (length (a .list .now)) (a .image .now) v)) e), sym (ap (λ v. outputInto (a .list .now) (writeBy type2 (length (a .list .now)) (a .image .now) v)) e))
 

@@ -24,48 +24,65 @@ loop-holds c = (search needs, refl)
 
 returns : tie.Need-returns Inv-loop μ-loop
 returns c =
-    let l = c .before .before .before .loop in
-    let a = c .before .before .before .before .before .args in
+    let at-loop = c .before .before .before in
+    let at-start = at-loop .before .before in
+    let l = at-loop .loop in
+    let a = at-start .args in
     let b = byte (a .blocks .now) (l .i) in
     sym (l .inv .1 ∙ listable-at (a .nmaxb) (a .blocks .now) (l .i) (omega arith) ∙ rw (lt-leb b (a .nmaxb) (c .if1 .taken)))
 
 returns-2 : tie.Need-returns-2 Inv-loop μ-loop
 returns-2 c =
-    let l = c .before .before .before .before .loop in
-    let a = c .before .before .before .before .before .before .args in
+    let at-if1 = c .before in
+    let at-loop = at-if1 .before .before .before in
+    let at-start = at-loop .before .before in
+    let l = at-loop .loop in
+    let a = at-start .args in
     let b = byte (a .blocks .now) (l .i) in
     sym (
     l .inv .1
     ∙ listable-at (a .nmaxb) (a .blocks .now) (l .i) (omega arith)
-    ∙ rw (le-leb b (a .nmaxb) (c .before .if1 .left), lt-leb b 255 (c .if2 .taken))
+    ∙ rw (le-leb b (a .nmaxb) (at-if1 .if1 .left), lt-leb b 255 (c .if2 .taken))
     )
 
 returns-3 : tie.Need-returns-3 Inv-loop μ-loop
 returns-3 c =
-    let l = c .before .before .before .before .before .before .before .loop in
-    let a = c .before .before .before .before .before .before .before .before .before .args in
+    let at-has = c .before in
+    let at-if2 = at-has .before .before in
+    let at-if1 = at-if2 .before in
+    let at-loop = at-if1 .before .before .before in
+    let at-start = at-loop .before .before in
+    let l = at-loop .loop in
+    let a = at-start .args in
     let bs = a .blocks .now in
     let b = byte bs (l .i) in
     let rest : has b (drop (l .i + 1) bs) ≡ true
-    = ap (has b) (sym (take-all (length bs - (l .i + 1)) (drop (l .i + 1) bs) (omega (arith, length-drop (l .i + 1) bs)))) ∙ sym (c .before .has .ensures) ∙ c .if3 .taken in
+    = ap (has b) (sym (take-all (length bs - (l .i + 1)) (drop (l .i + 1) bs) (omega (arith, length-drop (l .i + 1) bs)))) ∙ sym (at-has .has .ensures)
+    ∙ c .if3 .taken in
     sym (
     l .inv .1
     ∙ listable-at (a .nmaxb) bs (l .i) (omega arith)
-    ∙ rw (le-leb b (a .nmaxb) (c .before .before .before .before .if1 .left), le-leb b 255 (c .before .before .before .if2 .left), rest)
+    ∙ rw (le-leb b (a .nmaxb) (at-if1 .if1 .left), le-leb b 255 (at-if2 .if2 .left), rest)
     )
 
 loop-again : tie.Need-loop-again Inv-loop μ-loop
 loop-again c =
-    let l = c .before .before .before .before .before .before .before .loop in
-    let a = c .before .before .before .before .before .before .before .before .before .args in
+    let at-has = c .before in
+    let at-if2 = at-has .before .before in
+    let at-if1 = at-if2 .before in
+    let at-loop = at-if1 .before .before .before in
+    let at-start = at-loop .before .before in
+    let l = at-loop .loop in
+    let a = at-start .args in
     let bs = a .blocks .now in
     let b = byte bs (l .i) in
     let rest : has b (drop (l .i + 1) bs) ≡ false
-    = ap (has b) (sym (take-all (length bs - (l .i + 1)) (drop (l .i + 1) bs) (omega (arith, length-drop (l .i + 1) bs)))) ∙ sym (c .before .has .ensures) ∙ c .if3 .left in (
+    = ap (has b) (sym (take-all (length bs - (l .i + 1)) (drop (l .i + 1) bs) (omega (arith, length-drop (l .i + 1) bs)))) ∙ sym (at-has .has .ensures)
+    ∙ c .if3 .left in (
       search needs,
       l .inv .1
           ∙ listable-at (a .nmaxb) bs (l .i) (omega arith)
-          ∙ rw (le-leb b (a .nmaxb) (c .before .before .before .before .if1 .left), le-leb b 255 (c .before .before .before .if2 .left), rest),
+          ∙ rw (le-leb b (a .nmaxb) (at-if1 .if1 .left), le-leb b 255 (at-if2 .if2 .left), rest),
     )
 
 returns-4 : tie.Need-returns-4 Inv-loop μ-loop

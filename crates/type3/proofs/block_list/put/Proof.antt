@@ -21,15 +21,20 @@ loop-holds : tie.Need-loop-holds Inv-loop μ-loop
 loop-holds c = (search needs, refl, refl)
 
 cast-element : tie.Need-cast-element Inv-loop μ-loop
-cast-element c = record { fits = omega (arith, c .before .before .before .before .before .pre .1 (c .before .before .loop .i) (omega arith)) }
+cast-element c =
+    let at-loop = c .before .before in
+    let at-start = at-loop .before .before .before in
+    record { fits = omega (arith, at-start .pre .1 (at-loop .loop .i) (omega arith)) }
 
 slice-write-bytes-2 : tie.Need-slice-write-bytes-2 Inv-loop μ-loop
 slice-write-bytes-2 c = simp length-set (omega arith)
 
 loop-again : tie.Need-loop-again Inv-loop μ-loop
 loop-again c =
-    let l = c .before .before .before .loop in
-    let a = c .before .before .before .before .before .before .args in
+    let at-loop = c .before .before .before in
+    let at-start = at-loop .before .before .before in
+    let l = at-loop .loop in
+    let a = at-start .args in
     let b = byte (a .blocks .now) (l .i) in
     let at = 13 + 2 * l .i in (
       search needs,

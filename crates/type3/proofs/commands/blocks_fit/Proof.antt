@@ -14,14 +14,18 @@ use Rattle.type3.proofs.commands.blocks_fit.Tie as tie
 
 slice-aggregate-listable : tie.Need-slice-aggregate-listable
 slice-aggregate-listable c =
-    let bs = c .before .before .before .before .before .before .args .bytes .now in
-    sym (length-take-le (byte bs 12) (c .before .before .read .last .1 .1 .0) (omega arith))
+    let at-read = c .before .before in
+    let at-start = at-read .before .before .before .before in
+    let bs = at-start .args .bytes .now in
+    sym (length-take-le (byte bs 12) (at-read .read .last .1 .1 .0) (omega arith))
 
 returns : tie.Need-returns
 returns c =
-    let a = c .before .before .before .before .before .before .before .args in
-    let f = c .before .before .before .before .before .before .before .pre in
-    let r = c .before .before .before .read in
+    let at-read = c .before .before .before in
+    let at-start = at-read .before .before .before .before in
+    let a = at-start .args in
+    let f = at-start .pre in
+    let r = at-read .read in
     let bs = a .bytes .now in
     let ns = numbers (byte bs 12) (drop 13 bs) in
     let k : length ns ≡ byte bs 12 = length-numbers (byte bs 12) (drop 13 bs) in

@@ -17,8 +17,8 @@ use Rattle.type3.proofs.commands.carried.Tie as tie
 returns : tie.Need-returns
 returns c =
     let at-store = c .before in
-    let at-blocks = at-store .before .before .before in
-    let at-read = at-blocks .before .before in
+    let at-blocks-of = at-store .before .before .before in
+    let at-read = at-blocks-of .before .before in
     let at-start = at-read .before .before .before .before in
     let bs = at-start .args .bytes .now in
     let f = at-start .pre in
@@ -27,7 +27,7 @@ returns c =
     let k : length ns ≡ byte bs 12 = length-numbers (byte bs 12) (drop 13 bs) in
     let all = take-all (length bs - start) (drop start bs) (omega (arith, length-drop start bs)) in
     same-command (sym k)
-    (at-blocks .blocks-of .ensures ∙ ap blocksOf (at-read .read .ensures ∙ sets-front ns (replicate 8 0) (omega arith)))
+    (at-blocks-of .blocks-of .ensures ∙ ap blocksOf (at-read .read .ensures ∙ sets-front ns (replicate 8 0) (omega arith)))
     (
     at-store .store .ensures
     ∙ ap (sets (replicate 128 0) 0) all

@@ -10,13 +10,14 @@ use Rattle.type3.proofs.commands.encode.Tie as tie
 
 returns : tie.Need-returns
 returns c =
-    let at-encode = c .before .before in
-    let at-blocks = at-encode .before .before .before .before in
-    let at-numbers = at-blocks .before .before in
-    let a = at-numbers .before .before .before .args in
-    let r = at-encode .encode-parts .ensures in
+    let at-encode-parts = c .before .before in
+    let at-blockdata2 = at-encode-parts .before .before .before in
+    let at-block-numbers = at-blockdata2 .before .before .before in
+    let at-start = at-block-numbers .before .before .before in
+    let a = at-start .args in
+    let r = at-encode-parts .encode-parts .ensures in
     let room = length (a .bytes .now) in
-    let e = ap (λ bs. encode (a .idm .now) (a .nbw) (a .nmaxb) (a .command .count) bs (a .command .bytes) room) (at-numbers .block-numbers .ensures) in
+    let e = ap (λ bs. encode (a .idm .now) (a .nbw) (a .nmaxb) (a .command .count) bs (a .command .bytes) room) (at-block-numbers .block-numbers .ensures) in
     (r .0 ∙ ap countOf e, r .1 ∙ ap (outputInto (a .bytes .now)) e)
 
 pub encode-spec : {M : Type 1} → statement M

@@ -15,16 +15,23 @@ use Rattle.type3.proofs.commands.encode_parts.Tie as tie
 
 returns : tie.Need-returns
 returns c =
-    let a = c .before .before .before .before .before .args in
-    let w = c .before .well-listed in
+    let at-well-listed = c .before in
+    let at-start = at-well-listed .before .before .before .before in
+    let a = at-start .args in
+    let w = at-well-listed .well-listed in
     let e = encode-unlisted (a .idm) (a .nbw) (a .nmaxb) (a .count) (a .blocks .now) (a .blockdata .now) (length (a .bytes .now)) (sym (w .ensures) ∙ not-true (w .result) (c .if1 .taken)) in
     (sym (ap countOf e), sym (ap (outputInto (a .bytes .now)) e))
 
 -- the blocks that are used
-blocks-used : (c : tie.Else1) → (let a = c .before .before .before .before .before .args in Used (a .nmaxb) (a .count) (a .blocks .now))
+blocks-used : (c : tie.Else1) →
+    let at-well-listed = c .before in
+    let at-start = at-well-listed .before .before .before .before in
+    let a = at-start .args in Used (a .nmaxb) (a .count) (a .blocks .now)
 blocks-used c =
-    let a = c .before .before .before .before .before .args in
-    let w = c .before .well-listed in
+    let at-well-listed = c .before in
+    let at-start = at-well-listed .before .before .before .before in
+    let a = at-start .args in
+    let w = at-well-listed .well-listed in
     used (a .nbw) (a .nmaxb) (a .count) (a .blocks .now) (omega arith) (sym (w .ensures) ∙ not-false (w .result) (c .if1 .left))
 
 mul-size : tie.Need-mul-size
@@ -35,9 +42,13 @@ add-size c = omega (arith, blocks-used c)
 
 returns-2 : tie.Need-returns-2
 returns-2 c =
-    let a = c .before .before .before .before .before .before .args in
-    let w = c .before .before .well-listed in
-    let e = encode-short (a .idm) (a .nbw) (a .nmaxb) (a .count) (a .blocks .now) (a .blockdata .now) (length (a .bytes .now)) (omega arith) (omega arith) (omega arith) (sym (w .ensures) ∙ not-false (w .result) (c .before .if1 .left)) (omega arith) in
+    let at-if1 = c .before in
+    let at-well-listed = at-if1 .before in
+    let at-start = at-well-listed .before .before .before .before in
+    let a = at-start .args in
+    let w = at-well-listed .well-listed in
+    let e = encode-short (a .idm) (a .nbw) (a .nmaxb) (a .count) (a .blocks .now) (a .blockdata .now) (length (a .bytes .now)) (omega arith) (omega arith)
+    (omega arith) (sym (w .ensures) ∙ not-false (w .result) (at-if1 .if1 .left)) (omega arith) in
     (sym (ap countOf e), sym (ap (outputInto (a .bytes .now)) e))
 
 slice-aggregate-put : tie.Need-slice-aggregate-put
@@ -45,14 +56,20 @@ slice-aggregate-put c = sym (blocks-used (c .before .before) .inside)
 
 slice-aggregate-put-2 : tie.Need-slice-aggregate-put-2
 slice-aggregate-put-2 c =
-    let a = c .before .before .before .before .before .before .before .before .args in
-    let u = blocks-used (c .before .before .before) in
+    let at-if1 = c .before .before .before in
+    let at-well-listed = at-if1 .before in
+    let at-start = at-well-listed .before .before .before .before in
+    let a = at-start .args in
+    let u = blocks-used at-if1 in
     sym (length-take-le (16 * a .count) (a .blockdata .now) (omega arith))
 
 put-requires : tie.Need-put-requires
 put-requires c κs =
-    let a = c .before .before .before .before .before .before .before .before .before .args in
-    let u = blocks-used (c .before .before .before .before) in
+    let at-if1 = c .before .before .before .before in
+    let at-well-listed = at-if1 .before in
+    let at-start = at-well-listed .before .before .before .before in
+    let a = at-start .args in
+    let u = blocks-used at-if1 in
     record {
       few = omega arith;
       each-byte = λ i l. listable-each (a .nmaxb) (take (a .count) (a .blocks .now)) (u .listed) i l .1;
@@ -60,6 +77,7 @@ put-requires c κs =
       room = omega arith;
     }
 
+-- long paths: `search` and `omega` read at most 128 records in reach, and with points named the proof is not found
 returns-3 : tie.Need-returns-3
 returns-3 c =
     let a = c .before .before .before .before .before .before .before .before .before .before .before .before .args in

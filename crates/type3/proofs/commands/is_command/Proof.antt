@@ -18,11 +18,15 @@ blocks-fit-requires c κs =
 
 returns : tie.Need-returns
 returns c =
-    let a = c .before .before .before .before .before .args in
+    let at-if1 = c .before in
+    let at-is-framed = at-if1 .before in
+    let at-start = at-is-framed .before .before .before in
+    let a = at-start .args in
     let bs = a .bytes .now in
     let listed = listable (a .nmaxb) (numbers (byte bs 12) (drop 13 bs)) in
     c .blocks-fit .ensures
-    ∙ sym (is-command-by (a .idm .now) (a .nbw) (a .nmaxb) bs (omega arith) ∙ ap (λ f. f && listed) (sym (c .before .before .is-framed .ensures) ∙ c .before .if1 .taken))
+    ∙ sym (is-command-by (a .idm .now) (a .nbw) (a .nmaxb) bs (omega arith)
+    ∙ ap (λ f. f && listed) (sym (at-is-framed .is-framed .ensures) ∙ at-if1 .if1 .taken))
 
 returns-2 : tie.Need-returns-2
 returns-2 c =

@@ -24,40 +24,88 @@ cast-count c = omega (arith, c .shared-slice-known3 .given 12)
 returns-2 : tie.Need-returns-2
 unfolding framedBy
 returns-2 c =
-    let a = c .before .before .before .before .before .before .args in
+    let at-countable = c .before in
+    let at-if1 = at-countable .before .before in
+    let at-start = at-if1 .before .before .before in
+    let a = at-start .args in
     let bs = a .bytes .now in
-    rw (sym (c .before .countable .ensures) ∙ not-true (c .before .countable .result) (c .if2 .taken))
+    rw (sym (at-countable .countable .ensures) ∙ not-true (at-countable .countable .result) (c .if2 .taken))
 
 mul-if3 : tie.Need-mul-if3
 mul-if3 c =
-    let a = c .before .before .before .before .before .before .args in
-    omega (arith, count-bounds (a .nbw) (byte (a .bytes .now) 12) (sym (c .before .countable .ensures) ∙ not-false (c .before .countable .result) (c .if2 .left)))
+    let at-countable = c .before in
+    let at-if1 = at-countable .before .before in
+    let at-start = at-if1 .before .before .before in
+    let a = at-start .args in
+    omega (
+      arith,
+      count-bounds (a .nbw) (byte (a .bytes .now) 12)
+          (sym (at-countable .countable .ensures) ∙ not-false (at-countable .countable .result) (c .if2 .left)),
+    )
 
 add-if3 : tie.Need-add-if3
 add-if3 c =
-    let a = c .before .before .before .before .before .before .args in
-    omega (arith, count-bounds (a .nbw) (byte (a .bytes .now) 12) (sym (c .before .countable .ensures) ∙ not-false (c .before .countable .result) (c .if2 .left)))
+    let at-countable = c .before in
+    let at-if1 = at-countable .before .before in
+    let at-start = at-if1 .before .before .before in
+    let a = at-start .args in
+    omega (
+      arith,
+      count-bounds (a .nbw) (byte (a .bytes .now) 12)
+          (sym (at-countable .countable .ensures) ∙ not-false (at-countable .countable .result) (c .if2 .left)),
+    )
 
 returns-3 : tie.Need-returns-3
 unfolding framedBy
 returns-3 c =
-    let a = c .before .before .before .before .before .before .before .args in
+    let at-if2 = c .before in
+    let at-countable = at-if2 .before in
+    let at-if1 = at-countable .before .before in
+    let at-start = at-if1 .before .before .before in
+    let a = at-start .args in
     let bs = a .bytes .now in
-    rw (sym (c .before .before .countable .ensures) ∙ not-false (c .before .before .countable .result) (c .before .if2 .left), ne-eqb (length bs) (13 + 18 * byte bs 12) (c .if3 .taken))
+    rw (
+      sym (at-countable .countable .ensures) ∙ not-false (at-countable .countable .result) (at-if2 .if2 .left),
+      ne-eqb (length bs) (13 + 18 * byte bs 12)
+          (c .if3 .taken),
+    )
 
 returns-4 : tie.Need-returns-4
 unfolding framedBy
 returns-4 c =
-    let a = c .before .before .before .before .before .before .before .before .before .args in
+    let at-opens = c .before in
+    let at-if3 = at-opens .before in
+    let at-if2 = at-if3 .before in
+    let at-countable = at-if2 .before in
+    let at-if1 = at-countable .before .before in
+    let at-start = at-if1 .before .before .before in
+    let a = at-start .args in
     let bs = a .bytes .now in
-    rw (sym (c .before .before .before .before .countable .ensures) ∙ not-false (c .before .before .before .before .countable .result) (c .before .before .before .if2 .left), eq-eqb (length bs) (13 + 18 * byte bs 12) (c .before .before .if3 .left), sym (c .before .opens .ensures) ∙ not-true (c .before .opens .result) (c .if4 .taken))
+    rw (
+      sym (at-countable .countable .ensures) ∙ not-false (at-countable .countable .result) (at-if2 .if2 .left),
+      eq-eqb (length bs) (13 + 18 * byte bs 12)
+          (at-if3 .if3 .left),
+      sym (at-opens .opens .ensures) ∙ not-true (at-opens .opens .result) (c .if4 .taken),
+    )
 
 returns-5 : tie.Need-returns-5
 unfolding framedBy
 returns-5 c =
-    let a = c .before .before .before .before .before .before .before .before .before .before .args in
+    let at-if4 = c .before in
+    let at-opens = at-if4 .before in
+    let at-if3 = at-opens .before in
+    let at-if2 = at-if3 .before in
+    let at-countable = at-if2 .before in
+    let at-if1 = at-countable .before .before in
+    let at-start = at-if1 .before .before .before in
+    let a = at-start .args in
     let bs = a .bytes .now in
-    rw (sym (c .before .before .before .before .before .countable .ensures) ∙ not-false (c .before .before .before .before .before .countable .result) (c .before .before .before .before .if2 .left), eq-eqb (length bs) (13 + 18 * byte bs 12) (c .before .before .before .if3 .left), sym (c .before .before .opens .ensures) ∙ not-false (c .before .before .opens .result) (c .before .if4 .left)) (c .well-begun .ensures)
+    rw (
+      sym (at-countable .countable .ensures) ∙ not-false (at-countable .countable .result) (at-if2 .if2 .left),
+      eq-eqb (length bs) (13 + 18 * byte bs 12)
+          (at-if3 .if3 .left),
+      sym (at-opens .opens .ensures) ∙ not-false (at-opens .opens .result) (at-if4 .if4 .left),
+    ) (c .well-begun .ensures)
 
 pub is-framed-spec : {M : Type 1} → statement M
 is-framed-spec =

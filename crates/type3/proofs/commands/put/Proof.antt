@@ -11,14 +11,18 @@ use Rattle.type3.proofs.commands.put.Tie as tie
 
 returns : tie.Need-returns
 returns c =
-    let s = c .before .before .before .before .before .before .before .before .before .before .before .before .before .before .before .before .before in
-    let a = s .args in
+    let at-store2 = c .before .before in
+    let at-put = at-store2 .before .before .before .before in
+    let at-store = at-put .before .before .before .before in
+    let at-opening = at-store .before .before .before in
+    let at-start = at-opening .before .before .before .before in
+    let a = at-start .args in
     let bs = a .blocks .now in
-    c .before .before .store2 .ensures
-    ∙ ap (λ t. sets t (13 + 2 * length bs) (a .blockdata .now)) (c .before .before .before .before .before .before .put .ensures)
-    ∙ ap (λ t. sets (sets t 13 (blockListBytes bs)) (13 + 2 * length bs) (a .blockdata .now)) (c .before .before .before .before .before .before .before .before .before .before .store .ensures)
-    ∙ ap (λ o. sets (sets (sets (a .bytes .now) 0 o) 13 (blockListBytes bs)) (13 + 2 * length bs) (a .blockdata .now)) (c .before .before .before .before .before .before .before .before .before .before .before .before .before .opening .ensures)
-    ∙ command-stored (a .bytes .now) (a .idm) bs (a .blockdata .now) (search needs) (s .pre .blockdata) (s .pre .room)
+    at-store2 .store2 .ensures
+    ∙ ap (λ t. sets t (13 + 2 * length bs) (a .blockdata .now)) (at-put .put .ensures)
+    ∙ ap (λ t. sets (sets t 13 (blockListBytes bs)) (13 + 2 * length bs) (a .blockdata .now)) (at-store .store .ensures)
+    ∙ ap (λ o. sets (sets (sets (a .bytes .now) 0 o) 13 (blockListBytes bs)) (13 + 2 * length bs) (a .blockdata .now)) (at-opening .opening .ensures)
+    ∙ command-stored (a .bytes .now) (a .idm) bs (a .blockdata .now) (search needs) (at-start .pre .blockdata) (at-start .pre .room)
 
 pub put-spec : {M : Type 1} → statement M
 put-spec =

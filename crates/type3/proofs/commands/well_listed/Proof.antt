@@ -19,10 +19,14 @@ slice-aggregate-listable c =
 
 returns : tie.Need-returns
 returns c =
-    let a = c .before .before .before .before .before .args in
-    let n = c .before .before .before .countable in
+    let at-if1 = c .before .before in
+    let at-countable = at-if1 .before in
+    let at-start = at-countable .before .before in
+    let a = at-start .args in
+    let n = at-countable .countable in
     c .listable .ensures
-    ∙ sym (well-listed-by (a .nbw) (a .nmaxb) (a .count) (a .blocks .now) (omega arith) ∙ ap (λ q. q && listable (a .nmaxb) (take (a .count) (a .blocks .now))) (sym (n .ensures) ∙ c .before .before .if1 .taken))
+    ∙ sym (well-listed-by (a .nbw) (a .nmaxb) (a .count) (a .blocks .now) (omega arith)
+    ∙ ap (λ q. q && listable (a .nmaxb) (take (a .count) (a .blocks .now))) (sym (n .ensures) ∙ at-if1 .if1 .taken))
 
 returns-2 : tie.Need-returns-2
 returns-2 c =

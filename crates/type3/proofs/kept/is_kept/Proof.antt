@@ -10,24 +10,28 @@ use Rattle.type3.proofs.kept.is_kept.Tie as tie
 
 returns : tie.Need-returns
 returns c =
-    let at-outside = c .before in
-    let at-blocks = at-outside .before .before in
-    let s = at-blocks .before .before .before in
-    let a = s .args in
-    let z = at-outside .before .address in
-    let is : z .result .0 ≡ 16 + 16 * blocksFor (a .n) = omega (arith, z .ensures, at-blocks .blocks-for .ensures) in
-    front-or-back (a .image .now) (a .work .now) (a .n) (z .result .0) is (omega (arith, s .pre .0)) (s .pre .2) _ (at-outside .is-kept-outside .ensures) (c .if1 .taken)
+    let at-is-kept-outside = c .before in
+    let at-address = at-is-kept-outside .before in
+    let at-blocks-for = at-address .before in
+    let at-start = at-blocks-for .before .before .before in
+    let a = at-start .args in
+    let z = at-address .address in
+    let is : z .result .0 ≡ 16 + 16 * blocksFor (a .n) = omega (arith, z .ensures, at-blocks-for .blocks-for .ensures) in
+    front-or-back (a .image .now) (a .work .now) (a .n) (z .result .0) is (omega (arith, at-start .pre .0)) (at-start .pre .2) _
+    (at-is-kept-outside .is-kept-outside .ensures) (c .if1 .taken)
 
 returns-2 : tie.Need-returns-2
 returns-2 c =
-    let at-if = c .before .before in
-    let at-outside = at-if .before in
-    let at-blocks = at-outside .before .before in
-    let s = at-blocks .before .before .before in
-    let a = s .args in
-    let z = at-outside .before .address in
-    let is : z .result .0 ≡ 16 + 16 * blocksFor (a .n) = omega (arith, z .ensures, at-blocks .blocks-for .ensures) in
-    kept-flag (a .image .now) (a .work .now) (a .n) (z .result .0) is (omega (arith, s .pre .0)) (s .pre .2) _ (at-outside .is-kept-outside .ensures) (at-if .if1 .left)
+    let at-if1 = c .before .before in
+    let at-is-kept-outside = at-if1 .before in
+    let at-address = at-is-kept-outside .before in
+    let at-blocks-for = at-address .before in
+    let at-start = at-blocks-for .before .before .before in
+    let a = at-start .args in
+    let z = at-address .address in
+    let is : z .result .0 ≡ 16 + 16 * blocksFor (a .n) = omega (arith, z .ensures, at-blocks-for .blocks-for .ensures) in
+    kept-flag (a .image .now) (a .work .now) (a .n) (z .result .0) is (omega (arith, at-start .pre .0)) (at-start .pre .2) _
+    (at-is-kept-outside .is-kept-outside .ensures) (at-if1 .if1 .left)
 
 pub is-kept-spec : {M : Type 1} → statement M
 is-kept-spec =

@@ -17,7 +17,8 @@ use Rattle.type3.proofs.model.model.Tie as tie
 returns : tie.Need-returns
 returns c =
     let at-fault = c .before in
-    let a = at-fault .before .before .before .before .args in
+    let at-start = at-fault .before .before .before .before in
+    let a = at-start .args in
     let i = a .image .now in
     let e = model-refused (a .idm .now) i (a .command .now) (at-fault .fault .result) (sym (at-fault .fault .ensures) ∙ fault-some _ (c .if1 .taken)) in
     (sym (ap storingOf e), sym (ap (imageAfter i) e))
@@ -26,37 +27,40 @@ said-requires : tie.Need-said-requires
 said-requires c κs =
     let at-if1 = c .before in
     let at-fault = at-if1 .before in
-    let i = at-fault .before .before .before .before .args .image .now in
+    let at-start = at-fault .before .before .before .before in
+    let i = at-start .args .image .now in
     fine-long i (sym (at-fault .fault .ensures) ∙ fault-none _ (at-if1 .if1 .left))
 
 returns-2 : tie.Need-returns-2
 returns-2 c =
-    let at-take = c .before .before .before in
-    let at-said = at-take .before .before in
+    let at-take-command = c .before .before .before in
+    let at-said = at-take-command .before .before in
     let at-if1 = at-said .before .before in
     let at-fault = at-if1 .before in
-    let a = at-fault .before .before .before .before .args in
+    let at-start = at-fault .before .before .before .before in
+    let a = at-start .args in
     let i = a .image .now in
     let passes = sym (at-fault .fault .ensures) ∙ fault-none _ (at-if1 .if1 .left) in
     let said = at-said .said .result in
     let known = attested i passes said (at-said .said .ensures) in
-    let t = at-take .take-command .ensures in
+    let t = at-take-command .take-command .ensures in
     let e = decode-by (length i) (a .idm .now) (said .nbw) (said .nmaxb) (a .command .now) i (known .says .nbw-is) (known .says .nmaxb-is) (known .reach) in
     let m = model-stored (a .idm .now) i (a .command .now) passes (ap isCommand (sym e) ∙ sym (t .0) ∙ c .if2 .taken) in
     (sym (ap storingOf m), t .1 ∙ ap (λ d. tagAfter i (commandOf d)) e ∙ sym (ap (imageAfter i) m))
 
 returns-3 : tie.Need-returns-3
 returns-3 c =
-    let at-take = c .before .before .before in
-    let at-said = at-take .before .before in
+    let at-take-command = c .before .before .before in
+    let at-said = at-take-command .before .before in
     let at-if1 = at-said .before .before in
     let at-fault = at-if1 .before in
-    let a = at-fault .before .before .before .before .args in
+    let at-start = at-fault .before .before .before .before in
+    let a = at-start .args in
     let i = a .image .now in
     let passes = sym (at-fault .fault .ensures) ∙ fault-none _ (at-if1 .if1 .left) in
     let said = at-said .said .result in
     let known = attested i passes said (at-said .said .ensures) in
-    let t = at-take .take-command .ensures in
+    let t = at-take-command .take-command .ensures in
     let e = decode-by (length i) (a .idm .now) (said .nbw) (said .nmaxb) (a .command .now) i (known .says .nbw-is) (known .says .nmaxb-is) (known .reach) in
     let q = ap isCommand (sym e) ∙ sym (t .0) ∙ c .if2 .left in
     let m = model-malformed (a .idm .now) i (a .command .now) passes q in (

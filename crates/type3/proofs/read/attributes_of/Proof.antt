@@ -18,24 +18,32 @@ block-fault-requires c κs =
 
 returns-2 : tie.Need-returns-2
 returns-2 c =
-    let at-if1 = c .before .before in
-    let i = at-if1 .before .before .before .args .image .now in
-    let whole = sym (at-if1 .before .is-whole .ensures) ∙ not-false _ (at-if1 .if1 .left) in
-    (sym (fault-some _ (c .if2 .taken)) ∙ c .before .block-fault .ensures ∙ first-passed i whole, tt)
+    let at-block-fault = c .before in
+    let at-if1 = at-block-fault .before in
+    let at-is-whole = at-if1 .before in
+    let at-start = at-is-whole .before .before in
+    let i = at-start .args .image .now in
+    let whole = sym (at-is-whole .is-whole .ensures) ∙ not-false _ (at-if1 .if1 .left) in
+    (sym (fault-some _ (c .if2 .taken)) ∙ at-block-fault .block-fault .ensures ∙ first-passed i whole, tt)
 
 said-requires : tie.Need-said-requires
 said-requires c κs =
     let at-if1 = c .before .before in
-    let i = at-if1 .before .before .before .args .image .now in
-    whole-blocks i (sym (at-if1 .before .is-whole .ensures) ∙ not-false _ (at-if1 .if1 .left)) .least
+    let at-is-whole = at-if1 .before in
+    let at-start = at-is-whole .before .before in
+    let i = at-start .args .image .now in
+    whole-blocks i (sym (at-is-whole .is-whole .ensures) ∙ not-false _ (at-if1 .if1 .left)) .least
 
 returns-3 : tie.Need-returns-3
 returns-3 c =
     let at-if2 = c .before in
-    let at-if1 = at-if2 .before .before in
-    let i = at-if1 .before .before .before .args .image .now in
-    let whole = sym (at-if1 .before .is-whole .ensures) ∙ not-false _ (at-if1 .if1 .left) in
-    let passes = sym (at-if2 .before .block-fault .ensures ∙ first-passed i whole) ∙ fault-none _ (at-if2 .if2 .left) in
+    let at-block-fault = at-if2 .before in
+    let at-if1 = at-block-fault .before in
+    let at-is-whole = at-if1 .before in
+    let at-start = at-is-whole .before .before in
+    let i = at-start .args .image .now in
+    let whole = sym (at-is-whole .is-whole .ensures) ∙ not-false _ (at-if1 .if1 .left) in
+    let passes = sym (at-block-fault .block-fault .ensures ∙ first-passed i whole) ∙ fault-none _ (at-if2 .if2 .left) in
     (sym passes, attested i passes (c .said .result) (c .said .ensures))
 
 pub attributes-of-spec : {M : Type 1} → statement M

@@ -22,40 +22,53 @@ summed i s w p e q = sym (sum-is i) ∙ sym p ∙ e ∙ q
 
 returns : tie.Need-returns
 returns c =
-    let at-sum = c .before .before in
-    let i = at-sum .before .before .args .image .now in
+    let at-word = c .before in
+    let at-sum = at-word .before in
+    let at-start = at-sum .before .before in
+    let i = at-start .args .image .now in
     let wrong : attributes i .sum ≡ attributes i .checksum → ⊥
-    = λ e. c .if1 .taken (at-sum .sum .ensures .0 ∙ sum-is i ∙ e ∙ sym (c .before .word .ensures .0)) in
+    = λ e. c .if1 .taken (at-sum .sum .ensures .0 ∙ sum-is i ∙ e ∙ sym (at-word .word .ensures .0)) in
     rw (ne-eqb _ _ wrong)
 
 returns-2 : tie.Need-returns-2
 returns-2 c =
-    let at-if1 = c .before .before .before in
-    let at-sum = at-if1 .before .before in
-    let i = at-sum .before .before .args .image .now in
-    let right = summed i _ _ (at-sum .sum .ensures .0) (at-if1 .if1 .left) (at-if1 .before .word .ensures .0) in
-    rw (eq-eqb _ _ right, sym (c .before .is-known .ensures) ∙ not-true _ (c .if2 .taken))
+    let at-is-known = c .before in
+    let at-if1 = at-is-known .before .before in
+    let at-word = at-if1 .before in
+    let at-sum = at-word .before in
+    let at-start = at-sum .before .before in
+    let i = at-start .args .image .now in
+    let right = summed i _ _ (at-sum .sum .ensures .0) (at-if1 .if1 .left) (at-word .word .ensures .0) in
+    rw (eq-eqb _ _ right, sym (at-is-known .is-known .ensures) ∙ not-true _ (c .if2 .taken))
 
 returns-3 : tie.Need-returns-3
 returns-3 c =
-    let at-if2 = c .before .before in
-    let at-if1 = at-if2 .before .before .before in
-    let at-sum = at-if1 .before .before in
-    let i = at-sum .before .before .args .image .now in
-    let right = summed i _ _ (at-sum .sum .ensures .0) (at-if1 .if1 .left) (at-if1 .before .word .ensures .0) in
-    let known = sym (at-if2 .before .is-known .ensures) ∙ not-false _ (at-if2 .if2 .left) in
-    rw (eq-eqb _ _ right, known, sym (c .before .flags-defined .ensures) ∙ not-true _ (c .if3 .taken))
+    let at-flags-defined = c .before in
+    let at-if2 = at-flags-defined .before in
+    let at-is-known = at-if2 .before in
+    let at-if1 = at-is-known .before .before in
+    let at-word = at-if1 .before in
+    let at-sum = at-word .before in
+    let at-start = at-sum .before .before in
+    let i = at-start .args .image .now in
+    let right = summed i _ _ (at-sum .sum .ensures .0) (at-if1 .if1 .left) (at-word .word .ensures .0) in
+    let known = sym (at-is-known .is-known .ensures) ∙ not-false _ (at-if2 .if2 .left) in
+    rw (eq-eqb _ _ right, known, sym (at-flags-defined .flags-defined .ensures) ∙ not-true _ (c .if3 .taken))
 
 returns-4 : tie.Need-returns-4
 returns-4 c =
     let at-if3 = c .before in
-    let at-if2 = at-if3 .before .before in
-    let at-if1 = at-if2 .before .before .before in
-    let at-sum = at-if1 .before .before in
-    let i = at-sum .before .before .args .image .now in
-    let right = summed i _ _ (at-sum .sum .ensures .0) (at-if1 .if1 .left) (at-if1 .before .word .ensures .0) in
-    let known = sym (at-if2 .before .is-known .ensures) ∙ not-false _ (at-if2 .if2 .left) in
-    rw (eq-eqb _ _ right, known, sym (at-if3 .before .flags-defined .ensures) ∙ not-false _ (at-if3 .if3 .left)) (c .size-fault .ensures)
+    let at-flags-defined = at-if3 .before in
+    let at-if2 = at-flags-defined .before in
+    let at-is-known = at-if2 .before in
+    let at-if1 = at-is-known .before .before in
+    let at-word = at-if1 .before in
+    let at-sum = at-word .before in
+    let at-start = at-sum .before .before in
+    let i = at-start .args .image .now in
+    let right = summed i _ _ (at-sum .sum .ensures .0) (at-if1 .if1 .left) (at-word .word .ensures .0) in
+    let known = sym (at-is-known .is-known .ensures) ∙ not-false _ (at-if2 .if2 .left) in
+    rw (eq-eqb _ _ right, known, sym (at-flags-defined .flags-defined .ensures) ∙ not-false _ (at-if3 .if3 .left)) (c .size-fault .ensures)
 
 pub block-fault-spec : {M : Type 1} → statement M
 block-fault-spec =

@@ -13,8 +13,10 @@ block-fault-requires c κs =
 returns : tie.Need-returns
 returns c =
     let at-if1 = c .before in
-    let i = at-if1 .before .before .before .args .image .now in
-    c .block-fault .ensures ∙ first-passed i (sym (at-if1 .before .is-whole .ensures) ∙ at-if1 .if1 .taken)
+    let at-is-whole = at-if1 .before in
+    let at-start = at-is-whole .before .before in
+    let i = at-start .args .image .now in
+    c .block-fault .ensures ∙ first-passed i (sym (at-is-whole .is-whole .ensures) ∙ at-if1 .if1 .taken)
 
 returns-2 : tie.Need-returns-2
 returns-2 c =

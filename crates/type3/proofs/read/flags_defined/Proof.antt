@@ -15,9 +15,13 @@ returns-2 c =
 
 returns-3 : tie.Need-returns-3
 returns-3 c =
-    let first = c .before .before .before .before .before .is-either .ensures in
-    let second = c .before .before .is-either2 .ensures in
-    rw (sym first ∙ not-false _ (c .before .before .before .before .if1 .left), sym second ∙ not-false _ (c .before .if2 .left))
+    let at-if2 = c .before in
+    let at-is-either2 = at-if2 .before in
+    let at-if1 = at-is-either2 .before .before in
+    let at-is-either = at-if1 .before in
+    let first = at-is-either .is-either .ensures in
+    let second = at-is-either2 .is-either2 .ensures in
+    rw (sym first ∙ not-false _ (at-if1 .if1 .left), sym second ∙ not-false _ (at-if2 .if2 .left))
 
 pub flags-defined-spec : {M : Type 1} → statement M
 flags-defined-spec =

@@ -21,8 +21,10 @@ returns-2 : tie.Need-returns-2
 returns-2 c =
     let at-said = c .before in
     let at-if1 = at-said .before in
-    let i = at-if1 .before .before .before .args .image .now in
-    let passes = sym (at-if1 .before .fault .ensures) ∙ fault-none _ (at-if1 .if1 .left) in
+    let at-fault = at-if1 .before in
+    let at-start = at-fault .before .before in
+    let i = at-start .args .image .now in
+    let passes = sym (at-fault .fault .ensures) ∙ fault-none _ (at-if1 .if1 .left) in
     let a = at-said .said .result in
     (c .report .ensures ∙ answer-known i a passes (attested i passes a (at-said .said .ensures)), sym (gathered-none (reading i)))
 

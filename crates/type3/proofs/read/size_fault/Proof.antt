@@ -10,15 +10,17 @@ use Rattle.type3.proofs.read.size_fault.Tie as tie
 
 returns : tie.Need-returns
 returns c =
-    let at-word = c .before .before .before in
-    let i = at-word .before .before .args .image .now in
+    let at-address = c .before .before in
+    let at-start = at-address .before .before .before in
+    let i = at-start .args .image .now in
     let past : length i < 16 * (1 + nmaxbOf i) = omega arith in
     rw (lt-leb _ _ past)
 
 returns-2 : tie.Need-returns-2
 returns-2 c =
     let at-address = c .before .before .before .before in
-    let i = at-address .before .before .before .args .image .now in
+    let at-start = at-address .before .before .before in
+    let i = at-start .args .image .now in
     let reach : 16 * (1 + nmaxbOf i) ≤ length i = omega arith in
     let long : 16 * nmaxbOf i < attributes i .ln = omega arith in
     rw (le-leb _ _ reach, lt-leb _ _ long)
@@ -26,7 +28,8 @@ returns-2 c =
 returns-3 : tie.Need-returns-3
 returns-3 c =
     let at-address = c .before .before .before .before in
-    let i = at-address .before .before .before .args .image .now in
+    let at-start = at-address .before .before .before in
+    let i = at-start .args .image .now in
     let reach : 16 * (1 + nmaxbOf i) ≤ length i = omega arith in
     let short : attributes i .ln ≤ 16 * nmaxbOf i = omega arith in
     rw (le-leb _ _ reach, le-leb _ _ short)

@@ -16,15 +16,19 @@ returns-2 c =
 
 returns-3 : tie.Need-returns-3
 returns-3 c =
-    let a = c .before .before .before .before .before .before .args in
-    let may : a .a .writable ≡ true = not-false _ (c .before .before .before .if2 .left) in
+    let at-if2 = c .before .before .before in
+    let at-start = at-if2 .before .before .before in
+    let a = at-start .args in
+    let may : a .a .writable ≡ true = not-false _ (at-if2 .if2 .left) in
     let long : 16 * a .a .nmaxb < a .n = omega arith in
     search (cases, may, long) depth 12
 
 returns-4 : tie.Need-returns-4
 returns-4 c =
-    let a = c .before .before .before .before .before .before .args in
-    let may : a .a .writable ≡ true = not-false _ (c .before .before .before .if2 .left) in
+    let at-if2 = c .before .before .before in
+    let at-start = at-if2 .before .before .before in
+    let a = at-start .args in
+    let may : a .a .writable ≡ true = not-false _ (at-if2 .if2 .left) in
     let room : a .n ≤ 16 * a .a .nmaxb = omega arith in
     search (cases, may, room) depth 12
 

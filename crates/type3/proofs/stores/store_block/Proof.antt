@@ -10,13 +10,14 @@ use Rattle.type3.proofs.stores.store_block.Tie as tie
 
 returns : tie.Need-returns
 returns c =
-    let at-store = c .before .before in
-    let at-address = at-store .before .before in
+    let at-store-sixteen = c .before .before in
+    let at-address = at-store-sixteen .before .before in
     let at-wide = at-address .before in
-    let a = at-wide .before .before .before .before .args in
+    let at-start = at-wide .before .before .before .before in
+    let a = at-start .args in
     let at : at-address .address .result .0 ≡ 16 * byte (a .command .now) (14 + 2 * a .k)
     = at-address .address .ensures ∙ ap (λ n. 16 * n) (at-wide .wide .ensures .0) in
-    at-store .store-sixteen .ensures ∙ ap (λ n. sets (a .image .now) n (take 16 (drop (13 + 2 * a .count + 16 * a .k) (a .command .now)))) at
+    at-store-sixteen .store-sixteen .ensures ∙ ap (λ n. sets (a .image .now) n (take 16 (drop (13 + 2 * a .count + 16 * a .k) (a .command .now)))) at
 
 pub store-block-spec : {M : Type 1} → statement M
 store-block-spec =

@@ -25,18 +25,25 @@ loop-holds c = (search needs, refl, refl)
 
 store-block-requires : tie.Need-store-block-requires Inv-loop μ-loop
 store-block-requires c κs =
-    let l = c .before .before .loop in
-    let w = c .before .before .before .wide .ensures in
-    let p = c .before .before .before .before .before .before .before .pre in
+    let at-loop = c .before .before in
+    let at-wide = at-loop .before in
+    let at-start = at-wide .before .before .before .before in
+    let l = at-loop .loop in
+    let w = at-wide .wide .ensures in
+    let p = at-start .pre in
     (omega (arith, w .0, p .few), omega arith, omega (arith, w .0, p .whole), omega (arith, w .0, l .inv .1, p .inside (l .k) (omega (arith, w .0))))
 
 loop-again : tie.Need-loop-again Inv-loop μ-loop
 loop-again c =
-    let l = c .before .before .before .before .before .loop in
-    let a = c .before .before .before .before .before .before .before .before .before .before .args in
-    let b = c .before .before .before .before .before .before .wide .result in
+    let at-store-block = c .before .before in
+    let at-loop = at-store-block .before .before .before in
+    let at-wide = at-loop .before in
+    let at-start = at-wide .before .before .before .before in
+    let l = at-loop .loop in
+    let a = at-start .args in
+    let b = at-wide .wide .result in
     let bytes = a .command .now in
-    let laid-so-far = c .before .before .store-block .ensures in (
+    let laid-so-far = at-store-block .store-block .ensures in (
       search needs,
       ap length laid-so-far ∙ length-sets (l .image) (16 * byte bytes (14 + 2 * l .k)) (take 16 (drop (13 + 2 * b + 16 * l .k) bytes)) ∙ l .inv .1,
       l .inv .2 ∙ puts-next (l .image) bytes b (l .k) (omega arith) ∙ ap (λ j. puts j (storesFrom bytes b (l .k + 1))) (sym laid-so-far),
@@ -44,9 +51,12 @@ loop-again c =
 
 returns : tie.Need-returns Inv-loop μ-loop
 returns c =
-    let l = c .before .loop in
-    let a = c .before .before .before .before .before .before .args in
-    let w = c .before .before .wide in
+    let at-loop = c .before in
+    let at-wide = at-loop .before in
+    let at-start = at-wide .before .before .before .before in
+    let l = at-loop .loop in
+    let a = at-start .args in
+    let w = at-wide .wide in
     sym (l .inv .2 ∙ puts-end (l .image) (a .command .now) (w .result) (l .k) (omega arith))
     ∙ ap (λ b. puts (a .image .now) (storesFrom (a .command .now) b 0)) (w .ensures .0)
 

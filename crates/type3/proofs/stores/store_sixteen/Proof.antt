@@ -13,8 +13,9 @@ returns : tie.Need-returns
 returns c =
     let at-store2 = c .before .before in
     let at-store = at-store2 .before .before .before .before in
-    let at-part = at-store .before .before in
-    let x = at-part .before .before .before .args in
+    let at-sixteen = at-store .before in
+    let at-start = at-sixteen .before .before .before .before in
+    let x = at-start .args in
     let bytes = take 16 (drop (x .f) (x .from .now)) in
     let size : x .f + 16 - x .f ≡ 16 = omega arith in
     let long : length bytes ≡ 16 = length-take-le 16 (drop (x .f) (x .from .now)) (omega (arith, length-drop (x .f) (x .from .now))) in

@@ -9,9 +9,10 @@ use Rattle.type3_list.proofs.blocks.put_block.Tie as tie
 returns : tie.Need-returns
 returns c =
     let at-store = c .before .before in
-    let at-fill = at-store .before .before .before in
-    let a = at-fill .before .before .before .args in
-    at-store .store .ensures ∙ ap (sets (a .out .now) (16 * a .j)) (at-fill .fill-block .ensures)
+    let at-fill-block = at-store .before .before .before in
+    let at-start = at-fill-block .before .before .before in
+    let a = at-start .args in
+    at-store .store .ensures ∙ ap (sets (a .out .now) (16 * a .j)) (at-fill-block .fill-block .ensures)
 
 pub put-block-spec : {M : Type 1} → statement M
 put-block-spec =

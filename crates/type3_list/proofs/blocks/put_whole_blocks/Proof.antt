@@ -33,22 +33,24 @@ offset-requires c κs =
 fits : tie.Need-part-put-block-end Inv-loop μ-loop
 fits c =
     let at-wide = c .before in
-    let at-loop = at-wide .before .before .before in
+    let at-loop-test = at-wide .before .before in
+    let at-loop = at-loop-test .before in
     let at-start = at-loop .before .before .before .before in
-    omega (arith, at-wide .wide .ensures, c .offset .ensures, (at-start .pre .1 .whole) (at-loop .loop .j) (at-wide .before .before .loop-test .taken))
+    omega (arith, at-wide .wide .ensures, c .offset .ensures, (at-start .pre .1 .whole) (at-loop .loop .j) (at-loop-test .loop-test .taken))
 
 loop-again : tie.Need-loop-again Inv-loop μ-loop
 loop-again c =
-    let at-put = c .before .before in
-    let at-offset = at-put .before .before .before in
-    let at-loop = at-offset .before .before .before .before in
+    let at-put-block = c .before .before in
+    let at-offset = at-put-block .before .before .before in
+    let at-wide = at-offset .before in
+    let at-loop = at-wide .before .before .before in
     let at-start = at-loop .before .before .before .before in
     let a = at-start .args in
     let l = at-loop .loop in
     let m = a .message .now in
     let bs = a .blocks .now in
     let start = at-offset .offset .result in
-    let block = at-offset .before .wide .ensures in
+    let block = at-wide .wide .ensures in
     let place : start ≡ 16 * (byte bs (l .j) - 1) = omega (arith, block, at-offset .offset .ensures) in
     let fits : start + 16 ≤ length m = omega (arith, block, at-offset .offset .ensures, (at-start .pre .1 .whole) (l .j) (omega arith)) in
     let sixteen : start + 16 - start ≡ 16 = omega arith in
@@ -57,7 +59,7 @@ loop-again c =
       omega arith,
       search needs,
       block-stored m bs (l .out) (a .out .now) _ (l .j) (omega (arith, at-start .pre .1 .most)) (l .inv .2) (omega (arith, at-start .pre .2))
-          (at-put .put-block .ensures ∙ ap (sets (l .out) (16 * l .j)) part),
+          (at-put-block .put-block .ensures ∙ ap (sets (l .out) (16 * l .j)) part),
     )
 
 returns : tie.Need-returns Inv-loop μ-loop

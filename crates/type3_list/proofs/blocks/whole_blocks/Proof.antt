@@ -21,9 +21,10 @@ returns c =
 
 returns-2 : tie.Need-returns-2
 returns-2 c =
-    let at-wide = c .before .before in
+    let at-offset = c .before in
+    let at-wide = at-offset .before in
     let at-start = at-wide .before .before .before .before in
-    all-whole (at-start .pre .0) (omega (arith, at-wide .wide .ensures, c .before .offset .ensures))
+    all-whole (at-start .pre .0) (omega (arith, at-wide .wide .ensures, at-offset .offset .ensures))
 
 pub whole-blocks-spec : {M : Type 1} → statement M
 whole-blocks-spec =

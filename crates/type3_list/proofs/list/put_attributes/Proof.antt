@@ -10,16 +10,17 @@ use Rattle.type3_list.proofs.list.put_attributes.Tie as tie
 
 returns : tie.Need-returns
 returns c =
-    let at-block = c .before .before in
-    let at-block-list = at-block .before .before .before .before in
-    let at-arg = at-block-list .before .before in
-    let at-opening = at-arg .before .before .before in
-    let at-start = at-opening .before .before .before .before in
+    let at-put-attribute-block = c .before .before in
+    let at-put-block-list = at-put-attribute-block .before .before .before .before in
+    let at-out = at-put-block-list .before .before .before .before in
+    let at-put-opening = at-out .before in
+    let at-start = at-put-opening .before .before .before .before in
     let a = at-start .args in
-    let opened = at-opening .put-opening in
-    let listed = at-block-list .put-block-list in
+    let opened = at-put-opening .put-opening in
+    let listed = at-put-block-list .put-block-list in
     lay-command (a .idm) (0 ∷ []) (attributeBlock (a .image .now) (a .flag) (a .ln)) (a .out .now) (opened .last .1 .1 .0) (listed .last .1 .0) _ 1 (search needs) refl
-    (length-attribute-block (a .image .now) (a .flag) (a .ln)) (search needs) (opened .ensures) (listed .ensures) (at-block .put-attribute-block .ensures)
+    (length-attribute-block (a .image .now) (a .flag) (a .ln)) (search needs) (opened .ensures) (listed .ensures)
+    (at-put-attribute-block .put-attribute-block .ensures)
 
 pub put-attributes-spec : {M : Type 1} → statement M
 put-attributes-spec =

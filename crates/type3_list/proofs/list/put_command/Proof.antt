@@ -10,18 +10,18 @@ use Rattle.type3_list.proofs.list.put_command.Tie as tie
 
 returns : tie.Need-returns
 returns c =
-    let at-blocks = c .before .before in
-    let at-block-list = at-blocks .before .before .before .before in
-    let at-opening = at-block-list .before .before .before .before in
-    let at-known = at-opening .before .before in
-    let at-start = at-known .before .before .before in
+    let at-put-blocks = c .before .before in
+    let at-put-block-list = at-put-blocks .before .before .before .before in
+    let at-put-opening = at-put-block-list .before .before .before .before in
+    let at-put-opening-arg = at-put-opening .before in
+    let at-start = at-put-opening-arg .before .before .before .before in
     let a = at-start .args in
     let m = a .message .now in
     let bs = a .blocks .now in
-    let opened = at-opening .put-opening in
-    let listed = at-block-list .put-block-list in
+    let opened = at-put-opening .put-opening in
+    let listed = at-put-block-list .put-block-list in
     lay-command (a .idm) bs (blocksBytes m bs) (a .out .now) (opened .last .1 .1 .0) (listed .last .1 .0) _ (length bs)
-    (search needs) refl (length-blocks m bs) (search needs) (opened .ensures) (listed .ensures) (at-blocks .put-blocks .ensures)
+    (search needs) refl (length-blocks m bs) (search needs) (opened .ensures) (listed .ensures) (at-put-blocks .put-blocks .ensures)
 
 pub put-command-spec : {M : Type 1} → statement M
 put-command-spec =

@@ -45,7 +45,10 @@ loop-holds c =
     }
 
 -- in a turn there are blocks left
-left : (c : tie.In-loop Inv-loop μ-loop) → let at-loop = c .before in at-loop .loop .skip < length (at-loop .before .before .before .before .args .blocks .now)
+left : (c : tie.In-loop Inv-loop μ-loop) →
+    let at-loop = c .before in
+    let at-start = at-loop .before .before .before .before in
+    at-loop .loop .skip < length (at-start .args .blocks .now)
 left c = omega (arith, left-over (c .before .loop .t) (c .before .loop .inv .dealt) (c .loop-test .taken))
 
 abbrev in-loop : tie.After-slice-known2 Inv-loop μ-loop → tie.In-loop Inv-loop μ-loop
@@ -54,18 +57,20 @@ in-loop c = let at-put = c .before .before in at-put .before .before .before .be
 put-command-requires : tie.Need-put-command-requires Inv-loop μ-loop
 put-command-requires c κs =
     let at-smaller = c .before .before in
-    let at-loop = at-smaller .before .before in
+    let at-loop-test = at-smaller .before in
+    let at-loop = at-loop-test .before in
     let at-start = at-loop .before .before .before .before in
     let a = at-start .args in
     let l = at-loop .loop in
     let bs = a .blocks .now in
     let count = at-smaller .smaller .result in
-    let some = left (at-smaller .before) in
+    let some = left at-loop-test in
     let least : count ≡ min (a .w) (length bs - l .skip) = at-smaller .smaller .ensures in
     let many = length-part bs (l .skip) count (omega arith) in
     let wide : 0 < count = omega (arith, l .inv .dealt .some-width) in
     let narrow : count ≤ 8 = omega (arith, l .inv .dealt .most-width) in
-    let fits = place-fits (length bs) (a .w) (l .t) (a .turns) (l .at) count (l .inv .place) (least ∙ ap (λ s. min (a .w) (length bs - s)) (l .inv .skipped)) (at-smaller .before .loop-test .taken) in (
+    let fits = place-fits (length bs) (a .w) (l .t) (a .turns) (l .at) count (l .inv .place) (least ∙ ap (λ s. min (a .w) (length bs - s)) (l .inv .skipped))
+    (at-loop-test .loop-test .taken) in (
       part-chosen (l .skip + count - l .skip) (l .skip) (l .inv .chosen),
       rw many wide,
       rw many narrow,
@@ -80,9 +85,10 @@ loop-less c = less _ _ (in-loop c .loop-test .taken)
 
 loop-again : tie.Need-loop-again Inv-loop μ-loop
 loop-again c =
-    let at-put = c .before .before in
-    let at-smaller = at-put .before .before .before in
-    let at-loop = at-smaller .before .before in
+    let at-put-command = c .before .before in
+    let at-smaller = at-put-command .before .before .before in
+    let at-loop-test = at-smaller .before in
+    let at-loop = at-loop-test .before in
     let at-start = at-loop .before .before .before .before in
     let a = at-start .args in
     let l = at-loop .loop in
@@ -91,7 +97,7 @@ loop-again c =
     let bs = a .blocks .now in
     let w = a .w in
     let count = at-smaller .smaller .result in
-    let some = left (at-smaller .before) in
+    let some = left at-loop-test in
     let more = times-more w (l .t) in
     let laid-so-far = messageCommands n m w bs (l .t) in
     let part = take (l .skip + count - l .skip) (drop (l .skip) bs) in
@@ -102,9 +108,9 @@ loop-again c =
     let is : part ≡ take w (drop (w * l .t) bs)
     = ap (λ k. take k (drop (l .skip) bs)) width ∙ dealt-part bs w (l .skip) ∙ ap (λ s. take w (drop s bs)) (l .inv .skipped) in
     let long : length laid-so-far ≡ l .at = length-commands n m w bs (l .t) (search needs) ∙ sym (l .inv .place) in
-    let fits = place-fits (length bs) w (l .t) (a .turns) (l .at) count (l .inv .place) taken (at-smaller .before .loop-test .taken) in
+    let fits = place-fits (length bs) w (l .t) (a .turns) (l .at) count (l .inv .place) taken (at-loop-test .loop-test .taken) in
     let put = lay-part (l .out) laid-so-far (a .out .now) (l .at) (l .inv .laid) long (messageCommand n m part) _ (length (l .out)) (13 + 18 * length part) (omega (arith, many, fits, l .inv .room, l .inv .same)) (omega arith)
-    (at-put .put-command .ensures) in
+    (at-put-command .put-command .ensures) in
     record {
       chosen = l .inv .chosen;
       dealt = l .inv .dealt;
@@ -123,7 +129,8 @@ loop-again c =
 returns : tie.Need-returns Inv-loop μ-loop
 returns c =
     let at-loop = c .before in
-    let a = at-loop .before .before .before .before .args in
+    let at-start = at-loop .before .before .before .before in
+    let a = at-start .args in
     let l = at-loop .loop in
     let all : l .t ≡ a .turns = omega (arith, l .inv .turn) in
     let end : l .at ≡ 13 * a .turns + 18 * length (a .blocks .now) = rw all at (l .inv .place) ∙ omega (arith, l .inv .dealt .enough) in

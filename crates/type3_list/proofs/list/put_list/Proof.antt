@@ -17,11 +17,11 @@ idm-length c = search needs
 
 returns : tie.Need-returns
 returns c =
-    let at-opened = c .before .before in
-    let at-commands = at-opened .before .before .before .before in
-    let at-shut = at-commands .before .before .before .before in
-    let at-known = at-shut .before .before .before in
-    let at-start = at-known .before .before .before in
+    let at-put-attributes2 = c .before .before in
+    let at-put-commands = at-put-attributes2 .before .before .before .before in
+    let at-put-attributes = at-put-commands .before .before .before .before in
+    let at-slice-known = at-put-attributes .before .before in
+    let at-start = at-slice-known .before .before .before .before in
     let a = at-start .args in
     let i = a .image .now in
     let m = a .message .now in
@@ -30,7 +30,7 @@ returns c =
     let k = length bs in
     let eight = idm-length at-start in
     let last = 31 + 13 * a .turns + 18 * k in
-    let shut = at-shut .put-attributes in
+    let shut = at-put-attributes .put-attributes in
     let closed = attributeCommand n i 0x0F (a .ln) in
     let body = messageCommands n m (a .w) bs (a .turns) in
     let place : 31 + (13 * a .turns + 18 * k) ≡ last = omega arith in
@@ -39,11 +39,11 @@ returns c =
     let long : length (closed ++ body) ≡ last
     = omega (arith, length-append closed body, length-attribute-command n i 0x0F (a .ln) eight, length-commands n m (a .w) bs (a .turns) eight, most) in
     let two = lay-part (shut .last .1 .1 .1 .1 .0) closed (a .list .now) 31 (shut .ensures) (length-attribute-command n i 0x0F (a .ln) eight)
-    body _ (length (shut .last .1 .1 .1 .1 .0)) (13 * a .turns + 18 * k) (omega arith) (omega arith) (at-commands .put-commands .ensures) in
+    body _ (length (shut .last .1 .1 .1 .1 .0)) (13 * a .turns + 18 * k) (omega arith) (omega arith) (at-put-commands .put-commands .ensures) in
     let still = ap length two ∙ length-append (closed ++ body) (drop (31 + (13 * a .turns + 18 * k)) (a .list .now)) in
     lay-part _ (closed ++ body) (a .list .now) last (rw place at two) long (attributeCommand n i 0x00 (length m)) _ _ 31
     (omega (arith, still, long, length-drop (31 + (13 * a .turns + 18 * k)) (a .list .now), at-start .pre .fits)) (omega arith)
-    (at-opened .put-attributes2 .ensures)
+    (at-put-attributes2 .put-attributes2 .ensures)
     ∙ rw all
 
 pub put-list-spec : {M : Type 1} → statement M

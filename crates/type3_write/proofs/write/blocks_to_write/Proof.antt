@@ -24,7 +24,6 @@ loop-holds c = (search needs, refl, refl)
 loop-again : tie.Need-loop-again Inv-loop μ-loop
 loop-again c =
     let at-loop = c .before in
-    let at-start = at-loop .before in
     let l = at-loop .loop in
     let next : l .j + 1 ≡ 1 + l .j = omega arith in (
       omega arith,

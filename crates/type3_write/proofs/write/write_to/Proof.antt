@@ -44,17 +44,20 @@ bounds c = let a = start (c .before) .args in planned-bounds (a .idm) (a .image 
 
 blocks-to-write-requires : tie.Need-blocks-to-write-requires
 blocks-to-write-requires c κs =
-    let at-for = c .before .before in
-    (omega (arith, bounds (at-for .before) .0, at-for .blocks-for .ensures), omega (arith, bounds (at-for .before) .0, at-for .blocks-for .ensures))
+    let at-blocks-for = c .before .before in
+    let at-if1 = at-blocks-for .before in
+    (omega (arith, bounds at-if1 .0, at-blocks-for .blocks-for .ensures), omega (arith, bounds at-if1 .0, at-blocks-for .blocks-for .ensures))
 
 turns-for-requires : tie.Need-turns-for-requires
 turns-for-requires c κs =
-    let at-blocks = c .before in
-    let at-smaller = at-blocks .before .before in
-    let at-for = at-smaller .before in
-    let at-start = start (at-for .before .before) in
-    let few = bounds (at-for .before) in (
-      omega (arith, few .0, at-for .blocks-for .ensures, at-blocks .blocks-to-write .ensures .0),
+    let at-blocks-to-write = c .before in
+    let at-smaller = at-blocks-to-write .before .before in
+    let at-blocks-for = at-smaller .before in
+    let at-if1 = at-blocks-for .before in
+    let at-refusal = at-if1 .before in
+    let at-start = start at-refusal in
+    let few = bounds at-if1 in (
+      omega (arith, few .0, at-blocks-for .blocks-for .ensures, at-blocks-to-write .blocks-to-write .ensures .0),
       omega (arith, few .1, at-smaller .smaller .ensures, at-start .pre .known .says .nbw-is),
       omega (arith, at-smaller .smaller .ensures),
     )
@@ -101,35 +104,38 @@ list-planned c =
 
 returns-2 : tie.Need-returns-2
 returns-2 c =
-    let at-turns = c .before in
-    let a = at-start at-turns .args in
-    let e = write-short (a .idm) (a .image .now) (a .message .now) (length (a .list .now)) (at-smaller at-turns .smaller .result) (at-turns .turns-for .result)
-    (list-planned at-turns) (omega (arith, many at-turns)) in
+    let at-turns-for = c .before in
+    let a = at-start at-turns-for .args in
+    let e = write-short (a .idm) (a .image .now) (a .message .now) (length (a .list .now)) (at-smaller at-turns-for .smaller .result)
+    (at-turns-for .turns-for .result)
+    (list-planned at-turns-for) (omega (arith, many at-turns-for)) in
     (sym (ap countOf e), sym (ap (outputInto (a .list .now)) e))
 
 put-list-requires : tie.Need-put-list-requires
 put-list-requires c κs =
-    let at-turns = c .before .before .before in
-    let m = at-start at-turns .args .message .now in
+    let at-turns-for = c .before .before .before in
+    let m = at-start at-turns-for .args .message .now in
     record {
       block = search needs;
       small = search needs;
-      chosen = subst (Chosen m) (sym (which at-turns)) (all-chosen m (list-planned at-turns .few));
-      dealt = subst (λ k. Dealt k (at-smaller at-turns .smaller .result) (at-turns .turns-for .result)) (sym (length-which at-turns)) (at-turns .turns-for .ensures .1);
-      fits = rw (length-which at-turns) (search needs);
+      chosen = subst (Chosen m) (sym (which at-turns-for)) (all-chosen m (list-planned at-turns-for .few));
+      dealt = subst (λ k. Dealt k (at-smaller at-turns-for .smaller .result) (at-turns-for .turns-for .result)) (sym (length-which at-turns-for))
+          (at-turns-for .turns-for .ensures .1);
+      fits = rw (length-which at-turns-for) (search needs);
     }
 
 returns-3 : tie.Need-returns-3
 returns-3 c =
-    let at-put = c .before .before in
-    let at-turns = at-put .before .before .before .before in
-    let at-open = at-start at-turns in
+    let at-put-list = c .before .before in
+    let at-turns-for = at-put-list .before .before .before .before in
+    let at-open = at-start at-turns-for in
     let a = at-open .args in
-    let w = at-smaller at-turns .smaller .result in
-    let t = at-turns .turns-for .result in
-    let g = list-planned at-turns in (
-      sym (ap countOf (write-list (a .idm) (a .image .now) (a .message .now) (length (a .list .now)) w t g (omega (arith, many at-turns)))),
-      write-laid (a .idm) (a .image .now) (a .message .now) (a .list .now) _ _ (a .a .ln) w t g (at-open .pre .known .says .ln-is) (which at-turns) (omega (arith, many at-turns)) (at-put .put-list .ensures),
+    let w = at-smaller at-turns-for .smaller .result in
+    let t = at-turns-for .turns-for .result in
+    let g = list-planned at-turns-for in (
+      sym (ap countOf (write-list (a .idm) (a .image .now) (a .message .now) (length (a .list .now)) w t g (omega (arith, many at-turns-for)))),
+      write-laid (a .idm) (a .image .now) (a .message .now) (a .list .now) _ _ (a .a .ln) w t g (at-open .pre .known .says .ln-is) (which at-turns-for)
+          (omega (arith, many at-turns-for)) (at-put-list .put-list .ensures),
     )
 
 pub write-to-spec : {M : Type 1} → statement M

@@ -8,7 +8,8 @@ use Rattle.zanfirotta.proofs.type2_calls.zan_type2_decode.Tie as tie
 returns : tie.Need-returns
 returns c =
     let at-if1 = c .before in
-    let decoded = at-if1 .before .decode in
+    let at-decode = at-if1 .before in
+    let decoded = at-decode .decode in
     rw (← decoded .ensures .0, ne-eqb (decoded .result .refusal) 0 (at-if1 .if1 .taken)) (c .refusal .ensures, (refl, refl))
 
 returns-2 : tie.Need-returns-2

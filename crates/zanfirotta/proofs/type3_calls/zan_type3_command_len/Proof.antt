@@ -13,16 +13,20 @@ use Rattle.zanfirotta.proofs.type3_calls.zan_type3_command_len.Tie as t
 
 returns : tie.Need-returns
 returns c =
-    let at-span = c .before .before in
-    let list = at-span .before .before .args .list .now in
-    let short : leb (span list) (length list) ≡ false = lt-leb (span list) (length list) (omega (arith, at-span .span .ensures .0, c .before .if1 .taken)) in
+    let at-if1 = c .before in
+    let at-span = at-if1 .before in
+    let at-start = at-span .before .before in
+    let list = at-start .args .list .now in
+    let short : leb (span list) (length list) ≡ false = lt-leb (span list) (length list) (omega (arith, at-span .span .ensures .0, at-if1 .if1 .taken)) in
     c .refusal .ensures ∙ rw short
 
 returns-2 : tie.Need-returns-2
 returns-2 c =
-    let at-span = c .before .before in
-    let list = at-span .before .before .args .list .now in
-    let whole : leb (span list) (length list) ≡ true = le-leb (span list) (length list) (omega (arith, at-span .span .ensures .0, c .before .if1 .left)) in
+    let at-if1 = c .before in
+    let at-span = at-if1 .before in
+    let at-start = at-span .before .before in
+    let list = at-start .args .list .now in
+    let whole : leb (span list) (length list) ≡ true = le-leb (span list) (length list) (omega (arith, at-span .span .ensures .0, at-if1 .if1 .left)) in
     c .count .ensures ∙ ap above (at-span .span .ensures .0) ∙ rw whole
 
 pub zan-type3-command-len-spec : {M : Type 1} → statement M

@@ -9,22 +9,27 @@ use Rattle.zanfirotta.proofs.type3_calls.zan_type3_decode.Tie as tie
 returns : tie.Need-returns
 returns c =
     let at-if1 = c .before in
-    let decoded = at-if1 .before .decode in
+    let at-decode = at-if1 .before in
+    let decoded = at-decode .decode in
     rw (← decoded .ensures .0, ne-eqb (decoded .result .refusal) 0 (at-if1 .if1 .taken)) (c .refusal .ensures, (refl, (refl, refl)))
 
 deliver-requires : tie.Need-deliver-requires
 deliver-requires c κs =
     let at-if1 = c .before .before .before .before in
-    let a = at-if1 .before .before .before .args in
-    let d = at-if1 .before .decode in
+    let at-decode = at-if1 .before in
+    let at-start = at-decode .before .before in
+    let a = at-start .args in
+    let d = at-decode .decode in
     used-blocks (a .idm .now) (a .nbw) (a .nmaxb) (a .bytes .now) (d .result) (d .ensures) (at-if1 .if1 .left) .0
 
 returns-2 : tie.Need-returns-2
 returns-2 c =
     let at-command = c .before .before .before .before in
     let at-if1 = at-command .before in
-    let a = at-if1 .before .before .before .args in
-    let d = at-if1 .before .decode in
+    let at-decode = at-if1 .before in
+    let at-start = at-decode .before .before in
+    let a = at-start .args in
+    let d = at-decode .decode in
     let used = used-blocks (a .idm .now) (a .nbw) (a .nmaxb) (a .bytes .now) (d .result) (d .ensures) (at-if1 .if1 .left) in
     rw (← d .ensures .0, eq-eqb (d .result .refusal) 0 (at-if1 .if1 .left)) (refl, (c .deliver .ensures .0 ∙ sym (used .1), (c .deliver .ensures .1 .0, c .deliver .ensures .1 .1)))
 

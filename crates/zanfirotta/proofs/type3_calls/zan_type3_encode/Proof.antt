@@ -14,10 +14,11 @@ use Rattle.zanfirotta.proofs.type3_calls.zan_type3_encode.Tie as tie
 returns : tie.Need-returns
 returns c =
     let at-encode = c .before .before .before in
-    let at-blocks = at-encode .before .before .before in
-    let a = at-blocks .before .before .before .args in
+    let at-blocks-from = at-encode .before .before .before in
+    let at-start = at-blocks-from .before .before .before in
+    let a = at-start .args in
     let r = at-encode .encode .ensures in
-    let numbers = ap blockNumbers (at-blocks .blocks-from .ensures) ∙ numbers-back (a .blocks .now) in
+    let numbers = ap blockNumbers (at-blocks-from .blocks-from .ensures) ∙ numbers-back (a .blocks .now) in
     let e = ap (λ bs. encode (a .idm .now) (a .nbw) (a .nmaxb) (a .count) bs (a .blockdata .now) (length (a .bytes .now))) numbers in
     (c .count .ensures ∙ ap packedCount (r .0 ∙ ap countOf e), r .1 ∙ ap (outputInto (a .bytes .now)) e)
 

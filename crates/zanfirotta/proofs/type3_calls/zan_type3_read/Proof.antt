@@ -8,7 +8,8 @@ use Rattle.zanfirotta.proofs.type3_calls.zan_type3_read.Tie as tie
 returns : tie.Need-returns
 returns c =
     let at-read = c .before .before in
-    let five = at-read .before .before .args .out .now in
+    let at-start = at-read .before .before in
+    let five = at-start .args .out .now in
     let read = at-read .read .ensures in
     (c .reading .ensures .0 ∙ ap packedRead (read .0), read .1, c .reading .ensures .1 ∙ ap (reportInto five) (read .0))
 

@@ -20,10 +20,8 @@ unfolding areaBy
 returns-2 c =
     let at-allowed = c .before in
     let at-area-of = at-allowed .before in
-    let at-if1 = at-area-of .before in
-    let at-is-reserved = at-if1 .before in
-    let at-last = at-is-reserved .before .before in
-    let at-take-byte = at-last .before .before in
+    let at-is-reserved = at-area-of .before .before in
+    let at-take-byte = at-is-reserved .before .before .before .before in
     let at-start = at-take-byte .before .before .before .before in
     let d = at-start .args in
     let e = at-allowed .allowed .ensures ∙ ap (ruleOf (d .image .now) (d .first)) (at-area-of .area-of .ensures .0) in

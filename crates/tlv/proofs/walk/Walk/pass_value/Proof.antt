@@ -12,16 +12,22 @@ returns c = (passed-none (ahead (c .before .before .args .table .now) (c .before
 returns-2 : tie.Need-returns-2
 returns-2 c =
     let at-nth = c .before .before in
-    let s = at-nth .before .before .before .before in
-    let z = at-nth .nth in
-    (passed-short (s .args .table .now) (s .args .self) (s .args .n) (z .result .0) (s .pre) (omega arith) (z .ensures .0) (c .if2 .taken), tt)
+    let at-start = at-nth .before .before .before .before in
+    let z = at-nth .nth in (
+      passed-short (at-start .args .table .now) (at-start .args .self) (at-start .args .n) (z .result .0) (at-start .pre) (omega arith) (z .ensures .0)
+          (c .if2 .taken),
+      tt,
+    )
 
 returns-3 : tie.Need-returns-3
 returns-3 c =
     let at-nth = c .before .before in
-    let s = at-nth .before .before .before .before in
-    let z = at-nth .nth in
-    (passed-past (s .args .table .now) (s .args .self) (s .args .n) (z .result .0) (s .pre) (omega arith) (z .ensures .0) (c .if2 .left), search needs)
+    let at-start = at-nth .before .before .before .before in
+    let z = at-nth .nth in (
+      passed-past (at-start .args .table .now) (at-start .args .self) (at-start .args .n) (z .result .0) (at-start .pre) (omega arith) (z .ensures .0)
+          (c .if2 .left),
+      search needs,
+    )
 
 pub pass-value-spec : {M : Type 1} → statement M
 pass-value-spec =

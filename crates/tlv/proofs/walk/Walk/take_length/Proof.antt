@@ -18,8 +18,10 @@ take-long-requires c κs = took-placed (c .before .before .before .before .take-
 returns-3 : tie.Need-returns-3
 unfolding lengthBy
 returns-3 c =
+    let at-b = c .before .before .before in
+    let at-take-byte = at-b .before .before in
     let r = c .take-long in
-    let p = took-placed (c .before .before .before .before .before .take-byte .ensures .1) (c .before .before .before .b .given .1) in
+    let p = took-placed (at-take-byte .take-byte .ensures .1) (at-b .b .given .1) in
     (search (cases, on-took) depth 20, field-onward (r .result) (p .0) (r .ensures .1))
 
 pub take-length-spec : {M : Type 1} → statement M

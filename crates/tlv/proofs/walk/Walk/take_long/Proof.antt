@@ -17,13 +17,16 @@ returns-2 : tie.Need-returns-2
 unfolding longBy
 returns-2 c = (search (cases, on-took) depth 20, tt)
 
+-- few points are named: `search` and `omega` read at most 128 records in reach, and with more the proof is not found
 returns-5 : tie.Need-returns-5
 unfolding longBy
 returns-5 c =
-    let l = c .before .before .before .before .before .take-byte2 in
-    let h = c .before .before .before .before .before .before .before .before .before .take-byte in
-    let p = took-placed (h .ensures .1) (c .before .before .before .before .before .before .before .high .given .1) in
-    let q = took-placed (l .ensures .1) (c .before .before .before .low .given .1) in
+    let at-if1 = c .before in
+    let at-take-byte2 = at-if1 .before .before .before .before in
+    let l = at-take-byte2 .take-byte2 in
+    let h = at-take-byte2 .before .before .before .before .take-byte in
+    let p = took-placed (h .ensures .1) (at-take-byte2 .before .before .high .given .1) in
+    let q = took-placed (l .ensures .1) (at-if1 .before .before .low .given .1) in
     (search (cases, on-took) depth 20, (onward (p .0) (q .0), search needs))
 
 pub take-long-spec : {M : Type 1} → statement M
