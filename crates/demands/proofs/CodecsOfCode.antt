@@ -54,9 +54,9 @@ module _ (blocks : ℕ) where
 
   pub there-2 : (c : command2.Command) → length (c .bytes) ≡ 4 → (buffer out : List ℕ) (n : ℕ) → views2.EncodedTo blocks c buffer (counted.Count n) out
       → (d : decoded2.Decoded) → views2.DecodedTo blocks (take n out) d → (d .refusal ≡ 0) × (d .command ≡ c)
-  there-2 c four buffer out n encoded d (e, k) =
+  there-2 c long buffer out n encoded d (e, k) =
       let (all, o, b) = put-counted (two.encode blocks (c .block .0) (c .bytes)) buffer out n encoded in
-      let (was, long) = codec-2 .decode-encode blocks (c .block .0) (c .bytes) (length buffer) n all four o in
+      let (was, long) = codec-2 .decode-encode blocks (c .block .0) (c .bytes) (length buffer) n all long o in
       let read : two.decode blocks (take n out) ≡ two.decoded (c .block .0) (c .bytes) = ap (two.decode blocks) (front n all buffer out b long) ∙ was in
       (none-2 d (c .block .0) (c .bytes) (e ∙ read), k ∙ ap views2.commandAs read)
 

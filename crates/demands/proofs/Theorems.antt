@@ -12,7 +12,7 @@ use Rattle.tag.proofs.Blocks.{block-of}
 use Rattle.tag.proofs.Counts.{length-single}
 use Rattle.tag.proofs.Writes.{touch-of}
 use Rattle.tag.proofs.Laws.{ready-written}
-use Rattle.tlv_tag.specs.Message.{viewed}
+use Rattle.tlv_tag.specs.Message.{locate}
 use Rattle.tlv_tag.specs.Update.{usable, tlvBytes, lengthAt}
 use Rattle.tlv_tag.proofs.Field.{first-set}
 use Rattle.tlv_tag.proofs.Writes as writes
@@ -52,7 +52,7 @@ type2-codec = codec-2
 
 pub type2-count : Count2
 type2-count i m r =
-    let us = usable (viewed memory i) in
+    let us = usable (locate memory i) in
     let some = writes.some memory memory-laws command span encoded i m r in
     length-single ((type2 .plan) i m) i refl (type2-laws .sound i m r .blockwise .inside)
     (touch-of 4 us (tlvBytes m) (lengthAt us) (lengthAt us / 4) (first-set us m some) (block-of 4 (lengthAt us) (omega arith)))

@@ -20,7 +20,7 @@ use Rattle.tag.proofs.Logic.{nope, or-l, or-cases}
 use Rattle.tag.proofs.Addresses.{above-length}
 use Rattle.tag.proofs.Laws.{ready-written, ready-reads}
 use Rattle.tlv.specs.Walk.{found, messageTlv}
-use Rattle.tlv_tag.specs.Message.{viewed}
+use Rattle.tlv_tag.specs.Message.{locate}
 use Rattle.tlv_tag.specs.Update.{usable, fitsIn, lengthField, tlvBytes}
 use Rattle.tlv_tag.proofs.Field.{fits-is}
 use Rattle.tlv_tag.proofs.Tag as tlv
@@ -28,7 +28,7 @@ use Rattle.tlv_tag.proofs.Writes.{placed}
 use Rattle.type2.specs.Memory.{layout, memory}
 use Rattle.type2.specs.Type2.{type2}
 use Rattle.type2.proofs.Memory.{memory-laws}
-use Rattle.type3.specs.Attributes.{steadySum, nmaxbOf}
+use Rattle.type3.specs.AttributeInformation.{steadySum, nmaxbOf}
 use Rattle.type3.specs.Update.{fits, blocksFor, addresses, lnSum, values, plan}
 use Rattle.type3.specs.Type3.{type3}
 use Rattle.type3.proofs.Message.{Agrees, bounds, reads-passes}
@@ -86,24 +86,24 @@ tlv-bytes-octets m l h = go (leb (length m) 254) refl
     go false q = rw (q, lengthField) (omega arith, (omega arith, (omega arith, octets-append m (0xFE ∷ []) h (omega arith, tt))))
 
 module _ (i m : List ℕ) (a : Asked type2 i m) (t : ℕ) (us : List ℕ) (e : messageTlv layout i ≡ found t us) (end : ℕ) where
-  at-tlv : tlv.Placed memory i (usable (viewed memory i))
+  at-tlv : tlv.TlvPlaced memory i (usable (locate memory i))
   at-tlv = placed memory i (a .report) (a .reads-as) .0
 
-  same-us : usable (viewed memory i) ≡ us
-  same-us = let z : found (at-tlv .at) (usable (viewed memory i)) ≡ found t us = sym (at-tlv .tlv-at) ∙ e in cc
+  same-us : usable (locate memory i) ≡ us
+  same-us = let z : found (at-tlv .at) (usable (locate memory i)) ≡ found t us = sym (at-tlv .tlv-at) ∙ e in cc
 
-  place : tlv.Placed memory i us
+  place : tlv.TlvPlaced memory i us
   place = record { at = t; sound = at-tlv .sound; tlv-at = e }
 
-  room : (b : Bool) → fitsIn (length m) (length (usable (viewed memory i))) ≡ b → fitsIn (length m) (length us) ≡ b
+  room : (b : Bool) → fitsIn (length m) (length (usable (locate memory i))) ≡ b → fitsIn (length m) (length us) ≡ b
   room b f = ap (λ vs. fitsIn (length m) (length vs)) (sym same-us) ∙ f
 
-  no-room : fitsIn (length m) (length (usable (viewed memory i))) ≡ false → (j : List ℕ) → Octets j → Alike2 end t us i j → held type2 j ≡ holds m → ⊥
+  no-room : fitsIn (length m) (length (usable (locate memory i))) ≡ false → (j : List ℕ) → Octets j → Alike2 end t us i j → held type2 j ≡ holds m → ⊥
   unfolding place
   no-room f j o k h = tlv.too-long memory memory-laws i us place j (k .same-length) (k .same-start) m (room false f) h
 
-  module _ (f : fitsIn (length m) (length (usable (viewed memory i))) ≡ true) where
-    ready : tlv.Ready memory i m us
+  module _ (f : fitsIn (length m) (length (usable (locate memory i))) ≡ true) where
+    ready : tlv.TlvReady memory i m us
     ready = record { placed = place; some-bytes = a .some-bytes; room = room true f }
 
     new : List ℕ
@@ -139,19 +139,19 @@ too-long-2 i m a t us e end =
 pub alike-2 : (i m : List ℕ) → Asked type2 i m → (end : ℕ) → (writing type2 i m ≡ refused-write message-too-long) ↔ ((j : List ℕ) → Octets j → alike2 end i j → held type2 j ≡ holds m → ⊥)
 alike-2 i m a end =
     let p = placed memory i (a .report) (a .reads-as) .0 in
-    let us = usable (viewed memory i) in
+    let us = usable (locate memory i) in
     let e = too-long-2 i m a (p .at) us (p .tlv-at) end in (
       (λ w j o k h. e .0 w j o (k (p .at) us (p .tlv-at)) h),
       (λ none. e .1 (λ j o k h. none j o (λ t vs q. same-tlv t vs q k) h)),
     )
   where
     same-tlv : {j : List ℕ} (t : ℕ) (vs : List ℕ) → messageTlv layout i ≡ found t vs
-        → Alike2 end (placed memory i (a .report) (a .reads-as) .0 .at) (usable (viewed memory i)) i j → Alike2 end t vs i j
+        → Alike2 end (placed memory i (a .report) (a .reads-as) .0 .at) (usable (locate memory i)) i j → Alike2 end t vs i j
     same-tlv t vs q k =
         let p = placed memory i (a .report) (a .reads-as) .0 in
-        let z : found (p .at) (usable (viewed memory i)) ≡ found t vs = sym (p .tlv-at) ∙ q in
+        let z : found (p .at) (usable (locate memory i)) ≡ found t vs = sym (p .tlv-at) ∙ q in
         let at-t : p .at ≡ t = cc in
-        let us-vs : usable (viewed memory i) ≡ vs = cc in
+        let us-vs : usable (locate memory i) ≡ vs = cc in
         rw (at-t, us-vs) at k
 
 -- ---- Type 3

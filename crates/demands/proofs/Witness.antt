@@ -15,7 +15,7 @@ use Rattle.tag.specs.Cuts.{Ready}
 use Rattle.tag.proofs.Logic.{and-l, and-r}
 use Rattle.tlv.specs.Areas.{without}
 use Rattle.tlv.specs.Walk.{longBy, lengthBy, passValue, areaBy, controlBy, found, find, messageTlv}
-use Rattle.tlv_tag.specs.Message.{viewBy, viewed, reading}
+use Rattle.tlv_tag.specs.Message.{locateBy, locate, reading}
 use Rattle.tlv_tag.specs.Update.{fitsIn}
 use Rattle.type2.specs.Memory.{layout}
 use Rattle.type2.specs.Type2.{type2}
@@ -26,7 +26,7 @@ use Rattle.demands.specs.Specimens.{small, tag3}
 
 -- an empty tag of 64 bytes, and a message of three
 pub ready-2 : Ready type2 (small (0x03 ∷ 0x00 ∷ 0xFE ∷ [])) (0xD0 ∷ 0x00 ∷ 0x00 ∷ [])
-unfolding without longBy lengthBy passValue areaBy controlBy find viewBy viewed reading fitsIn
+unfolding without longBy lengthBy passValue areaBy controlBy find locateBy locate reading fitsIn
 ready-2 = record {
   report = record { content = empty; bytes = []; address = 0; interrupted = false; writable = true };
   reads-as = refl;
@@ -37,7 +37,7 @@ ready-2 = record {
 
 -- the Type 3 specimen of 35 bytes, and a message of the same three
 pub ready-3 : Ready (type3 (replicate 8 0x00)) (tag3 0x00 0x46) (0xD0 ∷ 0x00 ∷ 0x00 ∷ [])
-unfolding message3.viewBy message3.reading
+unfolding message3.announceBy message3.reading
 ready-3 = record {
   report = record { content = message; bytes = replicate 35 0x00; address = 16; interrupted = false; writable = true };
   reads-as = refl;

@@ -14,7 +14,7 @@ use Rattle.tag.specs.TagType.{TagType, held, Output, refused-output, output, wr
 use Rattle.tag.specs.Judge.{Verdict, accepted, refused, holdsAs, fault, judge, judged}
 use Rattle.tlv.specs.Areas.{allowedArea, without}
 use Rattle.tlv.specs.Walk.{longBy, lengthBy, passValue, areaBy, controlBy, find}
-use Rattle.tlv_tag.specs.Message.{viewBy, viewed, reading}
+use Rattle.tlv_tag.specs.Message.{locateBy, locate, reading}
 use Rattle.tlv_tag.specs.Update.{fitsIn, lengthField}
 use Rattle.type2.specs.Codec.{decode}
 use Rattle.type2.specs.Type2.{type2}
@@ -127,7 +127,7 @@ row3 i q e = record { kind = type3 (replicate 8 0x00); image = i; question = q; 
 
 -- is every answer the one expected
 pub holds : List Row → Bool
-unfolding picks writing splitList fault judge allowedArea without longBy lengthBy passValue areaBy controlBy find viewBy viewed reading fitsIn lengthField decode message3.viewBy message3.reading codec3.blockListOf codec3.decodeBy codec3.decode
+unfolding picks writing splitList fault judge allowedArea without longBy lengthBy passValue areaBy controlBy find locateBy locate reading fitsIn lengthField decode message3.announceBy message3.reading codec3.blockListOf codec3.decodeBy codec3.decode
 holds [] = true
 holds (r ∷ rs) = same (numbers (outcome (r .kind) (r .image) (r .question))) (numbers (r .expected)) && holds rs
 

@@ -9,13 +9,13 @@ use Rattle.tag.specs.TagType.{written, writing}
 use Rattle.tag.proofs.Laws.{written-ready}
 use Rattle.tlv_tag.specs.Update.{planBy}
 use Rattle.tlv_tag.specs.Views.Space.{space, spaceOf}
-use Rattle.tlv_tag.specs.Views.Reading.{areaView}
+use Rattle.tlv_tag.specs.Views.Reading.{areaLocated}
 use Rattle.type2.specs.Type2.{type2}
 use Rattle.type2.specs.Views.Container.{Inside}
 use Rattle.type2.proofs.Deciding.{space-writing}
 use Rattle.judge.specs.Views.Type2.{Planned}
 
-module _ (i m : List ℕ) (end : ℕ) (w : Bool) (h : Inside i end w) (us : List ℕ) (e : space us ≡ spaceOf w (length m) (areaView i 16 end)) where
+module _ (i m : List ℕ) (end : ℕ) (w : Bool) (h : Inside i end w) (us : List ℕ) (e : space us ≡ spaceOf w (length m) (areaLocated i 16 end)) where
   planned : writing type2 i m ≡ written (planBy 4 us i m)
   planned = space-writing i m end w h us e
 

@@ -22,12 +22,12 @@ fn step(
     message: &[u8],
     table: &[u16],
     old: &[u8],
-    had: bool,
+    present: bool,
     command: &[u8],
     work: &mut [u8],
     gathered: &mut [u8],
 ) -> u8
-    requires { ⌜ Judging kind (now idm) (now image) (now message) (now table) (now old) had × (length (now work) ≡ length (now image)) × (length (now gathered) ≡ 1024) ⌝ }
+    requires { ⌜ Judging kind (now idm) (now image) (now message) (now table) (now old) present × (length (now work) ≡ length (now image)) × (length (now gathered) ≡ 1024) ⌝ }
     ensures { λ r. ⌜ Tested (typeOf kind (now (idm .entry))) (now (image .entry)) (now (message .entry)) (now (work .entry)) (now (command .entry)) r (now (work .exit)) ⌝ }
 {
     if !commands::take_command(kind, idm, image, command, work) {
@@ -36,7 +36,7 @@ fn step(
     if !kept::is_kept(kind, idm, image, message, table, work) {
         return refusals::PROTECTED_BYTE;
     }
-    if !reading::is_safe(kind, idm, work, message, old, had, gathered) {
+    if !reading::is_safe(kind, idm, work, message, old, present, gathered) {
         return refusals::MISREAD;
     }
     refusals::NONE
@@ -50,12 +50,12 @@ fn judge_list(
     message: &[u8],
     table: &[u16],
     old: &[u8],
-    had: bool,
+    present: bool,
     list: &[u8],
     work: &mut [u8],
     gathered: &mut [u8],
 ) -> JudgeAnswer
-    requires { ⌜ Judging kind (now idm) (now image) (now message) (now table) (now old) had × (now work ≡ now image) × (length (now gathered) ≡ 1024) ⌝ }
+    requires { ⌜ Judging kind (now idm) (now image) (now message) (now table) (now old) present × (now work ≡ now image) × (length (now gathered) ≡ 1024) ⌝ }
     ensures { λ r. ⌜ ListJudged (typeOf kind (now (idm .entry))) (now (image .entry)) (now (message .entry)) (now (list .entry)) r ⌝ }
 {
     let mut at = 0usize;
@@ -69,7 +69,7 @@ fn judge_list(
             message,
             table,
             old,
-            had,
+            present,
             &list[at..next],
             work,
             gathered,
@@ -104,7 +104,7 @@ fn judge_on(
     slices::store(image, 0, work);
     let answer = reading::read(kind, idm, image, first);
     let old = slices::shown(image, first, answer);
-    let had = holding::is_message(answer);
+    let present = holding::is_message(answer);
     judge_list(
         kind,
         idm,
@@ -112,7 +112,7 @@ fn judge_on(
         message,
         table,
         old,
-        had,
+        present,
         list,
         work,
         gathered,

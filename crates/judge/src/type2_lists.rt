@@ -18,7 +18,7 @@ ghost use Rattle.tlv.specs.Views.Walks.{ahead};
 ghost use Rattle.tlv_tag.specs.Views.Space.{Room};
 ghost use Rattle.type2.specs.Type2.{type2};
 ghost use Rattle.type2.specs.Views.Container.{Inside};
-ghost use Rattle.type2.specs.Views.Table.{Clear};
+ghost use Rattle.tag.specs.Views.Blank.{Blank};
 ghost use Rattle.judge.specs.Views.Type2.{Planned};
 
 // With the space for the message found.
@@ -40,7 +40,7 @@ fn judge_area(
     writable: bool,
     table: &mut [u16],
 ) -> JudgeAnswer
-    requires { ⌜ Clear (now table) × Inside (now image) (end .0) writable ⌝ }
+    requires { ⌜ Blank 1024 (now table) × Inside (now image) (end .0) writable ⌝ }
     ensures { λ r. ⌜ Judged type2 (now (image .entry)) (now (message .entry)) (now (list .entry)) r ⌝ }
 {
     match space::find_space(
@@ -58,7 +58,7 @@ fn judge_area(
 
 // With the skip table.
 fn judge_with(image: &[u8], message: &[u8], list: &[u8], table: &mut [u16]) -> JudgeAnswer
-    requires { ⌜ Clear (now table) ⌝ }
+    requires { ⌜ Blank 1024 (now table) ⌝ }
     ensures { λ r. ⌜ Judged type2 (now (image .entry)) (now (message .entry)) (now (list .entry)) r ⌝ }
 {
     match container::data_area(image) {

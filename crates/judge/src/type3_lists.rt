@@ -5,12 +5,12 @@ use kinds::Kind;
 use tag::JudgeAnswer;
 use tag::refusals;
 use type3::read;
-use type3::read::Attributes;
+use type3::read::AttributeInformation;
 use type3::read::Checked;
 use type3::space;
 ghost use Rattle.tag.specs.Contracts.{Judged};
 ghost use Rattle.type3.specs.Type3.{type3};
-ghost use Rattle.type3.specs.Views.Attributes.{Readable};
+ghost use Rattle.type3.specs.Views.AttributeInformation.{Readable};
 
 // Refusals 9 to 11 of a tag that reads, then the list.
 fn judge_readable(
@@ -18,7 +18,7 @@ fn judge_readable(
     image: &[u8],
     message: &[u8],
     idm: &[u8; 8],
-    a: Attributes,
+    a: AttributeInformation,
 ) -> JudgeAnswer
     requires { ⌜ Readable (now image) a ⌝ }
     ensures { λ r. ⌜ Judged (type3 (now (idm .entry))) (now (image .entry)) (now (message .entry)) (now (list .entry)) r ⌝ }
@@ -38,7 +38,7 @@ fn judge_readable(
 pub fn judge(image: &[u8], message: &[u8], idm: &[u8; 8], list: &[u8]) -> JudgeAnswer
     ensures { λ r. ⌜ Judged (type3 (now (idm .entry))) (now (image .entry)) (now (message .entry)) (now (list .entry)) r ⌝ }
 {
-    let checked = read::attributes_of(image);
+    let checked = read::attribute_information(image);
     match checked {
         Checked::Refused(n) => JudgeAnswer::Refused(n, 0),
         Checked::Fine(a) => judge_readable(list, image, message, idm, a),

@@ -32,15 +32,15 @@ pub fn is_safe(
     image: &[u8],
     new: &[u8],
     old: &[u8],
-    had: bool,
+    present: bool,
     gathered: &mut [u8],
 ) -> bool
     requires { ⌜ length (now gathered) ≡ 1024 ⌝ }
-    ensures { λ r. ⌜ r ≡ readsAs (now (new .entry)) (oldHeld had (now (old .entry))) (held (typeOf kind (now (idm .entry))) (now (image .entry))) ⌝ }
+    ensures { λ r. ⌜ r ≡ readsAs (now (new .entry)) (oldHeld present (now (old .entry))) (held (typeOf kind (now (idm .entry))) (now (image .entry))) ⌝ }
 {
     let answer = read(kind, idm, image, gathered);
     let shown = slices::shown(image, gathered, answer);
-    holding::is_safe(answer, shown, new, old, had)
+    holding::is_safe(answer, shown, new, old, present)
 }
 
 // Does the tag hold just this message?

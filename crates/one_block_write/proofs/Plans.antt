@@ -19,15 +19,15 @@ use Rattle.one_block_write.specs.Views.Listing.{commandBytes, blockBytes
 use Rattle.one_block_write.proofs.Laying.{block-one}
 
 module _ (T : TagType) (front : List ℕ) (p : Plan) (i new marks shut : List ℕ)
-    (each : (s : Store) → (T .encoded) (s ∷ []) ≡ storeBytes front (p .size) s)
-    (pos : 0 < p .size)
+    (each : (s : Store) → (T .encoded) (s ∷ []) ≡ storeBytes front (p .block-size) s)
+    (pos : 0 < p .block-size)
     (one : p .width ≡ 1)
     (new-is : new ≡ newImage p i)
     (as-long : length new ≡ length i)
-    (marks-are : (b : ℕ) → b < length i / p .size → byte marks b ≡ cond (between p b) 1 0)
-    (shut-is : shut ≡ take (p .size) (drop (p .size * p .guard) (p .closed))) where
+    (marks-are : (b : ℕ) → b < length i / p .block-size → byte marks b ≡ cond (between p b) 1 0)
+    (shut-is : shut ≡ take (p .block-size) (drop (p .block-size * p .guard) (p .closed))) where
   -- the marked blocks are those between
-  agree : (b : ℕ) → b < length i / p .size → between p b ≡ marked marks b
+  agree : (b : ℕ) → b < length i / p .block-size → between p b ≡ marked marks b
   agree b l = rw (marks-are b l) (go (between p b))
     where
       go : (c : Bool) → c ≡ eqb (cond c 1 0) 1
@@ -35,44 +35,44 @@ module _ (T : TagType) (front : List ℕ) (p : Plan) (i new marks shut : List �
       go false = refl
 
   -- a command for each store
-  chunk-one : (ss : List Store) → joined (map (T .encoded) (chunk 1 (length ss) ss)) ≡ oneEach front (p .size) ss
+  chunk-one : (ss : List Store) → joined (map (T .encoded) (chunk 1 (length ss) ss)) ≡ oneEach front (p .block-size) ss
   unfolding oneEach
   chunk-one [] = refl
   chunk-one (s ∷ ss) =
-      ap (λ bytes. bytes ++ joined (map (T .encoded) (chunk 1 (length ss) ss))) (each s) ∙ ap (λ bytes. storeBytes front (p .size) s ++ bytes) (chunk-one ss)
+      ap (λ bytes. bytes ++ joined (map (T .encoded) (chunk 1 (length ss) ss))) (each s) ∙ ap (λ bytes. storeBytes front (p .block-size) s ++ bytes) (chunk-one ss)
 
-  chunks-one : (ss : List Store) → joined (map (T .encoded) (chunks 1 ss)) ≡ oneEach front (p .size) ss
+  chunks-one : (ss : List Store) → joined (map (T .encoded) (chunks 1 ss)) ≡ oneEach front (p .block-size) ss
   chunks-one ss =
       let e : (length ss + (1 - 1)) / 1 ≡ length ss = omega arith in
       ap (λ c. joined (map (T .encoded) (chunk 1 c ss))) e ∙ chunk-one ss
 
-  block-is : (j : List ℕ) → (T .encoded) (blockOf (p .size) j (p .guard) ∷ []) ≡ blockBytes front (p .size) j (p .guard)
-  block-is j = each (blockOf (p .size) j (p .guard)) ∙ block-one front (p .size) pos j (p .guard)
+  block-is : (j : List ℕ) → (T .encoded) (blockOf (p .block-size) j (p .guard) ∷ []) ≡ blockBytes front (p .block-size) j (p .guard)
+  block-is j = each (blockOf (p .block-size) j (p .guard)) ∙ block-one front (p .block-size) pos j (p .guard)
 
-  count-is : 2 + markedCount marks (length new / p .size) ≡ length (list p i)
+  count-is : 2 + markedCount marks (length new / p .block-size) ≡ length (list p i)
   count-is =
       let e : counted-of (length new) ≡ counted-of (length i) = ap counted-of as-long in
-      sym (length-list p i ∙ rw one (omega (arith, e, counted-same (between p) (marked marks) (length i / p .size) agree)))
+      sym (length-list p i ∙ rw one (omega (arith, e, counted-same (between p) (marked marks) (length i / p .block-size) agree)))
     where
       counted-of : ℕ → ℕ
-      counted-of n = markedCount marks (n / p .size)
+      counted-of n = markedCount marks (n / p .block-size)
 
-  middle-is : joined (map (T .encoded) (middle p i)) ≡ markedBytes front (p .size) new marks (length new / p .size)
+  middle-is : joined (map (T .encoded) (middle p i)) ≡ markedBytes front (p .block-size) new marks (length new / p .block-size)
   middle-is =
       let made = newImage p i in
-      ap (λ w. joined (map (T .encoded) (chunks w (picks (between p) (p .size) made 0 (length i / p .size))))) one
-      ∙ chunks-one (picks (between p) (p .size) made 0 (length i / p .size))
-      ∙ ap (oneEach front (p .size)) (picks-same (between p) (marked marks) (p .size) made (length i / p .size) agree)
-      ∙ ap (λ j. markedBytes front (p .size) j marks (length i / p .size)) (sym new-is)
-      ∙ ap (λ n. markedBytes front (p .size) new marks (n / p .size)) (sym as-long)
+      ap (λ w. joined (map (T .encoded) (chunks w (picks (between p) (p .block-size) made 0 (length i / p .block-size))))) one
+      ∙ chunks-one (picks (between p) (p .block-size) made 0 (length i / p .block-size))
+      ∙ ap (oneEach front (p .block-size)) (picks-same (between p) (marked marks) (p .block-size) made (length i / p .block-size) agree)
+      ∙ ap (λ j. markedBytes front (p .block-size) j marks (length i / p .block-size)) (sym new-is)
+      ∙ ap (λ n. markedBytes front (p .block-size) new marks (n / p .block-size)) (sym as-long)
 
-  bytes-are : listBytes T p i ≡ guardedBytes front (p .size) new marks (p .guard) shut
+  bytes-are : listBytes T p i ≡ guardedBytes front (p .block-size) new marks (p .guard) shut
   bytes-are =
-      let mid = markedBytes front (p .size) new marks (length new / p .size) in
-      let last : List Store = blockOf (p .size) (newImage p i) (p .guard) ∷ [] in
-      let opened : (T .encoded) last ≡ blockBytes front (p .size) new (p .guard)
-      = block-is (newImage p i) ∙ ap (λ j. blockBytes front (p .size) j (p .guard)) (sym new-is) in
-      let rest : joined (map (T .encoded) (middle p i ++ last ∷ [])) ≡ mid ++ blockBytes front (p .size) new (p .guard)
+      let mid = markedBytes front (p .block-size) new marks (length new / p .block-size) in
+      let last : List Store = blockOf (p .block-size) (newImage p i) (p .guard) ∷ [] in
+      let opened : (T .encoded) last ≡ blockBytes front (p .block-size) new (p .guard)
+      = block-is (newImage p i) ∙ ap (λ j. blockBytes front (p .block-size) j (p .guard)) (sym new-is) in
+      let rest : joined (map (T .encoded) (middle p i ++ last ∷ [])) ≡ mid ++ blockBytes front (p .block-size) new (p .guard)
       = joined-append (T .encoded) (middle p i) last
       ∙ ap (λ bytes. bytes ++ (T .encoded) last) middle-is
       ∙ ap (λ bytes. mid ++ bytes) opened in
@@ -80,6 +80,6 @@ module _ (T : TagType) (front : List ℕ) (p : Plan) (i new marks shut : List �
       ∙ ap (λ bytes. commandBytes front (p .guard) shut ++ bytes) rest
 
   -- what is written is the plan's list
-  pub plan-output : (room : ℕ) → guardedOutput room front (p .size) new marks (p .guard) shut ≡ writeBy T room i (written p)
+  pub plan-output : (room : ℕ) → guardedOutput room front (p .block-size) new marks (p .guard) shut ≡ writeBy T room i (written p)
   plan-output room =
-      ap (λ n. fitted room n (guardedBytes front (p .size) new marks (p .guard) shut)) count-is ∙ ap (fitted room (length (list p i))) (sym bytes-are)
+      ap (λ n. fitted room n (guardedBytes front (p .block-size) new marks (p .guard) shut)) count-is ∙ ap (fitted room (length (list p i))) (sym bytes-are)

@@ -5,13 +5,13 @@ use tag::slices;
 use type2::container;
 
 fn lay(front: &[u8], image: &mut [u8]) {
-    if image.len() < container::MARK {
+    if image.len() < container::MAGIC {
         return;
     }
-    if image.len() - container::MARK < front.len() {
+    if image.len() - container::MAGIC < front.len() {
         return;
     }
-    slices::store(front, container::MARK, image);
+    slices::store(front, container::MAGIC, image);
 }
 
 fn read_on(image: &[u8], gathered: &mut [u8]) {

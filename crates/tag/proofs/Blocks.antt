@@ -20,14 +20,14 @@ use Rattle.tag.specs.Judge.{Task}
 use Rattle.tag.proofs.Logic.{and-l, and-r, and-both}
 use Rattle.tag.proofs.Each.{Each, each-take, each-drop}
 use Rattle.tag.proofs.Chunks.{rounded-up}
-use Rattle.tag.proofs.Guarded.{In, Piece, Eaches, Some, Somes, Guard, Beside, Shuts, Tail}
+use Rattle.tag.proofs.Guarded.{In, PartOf, Eaches, Some, Somes, Guard, Beside, Shuts, Tail}
 
 -- a plan over whole blocks of the tag, with a guard block among them
 pub record Blockwise (p : Plan) (i : List ℕ) : Type 0 where
-  pub some-size : 0 < p .size
+  pub some-size : 0 < p .block-size
   pub some-width : 0 < p .width
-  pub whole : length i ≡ p .size * (length i / p .size)
-  pub inside : p .guard < length i / p .size
+  pub whole : length i ≡ p .block-size * (length i / p .block-size)
+  pub inside : p .guard < length i / p .block-size
   pub closed-length : length (p .closed) ≡ length i
 
 -- ---- stores dealt out to commands
@@ -61,8 +61,8 @@ module _ (z : ℕ) (n : List ℕ) where
   pub block-length : (b : ℕ) → z * b + z ≤ length n → length (blockOf z n b .bytes) ≡ z
   block-length b h = length-take-le z (drop (z * b) n) (rw length-drop (omega arith))
 
-  block-piece : (b : ℕ) → z * b + z ≤ length n → Piece n (blockOf z n b)
-  block-piece b h k l =
+  block-part : (b : ℕ) → z * b + z ≤ length n → PartOf n (blockOf z n b)
+  block-part b h k l =
       getD-take z (drop (z * b) n) k 0 (omega (arith, block-length b h)) ∙ getD-drop (z * b) n k 0
 
   block-in : (b a : ℕ) → z * b + z ≤ length n → In (blockOf z n b) a ↔ (inBlock z b a ≡ true)
@@ -108,7 +108,7 @@ module _ (t : Task) (g : Guard t) (z w N A : ℕ) (p : ℕ → Bool)
   beside b l q =
       let h : z * b + z ≤ length (g .new) = omega (arith, fits b l, whole, g .new-length) in
       record {
-        piece = block-piece z (g .new) b h;
+        part-of = block-part z (g .new) b h;
         clear = λ a i. clear a (block-in z (g .new) b a h .0 i) (inBlock z A a) refl;
       }
     where
@@ -143,14 +143,14 @@ module _ (t : Task) (g : Guard t) (z w N A : ℕ) (p : ℕ → Bool)
   block-shuts : Shuts t g (blockOf z (g .closed) A)
   block-shuts =
       record {
-        first-piece = block-piece z (g .closed) A (omega (arith, whole, closed-length, room-A));
+        first-part = block-part z (g .closed) A (omega (arith, whole, closed-length, room-A));
         first-in = λ a l. rw is-block (block-in z (g .closed) A a (omega (arith, whole, closed-length, room-A)));
       }
 
   block-tail : Tail t g (blockOf z (g .new) A) (chunks w (picks p z (g .new) 0 N))
   block-tail =
       record {
-        last-piece = block-piece z (g .new) A (omega (arith, whole, g .new-length, room-A));
+        last-part = block-part z (g .new) A (omega (arith, whole, g .new-length, room-A));
         last-in = λ a l q. block-in z (g .new) A a (omega (arith, whole, g .new-length, room-A)) .1 (sym (is-block a) ∙ q);
         mids-beside = chunk-each (Beside t g) w ((length (picks p z (g .new) 0 N) + (w - 1)) / w) (picks p z (g .new) 0 N) (picks-beside N 0 (omega arith));
         covered = λ a l q. cover a l q (complete a (a / z) l (block-of z a pos));

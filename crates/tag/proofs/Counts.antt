@@ -56,13 +56,13 @@ module _ (t : ℕ → Bool) where
       ∙ length-run k a
 
 pub length-list : (p : Plan) (i : List ℕ)
-    → length (list p i) ≡ 2 + (counted (between p) 0 (length i / p .size) + (p .width - 1)) / p .width
+    → length (list p i) ≡ 2 + (counted (between p) 0 (length i / p .block-size) + (p .width - 1)) / p .width
 length-list p i =
-    let chosen = picks (between p) (p .size) (newImage p i) 0 (length i / p .size) in
-    let e : length chosen ≡ counted (between p) 0 (length i / p .size) = length-picks (between p) (p .size) (newImage p i) 0 (length i / p .size) in
-    let f : length (middle p i) ≡ (counted (between p) 0 (length i / p .size) + (p .width - 1)) / p .width
+    let chosen = picks (between p) (p .block-size) (newImage p i) 0 (length i / p .block-size) in
+    let e : length chosen ≡ counted (between p) 0 (length i / p .block-size) = length-picks (between p) (p .block-size) (newImage p i) 0 (length i / p .block-size) in
+    let f : length (middle p i) ≡ (counted (between p) 0 (length i / p .block-size) + (p .width - 1)) / p .width
     = length-chunk (p .width) ((length chosen + (p .width - 1)) / p .width) chosen ∙ ap (λ k. (k + (p .width - 1)) / p .width) e in
-    omega (arith, f, length-append (middle p i) ((blockOf (p .size) (newImage p i) (p .guard) ∷ []) ∷ []))
+    omega (arith, f, length-append (middle p i) ((blockOf (p .block-size) (newImage p i) (p .guard) ∷ []) ∷ []))
 
 counted-like : (t u : ℕ → Bool) (k b : ℕ) → ((c : ℕ) → b ≤ c → c < b + k → t c ≡ u c) → counted t b k ≡ counted u b k
 counted-like t u k b h = sym (length-picks t 0 [] b k) ∙ ap length (picks-like t u 0 [] k b h) ∙ length-picks u 0 [] b k
@@ -88,8 +88,8 @@ counted-but t g N l q =
     omega (arith, x, y, low, high)
 
 -- one block a command: blocks touched + 1, where the guard block is one of them
-pub length-single : (p : Plan) (i : List ℕ) → p .width ≡ 1 → p .guard < length i / p .size → touches (p .size) (p .addresses) (p .values) (p .guard) ≡ true
+pub length-single : (p : Plan) (i : List ℕ) → p .width ≡ 1 → p .guard < length i / p .block-size → touches (p .block-size) (p .addresses) (p .values) (p .guard) ≡ true
     → length (list p i) ≡ touched p i + 1
 length-single p i w g q =
-    let e : touched p i ≡ 1 + counted (between p) 0 (length i / p .size) = counted-but (touches (p .size) (p .addresses) (p .values)) (p .guard) (length i / p .size) g q in
+    let e : touched p i ≡ 1 + counted (between p) 0 (length i / p .block-size) = counted-but (touches (p .block-size) (p .addresses) (p .values)) (p .guard) (length i / p .block-size) g q in
     length-list p i ∙ rw w (omega (arith, e))

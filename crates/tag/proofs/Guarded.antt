@@ -27,10 +27,10 @@ abbrev pub In : Store → ℕ → Type 0
 In s a = (s .at ≤ a) × (a < s .at + length (s .bytes))
 
 -- a store whose bytes are those of the image n
-abbrev pub Piece : List ℕ → Store → Type 0
-Piece n s = (k : ℕ) → k < length (s .bytes) → getD (s .bytes) k 0 ≡ byte n (s .at + k)
+abbrev pub PartOf : List ℕ → Store → Type 0
+PartOf n s = (k : ℕ) → k < length (s .bytes) → getD (s .bytes) k 0 ≡ byte n (s .at + k)
 
-put-cases : (n j : List ℕ) (s : Store) (a : ℕ) → Piece n s → a < length j
+put-cases : (n j : List ℕ) (s : Store) (a : ℕ) → PartOf n s → a < length j
     → (In s a × (byte (put j s) a ≡ byte n a)) ⊎ ((In s a → ⊥) × (byte (put j s) a ≡ byte j a))
 put-cases n j s a p l = go (decLe (s .at) a) (decLt a (s .at + length (s .bytes)))
   where
@@ -90,11 +90,11 @@ module _ (t : Task) (g : Guard t) where
 
   -- a store of the new image beside the guard
   pub record Beside (s : Store) : Type 0 where
-    pub piece : Piece (g .new) s
+    pub part-of : PartOf (g .new) s
     pub clear : (a : ℕ) → In s a → (g .block) a ≡ false
 
   btw-put : (j : List ℕ) (s : Store) → Btw j → Beside s → Btw (put j s)
-  btw-put j s b p = (length-sets j (s .at) (s .bytes) ∙ b .0, λ a l. ⊎-elim (λ c. fresh (p .clear a (c .0)) (c .1)) (λ c. keep a (c .1) (b .1 a l)) (put-cases (g .new) j s a (p .piece) (omega (arith, b .0, l))))
+  btw-put j s b p = (length-sets j (s .at) (s .bytes) ∙ b .0, λ a l. ⊎-elim (λ c. fresh (p .clear a (c .0)) (c .1)) (λ c. keep a (c .1) (b .1 a l)) (put-cases (g .new) j s a (p .part-of) (omega (arith, b .0, l))))
     where
       keep : (a : ℕ) → byte (put j s) a ≡ byte j a → Cell (g .block) (t .start) (g .closed) (g .new) j a → Cell (g .block) (t .start) (g .closed) (g .new) (put j s) a
       keep a e (shut x y) = shut x (e ∙ y)
@@ -119,7 +119,7 @@ module _ (t : Task) (g : Guard t) where
 
   -- once new, always new
   new-put : (j : List ℕ) (s : Store) (a : ℕ) → a < length j → Beside s → (In s a) ⊎ (byte j a ≡ byte (g .new) a) → byte (put j s) a ≡ byte (g .new) a
-  new-put j s a l p h = ⊎-elim (λ c. c .1) (λ c. c .1 ∙ ⊎-elim (λ i. absurd (c .0 i)) (λ e. e) h) (put-cases (g .new) j s a (p .piece) l)
+  new-put j s a l p h = ⊎-elim (λ c. c .1) (λ c. c .1 ∙ ⊎-elim (λ i. absurd (c .0 i)) (λ e. e) h) (put-cases (g .new) j s a (p .part-of) l)
 
   new-puts : (ss : List Store) (j : List ℕ) (a : ℕ) → a < length j → Each Beside ss → (Some a ss) ⊎ (byte j a ≡ byte (g .new) a) → byte (puts j ss) a ≡ byte (g .new) a
   new-puts [] j a l p (inr e) = e
@@ -159,7 +159,7 @@ module _ (t : Task) (g : Guard t) where
 
   -- the middle and the end of the list
   pub record Tail (last : Store) (mids : List (List Store)) : Type 0 where
-    pub last-piece : Piece (g .new) last
+    pub last-part : PartOf (g .new) last
     pub last-in : (a : ℕ) → a < length (t .start) → (g .block) a ≡ true → In last a
     pub mids-beside : Eaches Beside mids
     pub covered : (a : ℕ) → a < length (t .start) → (g .block) a ≡ false → (Somes a mids) ⊎ (byte (t .start) a ≡ byte (g .new) a)
@@ -179,7 +179,7 @@ module _ (t : Task) (g : Guard t) where
         (λ a h.
         let l : a < length (t .start) = omega (arith, length-sets (runs j mids) (last .at) (last .bytes), M-btw .0) in
         ⊎-elim (λ c. c .1) (λ c. c .1 ∙ aside a l (c .0) ((g .block) a) refl)
-        (put-cases (g .new) (runs j mids) last a (s .last-piece) (omega (arith, M-btw .0))))
+        (put-cases (g .new) (runs j mids) last a (s .last-part) (omega (arith, M-btw .0))))
       where
         aside : (a : ℕ) → a < length (t .start) → (In last a → ⊥) → (c : Bool) → (g .block) a ≡ c → byte (runs j mids) a ≡ byte (g .new) a
         aside a l n true q = absurd (n (s .last-in a l q))
@@ -204,13 +204,13 @@ module _ (t : Task) (g : Guard t) where
 
   -- the whole list, with its first command
   pub record Shuts (first : Store) : Type 0 where
-    pub first-piece : Piece (g .closed) first
+    pub first-part : PartOf (g .closed) first
     pub first-in : (a : ℕ) → a < length (t .start) → In first a ↔ ((g .block) a ≡ true)
 
   module _ (first last : Store) (mids : List (List Store)) (o : Shuts first) (s : Tail last mids) where
     cell : (a : ℕ) → a < length (t .start) → Cell (g .block) (t .start) (g .closed) (g .new) (put (t .start) first) a
         × ((g .block) a ≡ false → byte (put (t .start) first) a ≡ byte (t .start) a)
-    cell a l = go (put-cases (g .closed) (t .start) first a (o .first-piece) l) ((g .block) a) refl
+    cell a l = go (put-cases (g .closed) (t .start) first a (o .first-part) l) ((g .block) a) refl
       where
         go : (In first a × (byte (put (t .start) first) a ≡ byte (g .closed) a)) ⊎ ((In first a → ⊥) × (byte (put (t .start) first) a ≡ byte (t .start) a))
             → (b : Bool) → (g .block) a ≡ b

@@ -119,17 +119,17 @@ touch-bounds z hi x (y ∷ us) (v ∷ vs) b h e =
 -- what a type shows of its plan, for its commands to be sent: Q is what a block's number must have to be named
 pub record Nameable (p : Plan) (i : List ℕ) (Q : ℕ → Type 0) : Type 0 where
   pub guard-good : Q (p .guard)
-  pub touched-good : (b : ℕ) → b < length i / p .size → (b ≡ p .guard → ⊥) → touches (p .size) (p .addresses) (p .values) b ≡ true → Q b
+  pub touched-good : (b : ℕ) → b < length i / p .block-size → (b ≡ p .guard → ⊥) → touches (p .block-size) (p .addresses) (p .values) b ≡ true → Q b
 
 module _ (p : Plan) (i : List ℕ) (w : Blockwise p i) (Q : ℕ → Type 0) (n : Nameable p i Q) where
   abbrev Good : List Store → Type 0
-  Good ss = Each (Named (p .size) Q) ss × Sized (p .size) (p .width) (length i / p .size) ss
+  Good ss = Each (Named (p .block-size) Q) ss × Sized (p .block-size) (p .width) (length i / p .block-size) ss
 
-  guard-command : (j : List ℕ) → length j ≡ length i → Good (blockOf (p .size) j (p .guard) ∷ [])
+  guard-command : (j : List ℕ) → length j ≡ length i → Good (blockOf (p .block-size) j (p .guard) ∷ [])
   guard-command j l =
-      let m : p .size * suc (p .guard) ≤ p .size * (length i / p .size) = mul-le-mul-left (p .size) (w .inside) in
-      let d : p .size * p .guard / p .size ≡ p .guard = mul-div-cancel-left (p .guard) (w .some-size) in (
-        (block-named (p .size) j Q (p .guard) (omega (arith, w .whole)) (n .guard-good), tt),
+      let m : p .block-size * suc (p .guard) ≤ p .block-size * (length i / p .block-size) = mul-le-mul-left (p .block-size) (w .inside) in
+      let d : p .block-size * p .guard / p .block-size ≡ p .guard = mul-div-cancel-left (p .guard) (w .some-size) in (
+        (block-named (p .block-size) j Q (p .guard) (omega (arith, w .whole)) (n .guard-good), tt),
         (omega arith, omega (arith, w .some-width), rw d (w .inside)),
       )
 
@@ -137,19 +137,19 @@ module _ (p : Plan) (i : List ℕ) (w : Blockwise p i) (Q : ℕ → Type 0) (n :
   pub list-good : Each Good (list p i)
   list-good = (
     guard-command (p .closed) (w .closed-length),
-    each-append Good (middle p i) ((blockOf (p .size) (newImage p i) (p .guard) ∷ []) ∷ [])
-        (each-both (Each (Named (p .size) Q)) (Sized (p .size) (p .width) (length i / p .size)) (middle p i) named-blocks
-        (chunks-sized (p .size) (p .width) (length i / p .size) chosen (w .some-width)
-        (picks-rising (p .size) (w .some-size) (newImage p i) (between p) (length i / p .size) (length i / p .size) (omega arith))))
+    each-append Good (middle p i) ((blockOf (p .block-size) (newImage p i) (p .guard) ∷ []) ∷ [])
+        (each-both (Each (Named (p .block-size) Q)) (Sized (p .block-size) (p .width) (length i / p .block-size)) (middle p i) named-blocks
+        (chunks-sized (p .block-size) (p .width) (length i / p .block-size) chosen (w .some-width)
+        (picks-rising (p .block-size) (w .some-size) (newImage p i) (between p) (length i / p .block-size) (length i / p .block-size) (omega arith))))
         (guard-command (newImage p i) (length-overlay (p .addresses) (p .values) i), tt),
   )
     where
       chosen : List Store
-      chosen = picks (between p) (p .size) (newImage p i) 0 (length i / p .size)
+      chosen = picks (between p) (p .block-size) (newImage p i) 0 (length i / p .block-size)
 
-      named-blocks : Each (Each (Named (p .size) Q)) (middle p i)
+      named-blocks : Each (Each (Named (p .block-size) Q)) (middle p i)
       named-blocks =
-          chunk-each (Named (p .size) Q) (p .width) ((length chosen + (p .width - 1)) / p .width) chosen
-          (picks-named (p .size) (newImage p i) Q (between p) (length i / p .size) 0 (length i / p .size) (omega arith)
+          chunk-each (Named (p .block-size) Q) (p .width) ((length chosen + (p .width - 1)) / p .width) chosen
+          (picks-named (p .block-size) (newImage p i) Q (between p) (length i / p .block-size) 0 (length i / p .block-size) (omega arith)
           (omega (arith, w .whole, length-overlay (p .addresses) (p .values) i))
-          (λ b l e. n .touched-good b l (eqb-false b (p .guard) (not-true (eqb b (p .guard)) (and-l (not (eqb b (p .guard))) (touches (p .size) (p .addresses) (p .values) b) e))) (and-r (not (eqb b (p .guard))) (touches (p .size) (p .addresses) (p .values) b) e)))
+          (λ b l e. n .touched-good b l (eqb-false b (p .guard) (not-true (eqb b (p .guard)) (and-l (not (eqb b (p .guard))) (touches (p .block-size) (p .addresses) (p .values) b) e))) (and-r (not (eqb b (p .guard))) (touches (p .block-size) (p .addresses) (p .values) b) e)))

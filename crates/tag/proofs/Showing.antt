@@ -59,8 +59,8 @@ old-held (answer message a n interrupted w) part h = refl
 old-held (answer empty a n interrupted w) part h = refl
 old-held (answer being-written a n interrupted w) part h = refl
 
-pub old-is : (a : Answer) (had : Bool) (part : List ℕ) (h : Held) → had ≡ isMessage a → heldBy a part ≡ h → (h ≡ broken → ⊥) → oldHeld had part ≡ h
-old-is a had part h e q n = ap (λ b. oldHeld b part) e ∙ old-held a part (λ z. n (sym q ∙ z)) ∙ q
+pub old-is : (a : Answer) (present : Bool) (part : List ℕ) (h : Held) → present ≡ isMessage a → heldBy a part ≡ h → (h ≡ broken → ⊥) → oldHeld present part ≡ h
+old-is a present part h e q n = ap (λ b. oldHeld b part) e ∙ old-held a part (λ z. n (sym q ∙ z)) ∙ q
 
 module _ (T : TagType) (L : Laws T) where
   pub shown-part : (i buffer : List ℕ) (p : Report) → (T .reading) i ≡ reads p → tooShort (length buffer) p ≡ false

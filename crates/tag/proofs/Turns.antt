@@ -40,7 +40,7 @@ module _ (T : TagType) (i m j bytes : List ℕ) (r : Bool) (j′ : List ℕ) (gi
   pub step-malformed : not r ≡ true → Tested T i m j bytes 20 j′
   step-malformed q = (sym (ap (fault t j) (formed-malformed c (sym (given .0) ∙ not-true r q)) ∙ fault-malformed t j), given .1)
 
-  module _ (old : List ℕ) (had : Bool) (old-is : oldHeld had old ≡ held T i) (q : not r ≡ false) where
+  module _ (old : List ℕ) (present : Bool) (old-is : oldHeld present old ≡ held T i) (q : not r ≡ false) where
     e : (ss : List Store) × (c ≡ stores ss)
     e = formed-stores c (sym (given .0) ∙ not-false r q)
 
@@ -54,9 +54,9 @@ module _ (T : TagType) (i m j bytes : List ℕ) (r : Bool) (j′ : List ℕ) (gi
       pub step-change : not kept ≡ true → Tested T i m j bytes 21 j′
       step-change n = (sym (ap (fault t j) (e .1) ∙ fault-change t j (e .0) (keeps-is false (not-true kept n))), given .1)
 
-      module _ (n : not kept ≡ false) (safe : Bool) (s : safe ≡ readsAs m (oldHeld had old) (held T j′)) where
+      module _ (n : not kept ≡ false) (safe : Bool) (s : safe ≡ readsAs m (oldHeld present old) (held T j′)) where
         reads-is : (b : Bool) → safe ≡ b → readsAs m (held T i) (held T (puts j (e .0))) ≡ b
-        reads-is b x = ap (λ h. readsAs m h (held T (puts j (e .0)))) (sym old-is) ∙ ap (λ y. readsAs m (oldHeld had old) (held T y)) (sym stored) ∙ sym s ∙ x
+        reads-is b x = ap (λ h. readsAs m h (held T (puts j (e .0)))) (sym old-is) ∙ ap (λ y. readsAs m (oldHeld present old) (held T y)) (sym stored) ∙ sym s ∙ x
 
         pub step-misread : not safe ≡ true → Tested T i m j bytes 22 j′
         step-misread x = (sym (ap (fault t j) (e .1) ∙ fault-misread t j (e .0) (keeps-is true (not-false kept n)) (reads-is false (not-true safe x))), given .1)

@@ -27,7 +27,7 @@ pub record Sound (T : TagType) (i m : List ℕ) (p : Plan) : Type 0 where
   pub blockwise : Blockwise p i
   pub closed-kept : Kept (taskOf T i m p) (p .closed)
   -- with the guard shut the tag holds none
-  pub quiet : (j : List ℕ) → Between (inBlock (p .size) (p .guard)) i (p .closed) (newImage p i) j → held T j ≡ nothing
+  pub quiet : (j : List ℕ) → Between (inBlock (p .block-size) (p .guard)) i (p .closed) (newImage p i) j → held T j ≡ nothing
   -- the new image reads as the message
   pub new-reads : held T (newImage p i) ≡ holds m
 
@@ -44,7 +44,7 @@ touch-of z (x ∷ us) (v ∷ vs) a b s h =
 module _ (T : TagType) (i m : List ℕ) (p : Plan) (s : Sound T i m p) where
   abbrev guard : Guard (taskOf T i m p)
   guard = record {
-    block = inBlock (p .size) (p .guard);
+    block = inBlock (p .block-size) (p .guard);
     closed = p .closed;
     new = newImage p i;
     new-length = length-overlay (p .addresses) (p .values) i;
@@ -57,47 +57,47 @@ module _ (T : TagType) (i m : List ℕ) (p : Plan) (s : Sound T i m p) where
   -- a choice of the blocks between the guard's two commands that leaves out only what is there already
   pub record Choice (pick : ℕ → Bool) : Type 0 where
     pub others : (b : ℕ) → pick b ≡ true → b ≡ p .guard → ⊥
-    pub complete : (a b : ℕ) → a < length i → inBlock (p .size) b a ≡ true
+    pub complete : (a b : ℕ) → a < length i → inBlock (p .block-size) b a ≡ true
         → (pick b ≡ true) ⊎ ((b ≡ p .guard) ⊎ (byte i a ≡ byte (newImage p i) a))
 
   -- the commands from the first of the chosen blocks on
   abbrev rest : (ℕ → Bool) → List Command
   rest pick =
-      ending (taskOf T i m p) guard (blockOf (p .size) (newImage p i) (p .guard))
-      (chunks (p .width) (picks pick (p .size) (newImage p i) 0 (length i / p .size)))
+      ending (taskOf T i m p) guard (blockOf (p .block-size) (newImage p i) (p .guard))
+      (chunks (p .width) (picks pick (p .block-size) (newImage p i) 0 (length i / p .block-size)))
 
   module _ (pick : ℕ → Bool) (c : Choice pick) where
-    parts : Shuts (taskOf T i m p) guard (blockOf (p .size) (p .closed) (p .guard))
-        × Tail (taskOf T i m p) guard (blockOf (p .size) (newImage p i) (p .guard)) (chunks (p .width) (picks pick (p .size) (newImage p i) 0 (length i / p .size)))
+    parts : Shuts (taskOf T i m p) guard (blockOf (p .block-size) (p .closed) (p .guard))
+        × Tail (taskOf T i m p) guard (blockOf (p .block-size) (newImage p i) (p .guard)) (chunks (p .width) (picks pick (p .block-size) (newImage p i) 0 (length i / p .block-size)))
     parts =
         let b = s .blockwise in
-        block-parts (taskOf T i m p) guard (p .size) (p .width) (length i / p .size) (p .guard) pick (b .some-size) (b .some-width) (b .whole) (b .inside)
+        block-parts (taskOf T i m p) guard (p .block-size) (p .width) (length i / p .block-size) (p .guard) pick (b .some-size) (b .some-width) (b .whole) (b .inside)
         (λ a. refl) (b .closed-length) (c .others) (c .complete)
 
     chosen-accepted : (held T i ≡ broken → ⊥)
-        → judge (taskOf T i m p) 0 i (stores (blockOf (p .size) (p .closed) (p .guard) ∷ []) ∷ rest pick) ≡ accepted (suc (length (rest pick)))
+        → judge (taskOf T i m p) 0 i (stores (blockOf (p .block-size) (p .closed) (p .guard) ∷ []) ∷ rest pick) ≡ accepted (suc (length (rest pick)))
     chosen-accepted ok = accepts (taskOf T i m p) guard _ _ _ (parts .0) (parts .1) ok ∙ ap accepted (simp (length-append, length-map) (omega arith))
 
-    chosen-ends : cut (suc (length (rest pick))) i (stores (blockOf (p .size) (p .closed) (p .guard) ∷ []) ∷ rest pick) ≡ newImage p i
+    chosen-ends : cut (suc (length (rest pick))) i (stores (blockOf (p .block-size) (p .closed) (p .guard) ∷ []) ∷ rest pick) ≡ newImage p i
     chosen-ends = last-cut (taskOf T i m p) guard _ _ _ (parts .0) (parts .1)
 
   -- every block that holds a byte to set
   all-touched : Choice (between p)
   all-touched = record {
-    others = λ b q e. true-false (eq-eqb b (p .guard) e) (not-true (eqb b (p .guard)) (and-l _ (touches (p .size) (p .addresses) (p .values) b) q));
+    others = λ b q e. true-false (eq-eqb b (p .guard) e) (not-true (eqb b (p .guard)) (and-l _ (touches (p .block-size) (p .addresses) (p .values) b) q));
     complete = λ a b l h. go a b h (isSet (p .addresses) (p .values) a) refl (ℕ-discrete b (p .guard));
   }
     where
-      go : (a b : ℕ) → inBlock (p .size) b a ≡ true → (c : Bool) → isSet (p .addresses) (p .values) a ≡ c → Dec (b ≡ p .guard)
+      go : (a b : ℕ) → inBlock (p .block-size) b a ≡ true → (c : Bool) → isSet (p .addresses) (p .values) a ≡ c → Dec (b ≡ p .guard)
           → (between p b ≡ true) ⊎ ((b ≡ p .guard) ⊎ (byte i a ≡ byte (newImage p i) a))
       go a b h false q d = inr (inr (sym (overlay-out (p .addresses) (p .values) i a (rw q))))
       go a b h true q (yes e) = inr (inl e)
-      go a b h true q (no e) = inl (rw (ne-eqb b (p .guard) e) (touch-of (p .size) (p .addresses) (p .values) a b q h))
+      go a b h true q (no e) = inl (rw (ne-eqb b (p .guard) e) (touch-of (p .block-size) (p .addresses) (p .values) a b q h))
 
-  list-is : map stores (list p i) ≡ stores (blockOf (p .size) (p .closed) (p .guard) ∷ []) ∷ rest (between p)
+  list-is : map stores (list p i) ≡ stores (blockOf (p .block-size) (p .closed) (p .guard) ∷ []) ∷ rest (between p)
   list-is =
-      ap (λ cs. stores (blockOf (p .size) (p .closed) (p .guard) ∷ []) ∷ cs)
-      (map-append stores (middle p i) ((blockOf (p .size) (newImage p i) (p .guard) ∷ []) ∷ []))
+      ap (λ cs. stores (blockOf (p .block-size) (p .closed) (p .guard) ∷ []) ∷ cs)
+      (map-append stores (middle p i) ((blockOf (p .block-size) (newImage p i) (p .guard) ∷ []) ∷ []))
 
   list-count : suc (length (rest (between p))) ≡ length (list p i)
   list-count = simp (length-append, length-map) (omega arith)

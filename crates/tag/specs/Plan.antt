@@ -14,8 +14,8 @@ pub record Plan : Type 0 where
   -- the addresses of the bytes to set, and their values, as far as both go
   pub addresses : List ℕ
   pub values : List ℕ
-  -- the bytes of a block, and how many blocks a command may store
-  pub size : ℕ
+  -- how many bytes a block has, and how many blocks a command may store
+  pub block-size : ℕ
   pub width : ℕ
   -- the guard block (the requirements' A for Type 2, block 0 for Type 3), and the image that it is shut with
   pub guard : ℕ
@@ -45,7 +45,7 @@ touches z (x ∷ us) (v ∷ vs) b = inBlock z b x || touches z us vs b
 
 -- is block b written between the guard's two commands
 abbrev pub between : Plan → ℕ → Bool
-between p b = not (eqb b (p .guard)) && touches (p .size) (p .addresses) (p .values) b
+between p b = not (eqb b (p .guard)) && touches (p .block-size) (p .addresses) (p .values) b
 
 -- of k blocks from b on, those of the image n that the test picks, rising
 unfoldable pub picks : (ℕ → Bool) → ℕ → List ℕ → ℕ → ℕ → List Store
@@ -63,13 +63,13 @@ chunks w ss = chunk w ((length ss + (w - 1)) / w) ss
 
 -- the commands between the guard's two
 abbrev pub middle : Plan → List ℕ → List (List Store)
-middle p i = chunks (p .width) (picks (between p) (p .size) (newImage p i) 0 (length i / p .size))
+middle p i = chunks (p .width) (picks (between p) (p .block-size) (newImage p i) 0 (length i / p .block-size))
 
 -- the list for the tag i
 abbrev pub list : Plan → List ℕ → List (List Store)
 list p i =
-    (blockOf (p .size) (p .closed) (p .guard) ∷ [])
-    ∷ (middle p i ++ (blockOf (p .size) (newImage p i) (p .guard) ∷ []) ∷ [])
+    (blockOf (p .block-size) (p .closed) (p .guard) ∷ [])
+    ∷ (middle p i ++ (blockOf (p .block-size) (newImage p i) (p .guard) ∷ []) ∷ [])
 
 -- how many of the k blocks from b on pass the test
 abbrev pub counted : (ℕ → Bool) → ℕ → ℕ → ℕ
@@ -78,4 +78,4 @@ counted test b (suc k) = cond (test b) 1 0 + counted test (suc b) k
 
 -- how many blocks of the tag i hold a byte to set
 abbrev pub touched : Plan → List ℕ → ℕ
-touched p i = counted (touches (p .size) (p .addresses) (p .values)) 0 (length i / p .size)
+touched p i = counted (touches (p .block-size) (p .addresses) (p .values)) 0 (length i / p .block-size)

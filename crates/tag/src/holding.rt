@@ -50,36 +50,36 @@ pub fn holds(answer: ReadAnswer, shown: &[u8], message: &[u8]) -> bool
 }
 
 // Is a message the new one, or the old one where the tag had one?
-fn is_either(shown: &[u8], new: &[u8], old: &[u8], had: bool) -> bool
-    ensures { λ r. ⌜ r ≡ (same (now (shown .entry)) (now (new .entry)) || holdsAs (oldHeld had (now (old .entry))) (now (shown .entry))) ⌝ }
+fn is_either(shown: &[u8], new: &[u8], old: &[u8], present: bool) -> bool
+    ensures { λ r. ⌜ r ≡ (same (now (shown .entry)) (now (new .entry)) || holdsAs (oldHeld present (now (old .entry))) (now (shown .entry))) ⌝ }
 {
     if slices::same(shown, new) {
         return true;
     }
-    if had {
+    if present {
         return slices::same(shown, old);
     }
     false
 }
 
 // Does a tag that reads hold none, the new message, or the old one?
-fn is_safe_of(report: Report, shown: &[u8], new: &[u8], old: &[u8], had: bool) -> bool
-    ensures { λ r. ⌜ r ≡ readsAs (now (new .entry)) (oldHeld had (now (old .entry))) (heldBy (readAs (ReadAnswer.Reads report)) (now (shown .entry))) ⌝ }
+fn is_safe_of(report: Report, shown: &[u8], new: &[u8], old: &[u8], present: bool) -> bool
+    ensures { λ r. ⌜ r ≡ readsAs (now (new .entry)) (oldHeld present (now (old .entry))) (heldBy (readAs (ReadAnswer.Reads report)) (now (shown .entry))) ⌝ }
 {
     let content = report.content;
     match content {
-        Content::Message => is_either(shown, new, old, had),
+        Content::Message => is_either(shown, new, old, present),
         Content::Empty => true,
         Content::BeingWritten => true,
     }
 }
 
 // Does the tag read as none, as the new message, or as the old one?
-pub fn is_safe(answer: ReadAnswer, shown: &[u8], new: &[u8], old: &[u8], had: bool) -> bool
-    ensures { λ r. ⌜ r ≡ readsAs (now (new .entry)) (oldHeld had (now (old .entry))) (heldBy (readAs answer) (now (shown .entry))) ⌝ }
+pub fn is_safe(answer: ReadAnswer, shown: &[u8], new: &[u8], old: &[u8], present: bool) -> bool
+    ensures { λ r. ⌜ r ≡ readsAs (now (new .entry)) (oldHeld present (now (old .entry))) (heldBy (readAs answer) (now (shown .entry))) ⌝ }
 {
     match answer {
         ReadAnswer::Refused(_) => false,
-        ReadAnswer::Reads(report) => is_safe_of(report, shown, new, old, had),
+        ReadAnswer::Reads(report) => is_safe_of(report, shown, new, old, present),
     }
 }

@@ -22,7 +22,7 @@ one-added n t {first} {end} {s} {u} a o = (s, a, o)
 -- ---- the addresses that count
 
 pub one-from : {first low end : ℕ} {t u : List ℕ} → low ≤ first → OneMore first end t u → OneMore low end t u
-one-from l o = record { from = o .from; to = o .to; late = omega (arith, o .late); inside = o .inside; marked = o .marked }
+one-from l o = record { from = o .from; to = o .to; late = omega (arith, o .late); inside = o .inside; skips = o .skips }
 
 pub added-from : {first low : ℕ} (end n : ℕ) (t u : List ℕ) → low ≤ first → Added first end n t u → Added low end n t u
 unfolding Added
@@ -44,19 +44,19 @@ module _ (first end : ℕ) where
   pub added-length : (n : ℕ) (t u : List ℕ) → Added first end n t u → length u ≡ length t
   unfolding Added
   added-length zero t u a = ap length a
-  added-length (suc n) t u a = a .2 .marked .same-length ∙ added-length n t (a .0) (a .1)
+  added-length (suc n) t u a = a .2 .skips .same-length ∙ added-length n t (a .0) (a .1)
 
   pub added-before : (n : ℕ) (t u : List ℕ) → Added first end n t u → (x : ℕ) → x < first → byte u x ≡ byte t x
   unfolding Added
   added-before zero t u a x l = ap (λ s. byte s x) a
-  added-before (suc n) t u a x l = a .2 .marked .before x (omega (arith, a .2 .late)) ∙ added-before n t (a .0) (a .1) x l
+  added-before (suc n) t u a x l = a .2 .skips .before x (omega (arith, a .2 .late)) ∙ added-before n t (a .0) (a .1) x l
 
   one-after : {t u : List ℕ} → OneMore first end t u → (x : ℕ) → end ≤ x → byte u x ≡ byte t x
   one-after {t} {u} o x l = go (decLt x (o .from))
     where
       go : Dec (x < o .from) → byte u x ≡ byte t x
-      go (yes b) = o .marked .before x b
-      go (no b) = o .marked .after x (omega (arith, o .inside))
+      go (yes b) = o .skips .before x b
+      go (no b) = o .skips .after x (omega (arith, o .inside))
 
   pub added-after : (n : ℕ) (t u : List ℕ) → Added first end n t u → (x : ℕ) → end ≤ x → byte u x ≡ byte t x
   unfolding Added

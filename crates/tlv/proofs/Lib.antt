@@ -11,5 +11,5 @@ pub mod Rising
 pub mod Measured
 pub mod Turns
 pub mod Steps
-pub mod Marking
+pub mod SkipTable
 pub mod Finding

@@ -123,12 +123,12 @@ unskipped-all m a (suc n) h =
     rw (e, unskipped) (ap (λ us. a ∷ us) (unskipped-all m (suc a) n (omega arith)))
 
 -- a table that grows by an area
-pub marked-more : (t u : List ℕ) (r : Area) (a n : ℕ)
+pub skipped-more : (t u : List ℕ) (r : Area) (a n : ℕ)
     → ((x : ℕ) → a ≤ x → x < a + n → eqb (byte u x) 0 ≡ eqb (byte t x) 0 && not (covers r x))
     → unskipped u a n ≡ without r (unskipped t a n)
 unfolding unskipped without
-marked-more t u r a zero h = refl
-marked-more t u r a (suc n) h = go (eqb (byte t a) 0) refl (covers r a) refl (marked-more t u r (suc a) n (λ x l k. h x (omega arith) (omega arith)))
+skipped-more t u r a zero h = refl
+skipped-more t u r a (suc n) h = go (eqb (byte t a) 0) refl (covers r a) refl (skipped-more t u r (suc a) n (λ x l k. h x (omega arith) (omega arith)))
   where
     here : eqb (byte u a) 0 ≡ eqb (byte t a) 0 && not (covers r a)
     here = h a (omega arith) (omega arith)

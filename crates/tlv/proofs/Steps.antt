@@ -113,4 +113,4 @@ skipped {i} {s} {t} {u} {v} few l p q = record {
 }
   where
     size : length t ≡ length s
-    size = q .one-more .marked .same-length
+    size = q .one-more .skips .same-length

@@ -1,6 +1,6 @@
 -- Views of the walk's code: how its structs are read as the definitions have them, and what its functions ask of each other.
 pub mod Table
-pub mod Marks
+pub mod Areas
 pub mod Counted
 pub mod Walks
 pub mod Passing

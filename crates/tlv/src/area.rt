@@ -4,7 +4,7 @@ use tag::Address;
 ghost use mathlib.Core.Path.{_≡_};
 ghost use Prim.Native.Nat.{_≤_};
 ghost use Rattle.tlv.specs.Areas.{allowedArea, reserved, fullSize, areaSize, areaOf};
-ghost use Rattle.tlv.specs.Views.Marks.{controlAs, areaAs, SmallArea};
+ghost use Rattle.tlv.specs.Views.Areas.{controlAs, areaAs, SmallArea};
 
 // Which control TLV: 01h lock control, 02h memory control.
 pub enum Control {

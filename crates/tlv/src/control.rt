@@ -14,7 +14,7 @@ ghost use Prim.Native.Nat.{min, max};
 ghost use Rattle.tlv.specs.Areas.{without};
 ghost use Rattle.tlv.specs.Walk.{controlValue, passControl};
 ghost use Rattle.tlv.specs.Views.Walks.{ahead, ruleOf, Placed};
-ghost use Rattle.tlv.specs.Views.Marks.{controlAs, areaAs};
+ghost use Rattle.tlv.specs.Views.Areas.{controlAs, areaAs};
 ghost use Rattle.tlv.specs.Views.Passing.{passedAs, PassedPlaced, Skips, Skipped, lastOf};
 
 // The later of two addresses.
@@ -43,7 +43,7 @@ impl Walk {
         let stop = start.0 + area.size;
         let from = later(start, self.at);
         let to = earlier(Address(stop), self.end);
-        table::mark(table, from, to);
+        table::skip(table, from, to);
         let at = self.at;
         let end = self.end;
         let areas = self.areas + 1;

@@ -5,7 +5,7 @@ ghost use mathlib.Core.Path.{_≡_};
 ghost use Prim.Native.Nat.{_-_, _<_, _≤_};
 ghost use lib.ListN.{length, getD};
 ghost use Rattle.tlv.specs.Views.Table.{unskipped, noneSkipped};
-ghost use Rattle.tlv.specs.Views.Marks.{Marked};
+ghost use Rattle.tlv.specs.Views.Areas.{SkipsSet};
 
 // The first usable address from `at` on, or `end`.
 pub fn next_usable(table: &[u16], at: Address, end: Address) -> Address
@@ -58,9 +58,9 @@ pub fn none_skipped(table: &[u16], at: Address, end: Address) -> bool
 }
 
 // The addresses from `first` up to `stop` marked: an area that ends at `stop` covers them.
-pub(crate) fn mark(table: &mut [u16], first: Address, stop: Address)
+pub(crate) fn skip(table: &mut [u16], first: Address, stop: Address)
     requires { ⌜ (stop .0 ≤ length (now table)) × (stop .0 < 65536) ⌝ }
-    ensures { λ r. ⌜ Marked (now (table .entry)) (now (table .exit)) (first .0) (stop .0) ⌝ }
+    ensures { λ r. ⌜ SkipsSet (now (table .entry)) (now (table .exit)) (first .0) (stop .0) ⌝ }
 {
     let end = stop.0;
     let entry = end as u16;

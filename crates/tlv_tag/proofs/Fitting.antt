@@ -23,9 +23,9 @@ use Rattle.tlv.specs.Views.Finding.{FoundPlaced}
 use Rattle.tlv.proofs.Finding.{find-all, found-declared}
 use Rattle.tlv_tag.specs.declared.space.Space as code
 use Rattle.tlv_tag.specs.declared.space.Space.the-variants as answer
-use Rattle.tlv_tag.specs.Message.{View, refuse, view, viewBy}
+use Rattle.tlv_tag.specs.Message.{Located, refuse, located, locateBy}
 use Rattle.tlv_tag.specs.Views.Space.{Space, no-space, spaceOf, Room, SpaceHere, SpacePlaced}
-use Rattle.tlv_tag.specs.Views.Blank.{Blank}
+use Rattle.tlv_tag.specs.Views.BlankArea.{BlankArea}
 use Rattle.tlv_tag.specs.Views.Reading.{refusalOf}
 
 -- one byte of length and n of message
@@ -43,20 +43,20 @@ leb-less n u h = go (decLt (u - n) 3)
 -- ---- the message TLV, by its refusal
 
 module _ (w : Bool) (n : ℕ) where
-  pub refused-space : (v : View) (r : ℕ) → r ≡ refusalOf v → (r ≡ 0 → ⊥) → no-space r ≡ spaceOf w n v
+  pub refused-space : (v : Located) (r : ℕ) → r ≡ refusalOf v → (r ≡ 0 → ⊥) → no-space r ≡ spaceOf w n v
   refused-space (refuse q) r e z = ap no-space e
-  refused-space (view us ms) r e z = absurd (z e)
+  refused-space (located us ms) r e z = absurd (z e)
 
   -- one that is not refused has a message, whatever its addresses
-  pub whole-space : {s : Space} (us : List ℕ) (l : Length) → refusalOf (viewBy us l) ≡ 0 → ((ms : List ℕ) → s ≡ spaceOf w n (view us ms))
-      → s ≡ spaceOf w n (viewBy us l)
-  unfolding viewBy
+  pub whole-space : {s : Space} (us : List ℕ) (l : Length) → refusalOf (locateBy us l) ≡ 0 → ((ms : List ℕ) → s ≡ spaceOf w n (located us ms))
+      → s ≡ spaceOf w n (locateBy us l)
+  unfolding locateBy
   whole-space us bad e f = absurd (omega (arith, e))
   whole-space {s} us (len k vs) e f = go (leb k (length vs)) refl
     where
-      go : (b : Bool) → leb k (length vs) ≡ b → s ≡ spaceOf w n (viewBy us (len k vs))
-      go true q = rw (q, viewBy) (f (take k vs))
-      go false q = let seven : bad-length ≡ 0 = rw (q, viewBy) at e in absurd (omega arith)
+      go : (b : Bool) → leb k (length vs) ≡ b → s ≡ spaceOf w n (locateBy us (len k vs))
+      go true q = rw (q, locateBy) (f (take k vs))
+      go false q = let seven : bad-length ≡ 0 = rw (q, locateBy) at e in absurd (omega arith)
 
 -- ---- the walk from the start of the data area
 
@@ -64,7 +64,7 @@ module _ (w : Bool) (n : ℕ) where
 abbrev pub Begins : ℕ → ℕ → Walk → Type 0
 Begins first end w = (w .at .0 ≡ first) × (w .end .0 ≡ end) × (w .areas ≡ 0)
 
-pub begin-placed : (i t : List ℕ) (w : Walk) (first end : ℕ) → Blank i t first end → Begins first end w → Placed i t w
+pub begin-placed : (i t : List ℕ) (w : Walk) (first end : ℕ) → BlankArea i t first end → Begins first end w → Placed i t w
 unfolding Added
 begin-placed i t w first end b s = record {
   within = record {
@@ -72,7 +72,7 @@ begin-placed i t w first end b s = record {
     in-table = omega (arith, s .1, b .in-table);
     short = b .short;
     few = omega (arith, s .2);
-    declared = rw (s .2) (b .clear);
+    declared = rw (s .2) (b .zeros);
   };
   in-image = omega (arith, s .1, b .in-image);
 }
@@ -80,11 +80,11 @@ begin-placed i t w first end b s = record {
 pub area-declared : (i t u : List ℕ) (w : Walk) (first end : ℕ) (r : code-found.Found) → Begins first end w → FoundPlaced i t u w r → Declared first end t u
 area-declared i t u w first end r s p = rw (s .0, s .1) at (found-declared i t u w r p)
 
-pub found-all : (i t : List ℕ) (w : Walk) (first end : ℕ) → Blank i t first end → Begins first end w
+pub found-all : (i t : List ℕ) (w : Walk) (first end : ℕ) → BlankArea i t first end → Begins first end w
     → find (allowedArea first (length i)) (w .end .0 - w .at .0) i (ahead t w) ≡ find (allowedArea first (length i)) (end - first) i (run first (end - first))
 found-all i t w first end b s =
     let allowed = allowedArea first (length i) in
-    ap (λ u. find allowed (w .end .0 - w .at .0) i (ahead u w)) (b .clear)
+    ap (λ u. find allowed (w .end .0 - w .at .0) i (ahead u w)) (b .zeros)
     ∙ find-all allowed (length t) i w first (end - first) (s .0) (omega (arith, s .1, b .ordered)) (omega (arith, b .ordered, b .in-table))
 
 pub found-at : {i s t : List ℕ} {v w : Walk} {a : Address} {r : code-found.Found} → FoundPlaced i s t v r → r ≡ found.At a w

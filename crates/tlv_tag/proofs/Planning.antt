@@ -10,7 +10,7 @@ use Rattle.tag.specs.Stores.{Store, Command}
 use Rattle.tag.specs.TagType.{Writing, refused-write, written, writing, planned}
 use Rattle.tag.specs.Refusals.{empty-message, not-writable, message-too-long}
 use Rattle.tag.specs.Checks.{check, Checked, firstOf}
-use Rattle.tlv_tag.specs.Message.{TlvTag, View, refuse, view, viewed, reading}
+use Rattle.tlv_tag.specs.Message.{TlvTag, Located, refuse, located, locate, reading}
 use Rattle.tlv_tag.specs.Update.{usable, fitsIn, planBy}
 use Rattle.tlv_tag.specs.Tag.{tagOf}
 use Rattle.tlv_tag.specs.Views.Space.{Space, no-space, space, spaceOf}
@@ -31,15 +31,15 @@ in-order z us i m false true false = refl
 in-order z us i m false true true = refl
 
 module _ (K : TlvTag) (command : List ℕ → List ℕ → Command) (span : List ℕ → List ℕ → ℕ) (encoded : List Store → List ℕ) where
-  pub writing-space : (i m : List ℕ) → writing (tagOf K command span encoded) i m ≡ writingIn (K .block) i m (spaceOf ((K .writable) i) (length m) (viewed K i))
+  pub writing-space : (i m : List ℕ) → writing (tagOf K command span encoded) i m ≡ writingIn (K .block-size) i m (spaceOf ((K .writable) i) (length m) (locate K i))
   unfolding writing reading
-  writing-space i m = go (viewed K i) refl
+  writing-space i m = go (locate K i) refl
     where
-      go : (v : View) → viewed K i ≡ v → writing (tagOf K command span encoded) i m ≡ writingIn (K .block) i m (spaceOf ((K .writable) i) (length m) v)
+      go : (v : Located) → locate K i ≡ v → writing (tagOf K command span encoded) i m ≡ writingIn (K .block-size) i m (spaceOf ((K .writable) i) (length m) v)
       go (refuse r) q = rw q
-      go (view us ms) q =
+      go (located us ms) q =
           let tests : List ℕ → Checked
           = λ vs. firstOf (check (not (eqb (length m) 0)) empty-message ∷ check ((K .writable) i) not-writable ∷ check (fitsIn (length m) (length vs)) message-too-long ∷ []) in
           rw q (rw (report-writable ((K .writable) i) i ms)
-          (ap (λ vs. planned (planBy (K .block) vs i m) (tests vs)) (ap usable q)
-          ∙ in-order (K .block) us i m (eqb (length m) 0) ((K .writable) i) (fitsIn (length m) (length us))))
+          (ap (λ vs. planned (planBy (K .block-size) vs i m) (tests vs)) (ap usable q)
+          ∙ in-order (K .block-size) us i m (eqb (length m) 0) ((K .writable) i) (fitsIn (length m) (length us))))

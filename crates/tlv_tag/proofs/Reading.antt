@@ -26,9 +26,9 @@ use Rattle.tlv.specs.Walk.{Length, bad, len, lengthOf, Passed, more, stop, pass
 use Rattle.tlv.specs.Views.Walks.{ahead}
 use Rattle.tlv.specs.Views.Finding.{foundAs}
 use Rattle.tlv.specs.Views.Values.{at, measured}
-use Rattle.tlv_tag.specs.Message.{TlvTag, View, refuse, view, viewBy, viewOf, viewed, reportOf, readingOf, reading}
-use Rattle.tlv_tag.specs.Views.Blank.{Blank}
-use Rattle.tlv_tag.specs.Views.Reading.{areaView, tlvView, valueReading, refusalOf, reportAs}
+use Rattle.tlv_tag.specs.Message.{TlvTag, Located, refuse, located, locateBy, locateFrom, locate, reportOf, readingOf, reading}
+use Rattle.tlv_tag.specs.Views.BlankArea.{BlankArea}
+use Rattle.tlv_tag.specs.Views.Reading.{areaLocated, tlvLocated, valueReading, refusalOf, reportAs}
 use Rattle.tlv_tag.proofs.Fitting.{Begins, found-all}
 
 -- the answer and the gathering buffer afterwards are those of a reading
@@ -84,62 +84,62 @@ module _ (w : Bool) (i us : List ℕ) where
 
 -- ---- the message TLV by its length field
 
-value-is : (w : Bool) (i us vs : List ℕ) (n : ℕ) → readingOf w i (viewBy us (len n vs)) ≡ valueReading w i n vs
-unfolding viewBy valueReading
+value-is : (w : Bool) (i us vs : List ℕ) (n : ℕ) → readingOf w i (locateBy us (len n vs)) ≡ valueReading w i n vs
+unfolding locateBy valueReading
 value-is w i us vs n = go (leb n (length vs))
   where
-    go : (b : Bool) → readingOf w i (cond b (view us (take n vs)) (refuse 7)) ≡ cond b (reads (reportOf w i (take n vs))) (unreadable 7)
+    go : (b : Bool) → readingOf w i (cond b (located us (take n vs)) (refuse 7)) ≡ cond b (reads (reportOf w i (take n vs))) (unreadable 7)
     go true = refl
     go false = refl
 
 module _ (w : Bool) (i us : List ℕ) where
-  pub field-bad : bad ≡ lengthOf i us → readingOf w i (tlvView i us) ≡ unreadable 7
-  unfolding viewBy
-  field-bad e = ap (λ l. readingOf w i (viewBy us l)) (sym e)
+  pub field-bad : bad ≡ lengthOf i us → readingOf w i (tlvLocated i us) ≡ unreadable 7
+  unfolding locateBy
+  field-bad e = ap (λ l. readingOf w i (locateBy us l)) (sym e)
 
-  pub field-is : (n : ℕ) (vs : List ℕ) → len n vs ≡ lengthOf i us → readingOf w i (tlvView i us) ≡ valueReading w i n vs
-  field-is n vs e = ap (λ l. readingOf w i (viewBy us l)) (sym e) ∙ value-is w i us vs n
+  pub field-is : (n : ℕ) (vs : List ℕ) → len n vs ≡ lengthOf i us → readingOf w i (tlvLocated i us) ≡ valueReading w i n vs
+  field-is n vs e = ap (λ l. readingOf w i (locateBy us l)) (sym e) ∙ value-is w i us vs n
 
 -- a refusal by passing the TLV over
 abbrev passRefusal : Passed → ℕ
 passRefusal (more us) = 0
 passRefusal (stop r) = r
 
-pass-refusal : (us : List ℕ) (l : Length) → passRefusal (passValue l) ≡ refusalOf (viewBy us l)
-unfolding viewBy passValue
+pass-refusal : (us : List ℕ) (l : Length) → passRefusal (passValue l) ≡ refusalOf (locateBy us l)
+unfolding locateBy passValue
 pass-refusal us bad = refl
 pass-refusal us (len n vs) = go (leb n (length vs)) refl
   where
-    go : (b : Bool) → leb n (length vs) ≡ b → passRefusal (passValue (len n vs)) ≡ refusalOf (viewBy us (len n vs))
-    go true e = rw (e, passValue, viewBy)
-    go false e = rw (e, passValue, viewBy)
+    go : (b : Bool) → leb n (length vs) ≡ b → passRefusal (passValue (len n vs)) ≡ refusalOf (locateBy us (len n vs))
+    go true e = rw (e, passValue, locateBy)
+    go false e = rw (e, passValue, locateBy)
 
 module _ (i us : List ℕ) where
-  pub stopped : (r : ℕ) → stop r ≡ passValue (lengthOf i us) → r ≡ refusalOf (tlvView i us)
+  pub stopped : (r : ℕ) → stop r ≡ passValue (lengthOf i us) → r ≡ refusalOf (tlvLocated i us)
   stopped r e = ap passRefusal e ∙ pass-refusal us (lengthOf i us)
 
-  pub passed : (vs : List ℕ) → more vs ≡ passValue (lengthOf i us) → 0 ≡ refusalOf (tlvView i us)
+  pub passed : (vs : List ℕ) → more vs ≡ passValue (lengthOf i us) → 0 ≡ refusalOf (tlvLocated i us)
   passed vs e = ap passRefusal e ∙ pass-refusal us (lengthOf i us)
 
 -- ---- the data area by what the walk over it found: t is the table before, u the table afterwards
 
-module _ (i t u : List ℕ) (first end : ℕ) (w : Walk) (f : code-found.Found) (blank : Blank i t first end) (start : Begins first end w)
+module _ (i t u : List ℕ) (first end : ℕ) (w : Walk) (f : code-found.Found) (blank : BlankArea i t first end) (start : Begins first end w)
     (walked : foundAs u f ≡ find (allowedArea first (length i)) (w .end .0 - w .at .0) i (ahead t w)) where
-  area-is : areaView i first end ≡ viewOf i (foundAs u f)
-  area-is = ap (viewOf i) (sym (walked ∙ found-all i t w first end blank start))
+  area-is : areaLocated i first end ≡ locateFrom i (foundAs u f)
+  area-is = ap (locateFrom i) (sym (walked ∙ found-all i t w first end blank start))
 
-  pub area-lost : (r : ℕ) → f ≡ code-at.Refused r → areaView i first end ≡ refuse r
-  area-lost r e = area-is ∙ ap (λ g. viewOf i (foundAs u g)) e
+  pub area-lost : (r : ℕ) → f ≡ code-at.Refused r → areaLocated i first end ≡ refuse r
+  area-lost r e = area-is ∙ ap (λ g. locateFrom i (foundAs u g)) e
 
-  pub area-at : (a : Address) (v : Walk) → f ≡ code-at.At a v → areaView i first end ≡ tlvView i (ahead u v)
-  area-at a v e = area-is ∙ ap (λ g. viewOf i (foundAs u g)) e
+  pub area-at : (a : Address) (v : Walk) → f ≡ code-at.At a v → areaLocated i first end ≡ tlvLocated i (ahead u v)
+  area-at a v e = area-is ∙ ap (λ g. locateFrom i (foundAs u g)) e
 
 -- ---- a tag by its own tests
 
 pub reading-fault : (T : TlvTag) (i : List ℕ) (r : ℕ) → fault r ≡ firstOf ((T .checks) i) → reading T i ≡ unreadable r
-unfolding reading viewed
+unfolding reading locate
 reading-fault T i r e = rw (← e)
 
-pub reading-refusal : (w : Bool) (i : List ℕ) (v : View) → refusalNumber (readingOf w i v) ≡ refusalOf v
+pub reading-refusal : (w : Bool) (i : List ℕ) (v : Located) → refusalNumber (readingOf w i v) ≡ refusalOf v
 reading-refusal w i (refuse r) = refl
-reading-refusal w i (view us ms) = refl
+reading-refusal w i (located us ms) = refl

@@ -14,7 +14,7 @@ use Rattle.tag.proofs.Logic.{nope}
 use Rattle.tag.proofs.Checks.{OfReading, first-among}
 use Rattle.tlv.specs.Areas.{Control, Area, reserved, areaOf}
 use Rattle.tlv.specs.Walk.{Taken, none, took, takeByte, onByte, Length, bad, len, lengthOf, Passed, more, stop, passValue, Kind, null, message, terminator, other, control, kindOf, Step, on, hit, Found, lost, found, areaBy, controlValue, controlBy, stepAt, step, find, messageTlv}
-use Rattle.tlv_tag.specs.Message.{TlvTag, View, refuse, view, viewBy, viewOf, viewAfter, viewed, readingOf, reading}
+use Rattle.tlv_tag.specs.Message.{TlvTag, Located, refuse, located, locateBy, locateFrom, locateAfter, locate, readingOf, reading}
 use Rattle.tlv_tag.proofs.Tag.{TlvLaws}
 
 abbrev PassNumbered : Passed → Type 0
@@ -29,9 +29,9 @@ abbrev FindNumbered : Found → Type 0
 FindNumbered (lost r) = OfReading r
 FindNumbered (found a us) = Unit {0}
 
-abbrev ViewNumbered : View → Type 0
-ViewNumbered (refuse r) = OfReading r
-ViewNumbered (view us ms) = Unit {0}
+abbrev LocatedNumbered : Located → Type 0
+LocatedNumbered (refuse r) = OfReading r
+LocatedNumbered (located us ms) = Unit {0}
 
 -- the refusals of the walk
 control-number : OfReading bad-control-tlv
@@ -93,28 +93,28 @@ module _ (allowed : Area → Bool) where
       go (on (stop r)) h more-of = h
       go (hit a vs) h more-of = tt
 
-length-viewing : (us : List ℕ) (l : Length) → ViewNumbered (viewBy us l)
-unfolding viewBy
-length-viewing us bad = length-number
-length-viewing us (len n vs) = by-test ViewNumbered (leb n (length vs)) _ (refuse bad-length) tt length-number
+length-locating : (us : List ℕ) (l : Length) → LocatedNumbered (locateBy us l)
+unfolding locateBy
+length-locating us bad = length-number
+length-locating us (len n vs) = by-test LocatedNumbered (leb n (length vs)) _ (refuse bad-length) tt length-number
 
-found-viewing : (i : List ℕ) (f : Found) → FindNumbered f → ViewNumbered (viewOf i f)
-found-viewing i (lost r) h = h
-found-viewing i (found a us) h = length-viewing us (lengthOf i us)
+found-locating : (i : List ℕ) (f : Found) → FindNumbered f → LocatedNumbered (locateFrom i f)
+found-locating i (lost r) h = h
+found-locating i (found a us) h = length-locating us (lengthOf i us)
 
 module _ (T : TlvTag) (L : TlvLaws T) where
-  viewing : (i : List ℕ) → ViewNumbered (viewed T i)
-  unfolding viewed
-  viewing i = go (firstOf ((T .checks) i)) refl
+  locating : (i : List ℕ) → LocatedNumbered (locate T i)
+  unfolding locate
+  locating i = go (firstOf ((T .checks) i)) refl
     where
-      go : (c : Checked) → firstOf ((T .checks) i) ≡ c → ViewNumbered (viewAfter T i c)
-      go fine e = found-viewing i (messageTlv (T .layout) i) (finding ((T .layout .allowed) (length i)) ((T .layout .size) i) i _)
+      go : (c : Checked) → firstOf ((T .checks) i) ≡ c → LocatedNumbered (locateAfter T i c)
+      go fine e = found-locating i (messageTlv (T .layout) i) (finding ((T .layout .allowed) (length i)) ((T .layout .size) i) i _)
       go (fault r) e = first-among OfReading ((T .checks) i) (L .numbered i) r e
 
   pub numbered : (i : List ℕ) (r : ℕ) → reading T i ≡ unreadable r → OfReading r
   unfolding reading
-  numbered i r e = go (viewed T i) (viewing i) e
+  numbered i r e = go (locate T i) (locating i) e
     where
-      go : (v : View) → ViewNumbered v → readingOf ((T .writable) i) i v ≡ unreadable r → OfReading r
+      go : (v : Located) → LocatedNumbered v → readingOf ((T .writable) i) i v ≡ unreadable r → OfReading r
       go (refuse s) h e = let q : s ≡ r = cc in subst OfReading q h
-      go (view us ms) h e = absurd (nope (cc))
+      go (located us ms) h e = absurd (nope (cc))

@@ -16,8 +16,8 @@ use Rattle.tag.proofs.Addresses.{Above, above-length, above-take}
 use Rattle.tag.proofs.Runs.{map-run}
 use Rattle.tlv.specs.Walk.{lengthOf}
 use Rattle.tlv.proofs.Locality.{length-above}
-use Rattle.tlv_tag.specs.Message.{TlvTag, view, viewBy, viewed, reportOf, reading}
-use Rattle.tlv_tag.proofs.Tag.{viewBy-is, TlvLaws, Placed, view-placed, by-report, beyond}
+use Rattle.tlv_tag.specs.Message.{TlvTag, located, locateBy, locate, reportOf, reading}
+use Rattle.tlv_tag.proofs.Tag.{locateBy-is, TlvLaws, TlvPlaced, located-placed, by-report, beyond}
 
 consecutive-run : (a : ℕ) (us : List ℕ) → consecutive (a ∷ us) ≡ true → a ∷ us ≡ run a (length (a ∷ us))
 consecutive-run a [] e = refl
@@ -27,12 +27,12 @@ consecutive-run a (b ∷ us) e =
 
 module _ (T : TlvTag) (laws : TlvLaws T) where
   -- the message's addresses rise inside the image
-  message-above : (i us ms : List ℕ) → viewed T i ≡ view us ms → (x : ℕ) × Above (length i) x ms
-  unfolding viewed
+  message-above : (i us ms : List ℕ) → locate T i ≡ located us ms → (x : ℕ) × Above (length i) x ms
+  unfolding locate
   message-above i us ms e =
-      let p : Placed T i us = view-placed T i us ms e in
-      let e′ : viewBy us (lengthOf i us) ≡ view us ms = sym (rw (p .sound) (rw (p .tlv-at))) ∙ e in
-      let (u, n, vs, q, t) = viewBy-is us ms us (lengthOf i us) e′ in
+      let p : TlvPlaced T i us = located-placed T i us ms e in
+      let e′ : locateBy us (lengthOf i us) ≡ located us ms = sym (rw (p .sound) (rw (p .tlv-at))) ∙ e in
+      let (u, n, vs, q, t) = locateBy-is us ms us (lengthOf i us) e′ in
       (p .at, subst (λ l. Above (length i) (p .at) l) t (above-take (length i) n (p .at) vs (length-above (length i) i us vs n q (p .at) (beyond T laws i us p .1))))
 
   pub wordless : (i : List ℕ) (p : Report) → reading T i ≡ reads p → (p .content ≡ message → ⊥) → p .bytes ≡ []

@@ -24,47 +24,47 @@ use Rattle.tag.proofs.Addresses.{Above, above-unset, above-run}
 use Rattle.tlv.specs.Walk.{Length, bad, len, lengthBy, lengthOf, Found, lost, found, messageTlv}
 use Rattle.tlv.proofs.Locality.{find-above, find-same}
 use Rattle.tlv.proofs.Sizes.{length-size}
-use Rattle.tlv_tag.specs.Message.{TlvTag, View, refuse, view, viewBy, viewed, reportOf, readingOf, reading}
+use Rattle.tlv_tag.specs.Message.{TlvTag, Located, refuse, located, locateBy, locate, reportOf, readingOf, reading}
 use Rattle.tlv_tag.specs.Update.{usable, fitsIn, tlvBytes, lengthAt}
 use Rattle.tlv_tag.proofs.Field.{Written, written, fits-less, fits-of, above-first}
 
 -- ---- a message TLV by its length field
 
 -- a view by a length is of the same addresses, and its message is the first of those after the length
-pub viewBy-is : (us ms vs : List ℕ) (l : Length) → viewBy us l ≡ view vs ms
+pub locateBy-is : (us ms vs : List ℕ) (l : Length) → locateBy us l ≡ located vs ms
     → (us ≡ vs) × (n : ℕ) × (ws : List ℕ) × (l ≡ len n ws) × (take n ws ≡ ms)
-unfolding viewBy
-viewBy-is us ms vs bad e = absurd (nope (cc))
-viewBy-is us ms vs (len n ws) e = go (leb n (length ws)) refl
+unfolding locateBy
+locateBy-is us ms vs bad e = absurd (nope (cc))
+locateBy-is us ms vs (len n ws) e = go (leb n (length ws)) refl
   where
     go : (b : Bool) → leb n (length ws) ≡ b → (us ≡ vs) × (n′ : ℕ) × (ws′ : List ℕ) × (len n ws ≡ len n′ ws′) × (take n′ ws′ ≡ ms)
-    go false q = let e′ : refuse bad-length ≡ view vs ms = rw (q, viewBy) at e in absurd (nope (cc))
-    go true q = let e′ : view us (take n ws) ≡ view vs ms = rw (q, viewBy) at e in (cc, n, ws, refl, cc)
+    go false q = let e′ : refuse bad-length ≡ located vs ms = rw (q, locateBy) at e in absurd (nope (cc))
+    go true q = let e′ : located us (take n ws) ≡ located vs ms = rw (q, locateBy) at e in (cc, n, ws, refl, cc)
 
 module _ (w : Bool) where
-  view-holds : (us m j ms : List ℕ) → map (byte j) ms ≡ m → (length m ≡ 0 → ⊥) → heldOf (readingOf w j (view us ms)) ≡ holds m
-  view-holds us m j [] e z = absurd (z (sym (ap length e)))
-  view-holds us m j (a ∷ ms) e z = ap holds e
+  located-holds : (us m j ms : List ℕ) → map (byte j) ms ≡ m → (length m ≡ 0 → ⊥) → heldOf (readingOf w j (located us ms)) ≡ holds m
+  located-holds us m j [] e z = absurd (z (sym (ap length e)))
+  located-holds us m j (a ∷ ms) e z = ap holds e
 
-  view-written : (us m j : List ℕ) → Written us m j → (length m ≡ 0 → ⊥)
-      → heldOf (readingOf w j (viewBy us (lengthOf j us))) ≡ holds m
-  unfolding viewBy
-  view-written us m j r z =
+  located-written : (us m j : List ℕ) → Written us m j → (length m ≡ 0 → ⊥)
+      → heldOf (readingOf w j (locateBy us (lengthOf j us))) ≡ holds m
+  unfolding locateBy
+  located-written us m j r z =
       let q : leb (length m) (length (r .rest)) ≡ true = le-leb (length m) (length (r .rest)) (r .enough) in
-      rw (r .field) (rw (q, viewBy) (view-holds us m j (take (length m) (r .rest)) (r .bytes) z))
+      rw (r .field) (rw (q, locateBy) (located-holds us m j (take (length m) (r .rest)) (r .bytes) z))
 
-  view-quiet : (us j : List ℕ) → 0 < length us → byte j (lengthAt us) ≡ 0
-      → heldOf (readingOf w j (viewBy us (lengthOf j us))) ≡ nothing
-  unfolding viewBy lengthBy
-  view-quiet [] j l e = absurd (omega arith)
-  view-quiet (a ∷ us) j l e = rw e (rw (leb·zero (length us), viewBy))
+  located-quiet : (us j : List ℕ) → 0 < length us → byte j (lengthAt us) ≡ 0
+      → heldOf (readingOf w j (locateBy us (lengthOf j us))) ≡ nothing
+  unfolding locateBy lengthBy
+  located-quiet [] j l e = absurd (omega arith)
+  located-quiet (a ∷ us) j l e = rw e (rw (leb·zero (length us), locateBy))
 
-  view-fits : (us j m : List ℕ) → heldOf (readingOf w j (viewBy us (lengthOf j us))) ≡ holds m
+  located-fits : (us j m : List ℕ) → heldOf (readingOf w j (locateBy us (lengthOf j us))) ≡ holds m
       → fitsIn (length m) (length us) ≡ true
-  unfolding viewBy
-  view-fits us j m e = go (lengthOf j us) refl
+  unfolding locateBy
+  located-fits us j m e = go (lengthOf j us) refl
     where
-      by-bytes : (ms : List ℕ) → heldOf (readingOf w j (view us ms)) ≡ holds m → length ms ≡ length m
+      by-bytes : (ms : List ℕ) → heldOf (readingOf w j (located us ms)) ≡ holds m → length ms ≡ length m
       by-bytes [] f = absurd (nope (cc))
       by-bytes (a ∷ ms) f = let g : map (byte j) (a ∷ ms) ≡ m = cc in sym (length-map (a ∷ ms) (byte j)) ∙ ap length g
 
@@ -73,9 +73,9 @@ module _ (w : Bool) where
       go (len n ws) q = room (leb n (length ws)) refl
         where
           room : (t : Bool) → leb n (length ws) ≡ t → fitsIn (length m) (length us) ≡ true
-          room false t = let e′ : broken ≡ holds m = rw (q, t, viewBy) at e in absurd (nope (cc))
+          room false t = let e′ : broken ≡ holds m = rw (q, t, locateBy) at e in absurd (nope (cc))
           room true t =
-              let e′ : heldOf (readingOf w j (view us (take n ws))) ≡ holds m = rw (q, t, viewBy) at e in
+              let e′ : heldOf (readingOf w j (located us (take n ws))) ≡ holds m = rw (q, t, locateBy) at e in
               let l : n ≤ length ws = leb-true n (length ws) t in
               let k : n ≡ length m = sym (length-take-le n ws l) ∙ by-bytes (take n ws) e′ in
               rw (← k) (fits-of n (length us) (length ws) (length-size j us ws n q) l)
@@ -83,13 +83,13 @@ module _ (w : Bool) where
 -- ---- what a type shows of itself, and what is known of a tag
 
 pub record TlvLaws (T : TlvTag) : Type 0 where
-  pub block-pos : 0 < T .block
+  pub block-pos : 0 < T .block-size
   -- the address before the data area
   pub before : ℕ
   pub first-is : T .layout .first ≡ suc before
   -- an image whose checks pass: whole blocks, short enough for a length field, and the data area inside
   pub bound : (i : List ℕ) → firstOf ((T .checks) i) ≡ fine
-      → (length i ≡ T .block * (length i / T .block)) × (length i ≤ 65534) × (before + (T .layout .size) i < length i)
+      → (length i ≡ T .block-size * (length i / T .block-size)) × (length i ≤ 65534) × (before + (T .layout .size) i < length i)
   -- the refusals of the checks are among 1 to 8
   pub numbered : (i : List ℕ) → Each (λ c. OfReading (c .refusal)) ((T .checks) i)
   -- what reading goes by before the walk lies before the data area
@@ -98,52 +98,52 @@ pub record TlvLaws (T : TlvTag) : Type 0 where
 
 module _ (T : TlvTag) where
   -- the checks pass, and the message TLV has the usable addresses us after its type byte
-  pub record Placed (i us : List ℕ) : Type 0 where
+  pub record TlvPlaced (i us : List ℕ) : Type 0 where
     pub at : ℕ
     pub sound : firstOf ((T .checks) i) ≡ fine
     pub tlv-at : messageTlv (T .layout) i ≡ found at us
 
   -- and the message m may be written there
-  pub record Ready (i m us : List ℕ) : Type 0 where
-    pub placed : Placed i us
+  pub record TlvReady (i m us : List ℕ) : Type 0 where
+    pub placed : TlvPlaced i us
     pub some-bytes : length m ≡ 0 → ⊥
     pub room : fitsIn (length m) (length us) ≡ true
 
-  pub view-placed : (i us ms : List ℕ) → viewed T i ≡ view us ms → Placed i us
-  unfolding viewed
-  view-placed i us ms e = go (firstOf ((T .checks) i)) refl (messageTlv (T .layout) i) refl
+  pub located-placed : (i us ms : List ℕ) → locate T i ≡ located us ms → TlvPlaced i us
+  unfolding locate
+  located-placed i us ms e = go (firstOf ((T .checks) i)) refl (messageTlv (T .layout) i) refl
     where
-      go : (c : Checked) → firstOf ((T .checks) i) ≡ c → (f : Found) → messageTlv (T .layout) i ≡ f → Placed i us
-      go (fault r) p f q = let e′ : refuse r ≡ view us ms = rw p at e in absurd (nope (cc))
-      go fine p (lost r) q = let e′ : refuse r ≡ view us ms = rw (p, q) at e in absurd (nope (cc))
+      go : (c : Checked) → firstOf ((T .checks) i) ≡ c → (f : Found) → messageTlv (T .layout) i ≡ f → TlvPlaced i us
+      go (fault r) p f q = let e′ : refuse r ≡ located us ms = rw p at e in absurd (nope (cc))
+      go fine p (lost r) q = let e′ : refuse r ≡ located us ms = rw (p, q) at e in absurd (nope (cc))
       go fine p (found a vs) q =
-          let e′ : viewBy vs (lengthOf i vs) ≡ view us ms = rw (p, q) at e in
-          record { at = a; sound = p; tlv-at = q ∙ ap (found a) (viewBy-is vs ms us (lengthOf i vs) e′ .0) }
+          let e′ : locateBy vs (lengthOf i vs) ≡ located us ms = rw (p, q) at e in
+          record { at = a; sound = p; tlv-at = q ∙ ap (found a) (locateBy-is vs ms us (lengthOf i vs) e′ .0) }
 
   -- a tag that reads has a view
-  pub reads-view : (i : List ℕ) → (heldOf (reading T i) ≡ broken → ⊥)
-      → (us : List ℕ) × (ms : List ℕ) × (viewed T i ≡ view us ms) × Placed i us
+  pub reads-located : (i : List ℕ) → (heldOf (reading T i) ≡ broken → ⊥)
+      → (us : List ℕ) × (ms : List ℕ) × (locate T i ≡ located us ms) × TlvPlaced i us
   unfolding reading
-  reads-view i h = go (viewed T i) refl
+  reads-located i h = go (locate T i) refl
     where
-      go : (v : View) → viewed T i ≡ v → (us : List ℕ) × (ms : List ℕ) × (viewed T i ≡ view us ms) × Placed i us
+      go : (v : Located) → locate T i ≡ v → (us : List ℕ) × (ms : List ℕ) × (locate T i ≡ located us ms) × TlvPlaced i us
       go (refuse r) q = absurd (h (rw q))
-      go (view us ms) q = (us, ms, q, view-placed i us ms q)
+      go (located us ms) q = (us, ms, q, located-placed i us ms q)
 
   -- and its report is made of that
   pub by-report : (i : List ℕ) (p : Report) → reading T i ≡ reads p
-      → (us : List ℕ) × (ms : List ℕ) × (viewed T i ≡ view us ms) × (reportOf ((T .writable) i) i ms ≡ p)
+      → (us : List ℕ) × (ms : List ℕ) × (locate T i ≡ located us ms) × (reportOf ((T .writable) i) i ms ≡ p)
   unfolding reading
-  by-report i p e = go (viewed T i) refl
+  by-report i p e = go (locate T i) refl
     where
-      go : (v : View) → viewed T i ≡ v → (us : List ℕ) × (ms : List ℕ) × (viewed T i ≡ view us ms) × (reportOf ((T .writable) i) i ms ≡ p)
+      go : (v : Located) → locate T i ≡ v → (us : List ℕ) × (ms : List ℕ) × (locate T i ≡ located us ms) × (reportOf ((T .writable) i) i ms ≡ p)
       go (refuse r) q = let e′ : unreadable r ≡ reads p = rw q at e in absurd (nope (cc))
-      go (view us ms) q = let e′ : reads (reportOf ((T .writable) i) i ms) ≡ reads p = rw q at e in (us, ms, q, cc)
+      go (located us ms) q = let e′ : reads (reportOf ((T .writable) i) i ms) ≡ reads p = rw q at e in (us, ms, q, cc)
 
   -- its usable addresses are those of the message TLV
-  pub usable-is : (i us : List ℕ) → Placed i us → (heldOf (reading T i) ≡ broken → ⊥) → usable (viewed T i) ≡ us
+  pub usable-is : (i us : List ℕ) → TlvPlaced i us → (heldOf (reading T i) ≡ broken → ⊥) → usable (locate T i) ≡ us
   usable-is i us p h =
-      let (vs, ms, q, r) = reads-view i h in
+      let (vs, ms, q, r) = reads-located i h in
       let e : found (r .at) vs ≡ found (p .at) us = sym (r .tlv-at) ∙ p .tlv-at in
       let u : vs ≡ us = cc in
       ap usable q ∙ u
@@ -151,8 +151,8 @@ module _ (T : TlvTag) where
 -- ---- the laws
 
 module _ (T : TlvTag) (laws : TlvLaws T) where
-  module _ (i us : List ℕ) (p : Placed T i us) where
-    pub bounds : (length i ≡ T .block * (length i / T .block)) × (length i ≤ 65534)
+  module _ (i us : List ℕ) (p : TlvPlaced T i us) where
+    pub bounds : (length i ≡ T .block-size * (length i / T .block-size)) × (length i ≤ 65534)
         × (laws .before + (T .layout .size) i < length i)
     bounds = laws .bound i (p .sound)
 
@@ -180,7 +180,7 @@ module _ (T : TlvTag) (laws : TlvLaws T) where
       pub same-writable : (T .writable) j ≡ (T .writable) i
       same-writable = alike .2
 
-      pub same-placed : Placed T j us
+      pub same-placed : TlvPlaced T j us
       same-placed = record {
         at = p .at;
         sound = ap firstOf (alike .0) ∙ p .sound;
@@ -190,28 +190,28 @@ module _ (T : TlvTag) (laws : TlvLaws T) where
             (run (T .layout .first) ((T .layout .size) i)) (p .at) (laws .before) us (started (length i) (bounds .2)) (p .tlv-at) agree);
       }
 
-      pub same-viewed : viewed T j ≡ viewBy us (lengthOf j us)
-      unfolding viewed
-      same-viewed = rw (same-placed .sound) (rw (same-placed .tlv-at))
+      pub same-located : locate T j ≡ locateBy us (lengthOf j us)
+      unfolding locate
+      same-located = rw (same-placed .sound) (rw (same-placed .tlv-at))
 
-      same-held : heldOf (reading T j) ≡ heldOf (readingOf ((T .writable) j) j (viewBy us (lengthOf j us)))
+      same-held : heldOf (reading T j) ≡ heldOf (readingOf ((T .writable) j) j (locateBy us (lengthOf j us)))
       unfolding reading
-      same-held = rw same-viewed
+      same-held = rw same-located
 
       -- with a first length byte 00h it holds no message
       pub first-quiet : 0 < length us → byte j (lengthAt us) ≡ 0 → heldOf (reading T j) ≡ nothing
-      first-quiet l e = same-held ∙ view-quiet ((T .writable) j) us j l e
+      first-quiet l e = same-held ∙ located-quiet ((T .writable) j) us j l e
 
       -- what it holds fits
       pub held-fits : (m : List ℕ) → heldOf (reading T j) ≡ holds m → fitsIn (length m) (length us) ≡ true
-      held-fits m e = view-fits ((T .writable) j) us j m (sym same-held ∙ e)
+      held-fits m e = located-fits ((T .writable) j) us j m (sym same-held ∙ e)
 
       -- so that it holds no message that does not fit
       pub too-long : (m : List ℕ) → fitsIn (length m) (length us) ≡ false → heldOf (reading T j) ≡ holds m → ⊥
       too-long m f e = true-false (held-fits m e) f
 
   -- what writing sets
-  module _ (i m us : List ℕ) (r : Ready T i m us) where
+  module _ (i m us : List ℕ) (r : TlvReady T i m us) where
     pub new-agrees : (x : ℕ) → x ≤ r .placed .at → byte (overlay us (tlvBytes m) i) x ≡ byte i x
     new-agrees x l =
         overlay-out us (tlvBytes m) i x (above-unset (length i) us (tlvBytes m) (r .placed .at) x (beyond i us (r .placed) .1) l)
@@ -222,7 +222,7 @@ module _ (T : TlvTag) (laws : TlvLaws T) where
         let p = r .placed in
         let b : length i ≤ 65534 = bounds i us p .1 in
         let w : Written us m j = written (length i) us m i (p .at) (beyond i us p .1) (omega arith) b (r .room) in
-        same-held i us p j (length-overlay us (tlvBytes m) i) new-agrees ∙ view-written ((T .writable) j) us m j w (r .some-bytes)
+        same-held i us p j (length-overlay us (tlvBytes m) i) new-agrees ∙ located-written ((T .writable) j) us m j w (r .some-bytes)
 
     pub some-room : 0 < length us
     some-room = omega (arith, fits-less (length m) (length us) (r .room))

@@ -20,12 +20,12 @@ use Rattle.tag.proofs.Guarded.{Cell, shut, old, fresh, Between}
 use Rattle.tag.proofs.Blocks.{block-of}
 use Rattle.tag.proofs.Writes.{Sound}
 use Rattle.tag.proofs.Laws.{Near}
-use Rattle.tlv_tag.specs.Message.{TlvTag, viewed, reportOf, reading}
+use Rattle.tlv_tag.specs.Message.{TlvTag, locate, reportOf, reading}
 use Rattle.tlv_tag.specs.Update.{usable, fitsIn, tlvBytes, lengthAt, plan}
 use Rattle.tlv_tag.specs.Tag.{tagOf}
 use Rattle.tlv_tag.proofs.Field.{first-set}
 use Rattle.tlv_tag.proofs.Tag as tlv
-use Rattle.tlv_tag.proofs.Tag.{TlvLaws, Placed, view-placed, reads-view, by-report, usable-is}
+use Rattle.tlv_tag.proofs.Tag.{TlvLaws, TlvPlaced, located-placed, reads-located, by-report, usable-is}
 
 pub report-writable : (w : Bool) (i ms : List ℕ) → reportOf w i ms .writable ≡ w
 report-writable w i [] = refl
@@ -34,25 +34,25 @@ report-writable w i (a ∷ ms) = refl
 module _ (K : TlvTag) where
   -- the usable addresses after the type byte
   abbrev pub room : List ℕ → List ℕ
-  room i = usable (viewed K i)
+  room i = usable (locate K i)
 
-  pub placed : (i : List ℕ) (p : Report) → reading K i ≡ reads p → Placed K i (room i) × (p .writable ≡ (K .writable) i)
+  pub placed : (i : List ℕ) (p : Report) → reading K i ≡ reads p → TlvPlaced K i (room i) × (p .writable ≡ (K .writable) i)
   placed i p e =
       let (us, ms, q, f) = by-report K i p e in
-      (rw q (view-placed K i us ms q), ap (λ r. r .writable) (sym f) ∙ report-writable ((K .writable) i) i ms)
+      (rw q (located-placed K i us ms q), ap (λ r. r .writable) (sym f) ∙ report-writable ((K .writable) i) i ms)
 
 module _ (K : TlvTag) (laws : TlvLaws K) (command : List ℕ → List ℕ → Command) (span : List ℕ → List ℕ → ℕ) (encoded : List Store → List ℕ) where
   abbrev T : TagType
   T = tagOf K command span encoded
 
-  pub prepared : (i m : List ℕ) → Ready T i m → tlv.Ready K i m (room K i)
+  pub prepared : (i m : List ℕ) → Ready T i m → tlv.TlvReady K i m (room K i)
   prepared i m r = record { placed = placed K i (r .report) (r .reads-as) .0; some-bytes = r .some-bytes; room = r .room }
 
   module _ (i m : List ℕ) (r : Ready T i m) where
     abbrev us : List ℕ
     us = room K i
 
-    abbrev at : Placed K i (room K i)
+    abbrev at : TlvPlaced K i (room K i)
     at = prepared i m r .placed
 
     pub some : 0 < length (room K i)
@@ -62,28 +62,28 @@ module _ (K : TlvTag) (laws : TlvLaws K) (command : List ℕ → List ℕ → Co
     front = tlv.front K laws i (room K i) at some
 
     -- up to the type byte every tag in between is as it was
-    agrees : (j : List ℕ) → Between (inBlock (K .block) (plan K i m .guard)) i (plan K i m .closed) (overlay us (tlvBytes m) i) j
+    agrees : (j : List ℕ) → Between (inBlock (K .block-size) (plan K i m .guard)) i (plan K i m .closed) (overlay us (tlvBytes m) i) j
         → (x : ℕ) → x ≤ at .at → byte j x ≡ byte i x
     agrees j b x l = go (b .1 x (omega (arith, front)))
       where
-        go : Cell (inBlock (K .block) (plan K i m .guard)) i (plan K i m .closed) (overlay us (tlvBytes m) i) j x → byte j x ≡ byte i x
+        go : Cell (inBlock (K .block-size) (plan K i m .guard)) i (plan K i m .closed) (overlay us (tlvBytes m) i) j x → byte j x ≡ byte i x
         go (shut q e) = e ∙ getD-set-other i (lengthAt us) x 0 0 (omega (arith, front .0))
         go (old q e) = e
         go (fresh q e) = e ∙ tlv.new-agrees K laws i m us (prepared i m r) x l
 
-    quiet : (j : List ℕ) → Between (inBlock (K .block) (plan K i m .guard)) i (plan K i m .closed) (overlay us (tlvBytes m) i) j
+    quiet : (j : List ℕ) → Between (inBlock (K .block-size) (plan K i m .guard)) i (plan K i m .closed) (overlay us (tlvBytes m) i) j
         → Rattle.tag.specs.TagType.held T j ≡ nothing
     quiet j b = tlv.first-quiet K laws i us at j (b .0) (agrees j b) some (go (b .1 (lengthAt us) (front .1)))
       where
-        go : Cell (inBlock (K .block) (plan K i m .guard)) i (plan K i m .closed) (overlay us (tlvBytes m) i) j (lengthAt us) → byte j (lengthAt us) ≡ 0
+        go : Cell (inBlock (K .block-size) (plan K i m .guard)) i (plan K i m .closed) (overlay us (tlvBytes m) i) j (lengthAt us) → byte j (lengthAt us) ≡ 0
         go (shut q e) = e ∙ getD-set-same i (lengthAt us) 0 0 (front .1)
-        go (old q e) = absurd (true-false (block-of (K .block) (lengthAt us) (laws .block-pos)) q)
-        go (fresh q e) = absurd (true-false (block-of (K .block) (lengthAt us) (laws .block-pos)) q)
+        go (old q e) = absurd (true-false (block-of (K .block-size) (lengthAt us) (laws .block-pos)) q)
+        go (fresh q e) = absurd (true-false (block-of (K .block-size) (lengthAt us) (laws .block-pos)) q)
 
-    pub whole : length i ≡ K .block * (length i / K .block)
+    pub whole : length i ≡ K .block-size * (length i / K .block-size)
     whole = tlv.bounds K laws i us at .0
 
-    guard-inside : plan K i m .guard < length i / K .block
+    guard-inside : plan K i m .guard < length i / K .block-size
     guard-inside = div-lt-iff-lt-mul (laws .block-pos) .1 (omega (arith, front .1, whole))
 
     pub sound : Sound T i m (plan K i m)
@@ -112,7 +112,7 @@ module _ (K : TlvTag) (laws : TlvLaws K) (command : List ℕ → List ℕ → Co
       pub still-ready : Ready T j m
       unfolding reading
       still-ready =
-          let (vs, ms, q, p) = reads-view K j (n .readable) in
+          let (vs, ms, q, p) = reads-located K j (n .readable) in
           record {
             report = reportOf ((K .writable) j) j ms;
             reads-as = rw q;

@@ -17,30 +17,30 @@ pub record TlvTag : Type 0 where
   -- refusals 1 to 5
   pub checks : List ℕ → List Check
   pub writable : List ℕ → Bool
-  -- the bytes of a block
-  pub block : ℕ
+  -- how many bytes a block has
+  pub block-size : ℕ
 
 -- a refusal; or the usable addresses after the message TLV's type byte, and those of the message
-pub data View : Type 0 where
-  refuse : ℕ → View
-  view : List ℕ → List ℕ → View
+pub data Located : Type 0 where
+  refuse : ℕ → Located
+  located : List ℕ → List ℕ → Located
 
 -- the message TLV, once its length is taken
-unfoldable pub viewBy : List ℕ → Length → View
-viewBy us bad = refuse bad-length
-viewBy us (len n vs) = cond (leb n (length vs)) (view us (take n vs)) (refuse bad-length)
+unfoldable pub locateBy : List ℕ → Length → Located
+locateBy us bad = refuse bad-length
+locateBy us (len n vs) = cond (leb n (length vs)) (located us (take n vs)) (refuse bad-length)
 
-abbrev pub viewOf : List ℕ → Found → View
-viewOf i (lost r) = refuse r
-viewOf i (found a us) = viewBy us (lengthOf i us)
+abbrev pub locateFrom : List ℕ → Found → Located
+locateFrom i (lost r) = refuse r
+locateFrom i (found a us) = locateBy us (lengthOf i us)
 
-abbrev pub viewAfter : TlvTag → List ℕ → Checked → View
-viewAfter T i fine = viewOf i (messageTlv (T .layout) i)
-viewAfter T i (fault r) = refuse r
+abbrev pub locateAfter : TlvTag → List ℕ → Checked → Located
+locateAfter T i fine = locateFrom i (messageTlv (T .layout) i)
+locateAfter T i (fault r) = refuse r
 
 -- refusals 1 to 5, then the walk, then the message
-unfoldable pub viewed : TlvTag → List ℕ → View
-viewed T i = viewAfter T i (firstOf ((T .checks) i))
+unfoldable pub locate : TlvTag → List ℕ → Located
+locate T i = locateAfter T i (firstOf ((T .checks) i))
 
 -- length 0 reads as empty; else the message is its value bytes, skipped addresses left out
 abbrev pub reportOf : Bool → List ℕ → List ℕ → Report
@@ -53,9 +53,9 @@ reportOf w i (a ∷ ms) = record {
   writable = w;
 }
 
-abbrev pub readingOf : Bool → List ℕ → View → Reading
+abbrev pub readingOf : Bool → List ℕ → Located → Reading
 readingOf w i (refuse r) = unreadable r
-readingOf w i (view us ms) = reads (reportOf w i ms)
+readingOf w i (located us ms) = reads (reportOf w i ms)
 
 unfoldable pub reading : TlvTag → List ℕ → Reading
-reading T i = readingOf ((T .writable) i) i (viewed T i)
+reading T i = readingOf ((T .writable) i) i (locate T i)

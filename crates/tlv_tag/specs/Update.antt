@@ -6,12 +6,12 @@ use Prim.Native.Nat.{ℕ, _+_, _/_, _%_}
 use lib.Dec.{leb}
 use lib.ListN.{length, getD, set}
 use Rattle.tag.specs.Plan.{Plan}
-use Rattle.tlv_tag.specs.Message.{TlvTag, View, refuse, view, viewed}
+use Rattle.tlv_tag.specs.Message.{TlvTag, Located, refuse, located, locate}
 
 -- the usable addresses after the type byte
-abbrev pub usable : View → List ℕ
+abbrev pub usable : Located → List ℕ
 usable (refuse r) = []
-usable (view us ms) = us
+usable (located us ms) = us
 
 -- u usable bytes have room for a message of n, with its length
 unfoldable pub fitsIn : ℕ → ℕ → Bool
@@ -34,14 +34,14 @@ abbrev pub planBy : ℕ → List ℕ → List ℕ → List ℕ → Plan
 planBy z us i m = record {
   addresses = us;
   values = tlvBytes m;
-  size = z;
+  block-size = z;
   width = 1;
   guard = lengthAt us / z;
   closed = set i (lengthAt us) 0x00;
 }
 
 abbrev pub fits : TlvTag → List ℕ → ℕ → Bool
-fits T i n = fitsIn n (length (usable (viewed T i)))
+fits T i n = fitsIn n (length (usable (locate T i)))
 
 abbrev pub plan : TlvTag → List ℕ → List ℕ → Plan
-plan T i m = planBy (T .block) (usable (viewed T i)) i m
+plan T i m = planBy (T .block-size) (usable (locate T i)) i m

@@ -12,8 +12,8 @@ ghost use lib.ListN.{length};
 ghost use Rattle.tlv.specs.Views.Counted.{Declared};
 ghost use Rattle.tlv.specs.Views.Walks.{ahead};
 ghost use Rattle.tlv_tag.specs.Views.Space.{spaceOf, Room};
-ghost use Rattle.tlv_tag.specs.Views.Blank.{Blank};
-ghost use Rattle.tlv_tag.specs.Views.Reading.{areaView};
+ghost use Rattle.tlv_tag.specs.Views.BlankArea.{BlankArea};
+ghost use Rattle.tlv_tag.specs.Views.Reading.{areaLocated};
 ghost use Rattle.tlv_tag.specs.Views.Update.{Spare, Prepared, PreparedIn, LeftAlone};
 
 // A refusal; or the address of the first length byte.
@@ -66,8 +66,8 @@ pub fn prepare(
     new: &mut [u8],
     marks: &mut [u8],
 ) -> Preparation
-    requires { ⌜ Blank (now image) (now table) (first .0) (end .0) × Spare size (now image) (now new) (now marks) ⌝ }
-    ensures prepared { λ r. ⌜ PreparedIn size (spaceOf writable (length (now (message .entry))) (areaView (now (image .entry)) (first .0) (end .0))) (now (image .entry)) (now (message .entry)) (now (new .exit)) (now (marks .exit)) r ⌝ }
+    requires { ⌜ BlankArea (now image) (now table) (first .0) (end .0) × Spare size (now image) (now new) (now marks) ⌝ }
+    ensures prepared { λ r. ⌜ PreparedIn size (spaceOf writable (length (now (message .entry))) (areaLocated (now (image .entry)) (first .0) (end .0))) (now (image .entry)) (now (message .entry)) (now (new .exit)) (now (marks .exit)) r ⌝ }
     ensures refused { λ r. ⌜ LeftAlone (now (new .entry)) (now (marks .entry)) (now (new .exit)) (now (marks .exit)) r ⌝ }
     ensures table { λ _. ⌜ Declared (first .0) (end .0) (now (table .entry)) (now (table .exit)) ⌝ }
 {

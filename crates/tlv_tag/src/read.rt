@@ -19,8 +19,8 @@ ghost use Rattle.tag.specs.Contracts.{ReadOf};
 ghost use Rattle.tlv.specs.Views.Counted.{Declared};
 ghost use Rattle.tlv.specs.Views.Walks.{ahead, Placed};
 ghost use Rattle.tlv_tag.specs.Message.{readingOf};
-ghost use Rattle.tlv_tag.specs.Views.Blank.{Blank};
-ghost use Rattle.tlv_tag.specs.Views.Reading.{areaView, tlvView, valueReading, refusalOf, reportAs};
+ghost use Rattle.tlv_tag.specs.Views.BlankArea.{BlankArea};
+ghost use Rattle.tlv_tag.specs.Views.Reading.{areaLocated, tlvLocated, valueReading, refusalOf, reportAs};
 
 // The answer for a message that is there, from the walk before its first byte: gathered if it is interrupted, unless the
 // buffer is shorter.
@@ -85,7 +85,7 @@ fn read_message(
     writable: bool,
 ) -> ReadAnswer
     requires { ⌜ Placed (now image) (now table) w ⌝ }
-    ensures read { λ r. ⌜ ReadOf (readingOf writable (now (image .entry)) (tlvView (now (image .entry)) (ahead (now (table .entry)) w))) (now (gathered .entry)) r (now (gathered .exit)) ⌝ }
+    ensures read { λ r. ⌜ ReadOf (readingOf writable (now (image .entry)) (tlvLocated (now (image .entry)) (ahead (now (table .entry)) w))) (now (gathered .entry)) r (now (gathered .exit)) ⌝ }
 {
     match w.take_length(image, table) {
         Field::Bad => ReadAnswer::Refused(refusals::BAD_LENGTH),
@@ -102,8 +102,8 @@ pub fn read_area(
     end: Address,
     writable: bool,
 ) -> ReadAnswer
-    requires { ⌜ Blank (now image) (now table) (first .0) (end .0) ⌝ }
-    ensures read { λ r. ⌜ ReadOf (readingOf writable (now (image .entry)) (areaView (now (image .entry)) (first .0) (end .0))) (now (gathered .entry)) r (now (gathered .exit)) ⌝ }
+    requires { ⌜ BlankArea (now image) (now table) (first .0) (end .0) ⌝ }
+    ensures read { λ r. ⌜ ReadOf (readingOf writable (now (image .entry)) (areaLocated (now (image .entry)) (first .0) (end .0))) (now (gathered .entry)) r (now (gathered .exit)) ⌝ }
     ensures table { λ _. ⌜ Declared (first .0) (end .0) (now (table .entry)) (now (table .exit)) ⌝ }
 {
     let w = Walk::new(first, end);
@@ -116,7 +116,7 @@ pub fn read_area(
 // The refusal of the message TLV, or 0, from the walk past its type byte: it is refused just where it could not be passed over.
 pub(crate) fn message_refusal(image: &[u8], table: &[u16], w: Walk) -> u8
     requires { ⌜ Placed (now image) (now table) w ⌝ }
-    ensures { λ r. ⌜ r ≡ refusalOf (tlvView (now (image .entry)) (ahead (now (table .entry)) w)) ⌝ }
+    ensures { λ r. ⌜ r ≡ refusalOf (tlvLocated (now (image .entry)) (ahead (now (table .entry)) w)) ⌝ }
 {
     match w.pass_other(image, table) {
         Passed::Refused(r) => r,
@@ -126,8 +126,8 @@ pub(crate) fn message_refusal(image: &[u8], table: &[u16], w: Walk) -> u8
 
 // The refusal of the data area from `first` up to `end`, or 0, with a table of zeros to mark skipped addresses in.
 pub fn area_refusal(image: &[u8], table: &mut [u16], first: Address, end: Address) -> u8
-    requires { ⌜ Blank (now image) (now table) (first .0) (end .0) ⌝ }
-    ensures is { λ r. ⌜ r ≡ refusalOf (areaView (now (image .entry)) (first .0) (end .0)) ⌝ }
+    requires { ⌜ BlankArea (now image) (now table) (first .0) (end .0) ⌝ }
+    ensures is { λ r. ⌜ r ≡ refusalOf (areaLocated (now (image .entry)) (first .0) (end .0)) ⌝ }
     ensures table { λ _. ⌜ Declared (first .0) (end .0) (now (table .entry)) (now (table .exit)) ⌝ }
 {
     let w = Walk::new(first, end);

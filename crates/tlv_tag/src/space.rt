@@ -11,11 +11,11 @@ ghost use mathlib.Core.List.{List};
 ghost use Prim.Native.Nat.{ℕ};
 ghost use Rattle.tlv.specs.Views.Counted.{Declared};
 ghost use Rattle.tlv.specs.Views.Walks.{ahead, Placed};
-ghost use Rattle.tlv_tag.specs.Message.{view};
+ghost use Rattle.tlv_tag.specs.Message.{located};
 ghost use Rattle.tlv_tag.specs.Update.{fitsIn};
 ghost use Rattle.tlv_tag.specs.Views.Space.{spaceOf, spaceAs, SpaceHere, SpacePlaced};
-ghost use Rattle.tlv_tag.specs.Views.Blank.{Blank};
-ghost use Rattle.tlv_tag.specs.Views.Reading.{areaView, tlvView};
+ghost use Rattle.tlv_tag.specs.Views.BlankArea.{BlankArea};
+ghost use Rattle.tlv_tag.specs.Views.Reading.{areaLocated, tlvLocated};
 
 // A refusal; or the walk past the message TLV's type byte, where the message with its length has room.
 pub enum Space {
@@ -39,7 +39,7 @@ fn fits(n: usize, room: usize) -> bool
 // Refusals 9, 10 and 11, in this order, for the usable bytes from the walk's place on.
 fn space_at(w: Walk, n: usize, image: &[u8], table: &[u16], writable: bool) -> Space
     requires { ⌜ Placed (now image) (now table) w ⌝ }
-    ensures is { λ r. ⌜ ((ms : List ℕ) → spaceAs (now (table .entry)) r ≡ spaceOf writable n (view (ahead (now (table .entry)) w) ms)) ⌝ }
+    ensures is { λ r. ⌜ ((ms : List ℕ) → spaceAs (now (table .entry)) r ≡ spaceOf writable n (located (ahead (now (table .entry)) w) ms)) ⌝ }
     ensures here { λ r. ⌜ SpaceHere (now (image .entry)) (now (table .entry)) n w r ⌝ }
 {
     if n == 0 {
@@ -58,7 +58,7 @@ fn space_at(w: Walk, n: usize, image: &[u8], table: &[u16], writable: bool) -> S
 // The message TLV whose type byte the walk has just passed: its own refusal comes first.
 fn space_after(w: Walk, n: usize, image: &[u8], table: &[u16], writable: bool) -> Space
     requires { ⌜ Placed (now image) (now table) w ⌝ }
-    ensures is { λ r. ⌜ spaceAs (now (table .entry)) r ≡ spaceOf writable n (tlvView (now (image .entry)) (ahead (now (table .entry)) w)) ⌝ }
+    ensures is { λ r. ⌜ spaceAs (now (table .entry)) r ≡ spaceOf writable n (tlvLocated (now (image .entry)) (ahead (now (table .entry)) w)) ⌝ }
     ensures here { λ r. ⌜ SpaceHere (now (image .entry)) (now (table .entry)) n w r ⌝ }
 {
     let refusal = read::message_refusal(image, table, w);
@@ -77,8 +77,8 @@ pub fn find_space(
     end: Address,
     writable: bool,
 ) -> Space
-    requires { ⌜ Blank (now image) (now table) (first .0) (end .0) ⌝ }
-    ensures is { λ r. ⌜ spaceAs (now (table .exit)) r ≡ spaceOf writable n (areaView (now (image .entry)) (first .0) (end .0)) ⌝ }
+    requires { ⌜ BlankArea (now image) (now table) (first .0) (end .0) ⌝ }
+    ensures is { λ r. ⌜ spaceAs (now (table .exit)) r ≡ spaceOf writable n (areaLocated (now (image .entry)) (first .0) (end .0)) ⌝ }
     ensures placed { λ r. ⌜ SpacePlaced (now (image .entry)) (now (table .exit)) n (first .0) (end .0) r ⌝ }
     ensures table { λ _. ⌜ Declared (first .0) (end .0) (now (table .entry)) (now (table .exit)) ⌝ }
 {

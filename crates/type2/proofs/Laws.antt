@@ -16,7 +16,7 @@ use Rattle.tag.proofs.Each.{Each, each-of}
 use Rattle.tag.proofs.Blocks.{in-block, block-of}
 use Rattle.tag.proofs.Sending.{Named, Sized, Nameable, list-good, touch-bounds}
 use Rattle.tag.proofs.Laws.{Laws, Sent}
-use Rattle.tlv_tag.specs.Message.{viewed}
+use Rattle.tlv_tag.specs.Message.{locate}
 use Rattle.tlv_tag.specs.Update.{usable, tlvBytes, lengthAt, plan}
 use Rattle.tlv_tag.proofs.Tag as tlv
 use Rattle.tlv_tag.proofs.Writes as writes
@@ -31,9 +31,9 @@ use Rattle.type2.proofs.Codec.{Sendable, sent, length-sent}
 module _ (i m : List ℕ) (r : Ready type2 i m) where
   -- the usable addresses after the type byte, and what is known of the message TLV
   abbrev us : List ℕ
-  us = usable (viewed memory i)
+  us = usable (locate memory i)
 
-  place : tlv.Placed memory i (usable (viewed memory i))
+  place : tlv.TlvPlaced memory i (usable (locate memory i))
   place = writes.prepared memory memory-laws command span encoded i m r .placed
 
   whole : length i ≡ 4 * (length i / 4)

@@ -12,16 +12,16 @@ use Rattle.tag.specs.Checks.{firstOf}
 use Rattle.tag.specs.Reading.{unreadable, refusalNumber}
 use Rattle.tlv.specs.Areas.{allowedArea}
 use Rattle.tlv.specs.Walk.{find}
-use Rattle.tlv_tag.specs.Message.{viewOf, viewAfter, viewed, readingOf, reading}
-use Rattle.tlv_tag.specs.Views.Blank.{Blank}
-use Rattle.tlv_tag.specs.Views.Reading.{areaView, refusalOf}
+use Rattle.tlv_tag.specs.Message.{locateFrom, locateAfter, locate, readingOf, reading}
+use Rattle.tlv_tag.specs.Views.BlankArea.{BlankArea}
+use Rattle.tlv_tag.specs.Views.Reading.{areaLocated, refusalOf}
 use Rattle.tlv_tag.proofs.Reading.{reading-fault, reading-refusal}
 use Rattle.type2.specs.declared.container.DataArea.{DataArea}
 use Rattle.type2.specs.declared.container.DataArea.the-variants as code
 use Rattle.type2.specs.Memory.{memory}
 use Rattle.type2.specs.Type2.{type2}
 use Rattle.type2.specs.Views.Container.{checkedAs, InsideArea, Inside, Known}
-use Rattle.type2.specs.Views.Table.{Clear}
+use Rattle.tag.specs.Views.Blank.{Blank}
 
 -- a check fails
 pub refused : (i : List ℕ) (d : DataArea) (n : ℕ) → checkedAs d ≡ firstOf ((memory .checks) i) → d ≡ code.Refused n → (type2 .reading) i ≡ unreadable n
@@ -33,26 +33,26 @@ pub checks-pass : (i : List ℕ) (d : DataArea) (end : Address) (w : Bool) → c
 checks-pass i d end w e k g =
     record { sound = sym e ∙ ap checkedAs g; area = subst (Known i ((memory .writable) i)) g k }
 
--- a clear table is blank over the data area
-pub blank : (i t : List ℕ) (end : ℕ) (w : Bool) → InsideArea i ((memory .writable) i) end w → Clear t → Blank i t 16 end
+-- a blank table skips nothing of the data area
+pub blank : (i t : List ℕ) (end : ℕ) (w : Bool) → InsideArea i ((memory .writable) i) end w → Blank 1024 t → BlankArea i t 16 end
 blank i t end w k h = record {
   ordered = omega (arith, k .ends);
   in-table = omega (arith, k .inside, k .short, h .size);
   in-image = k .inside;
   short = omega (arith, h .size);
-  clear = h .zeros;
+  zeros = h .zeros;
 }
 
 module _ (i : List ℕ) (end : ℕ) (w : Bool) (h : Inside i end w) where
-  pub inside-view : viewed memory i ≡ areaView i 16 end
-  unfolding viewed
-  inside-view =
+  pub inside-located : locate memory i ≡ areaLocated i 16 end
+  unfolding locate
+  inside-located =
       let e : 8 * byte i 14 ≡ end - 16 = omega (arith, h .area .ends) in
-      ap (viewAfter memory i) (h .sound) ∙ ap (λ n. viewOf i (find (allowedArea 16 (length i)) n i (run 16 n))) e
+      ap (locateAfter memory i) (h .sound) ∙ ap (λ n. locateFrom i (find (allowedArea 16 (length i)) n i (run 16 n))) e
 
-  pub by-area : (type2 .reading) i ≡ readingOf w i (areaView i 16 end)
+  pub by-area : (type2 .reading) i ≡ readingOf w i (areaLocated i 16 end)
   unfolding reading
-  by-area = rw (h .area .access) (ap (readingOf ((memory .writable) i) i) inside-view)
+  by-area = rw (h .area .access) (ap (readingOf ((memory .writable) i) i) inside-located)
 
-  pub refusal-by-area : refusalNumber ((type2 .reading) i) ≡ refusalOf (areaView i 16 end)
-  refusal-by-area = ap refusalNumber by-area ∙ reading-refusal w i (areaView i 16 end)
+  pub refusal-by-area : refusalNumber ((type2 .reading) i) ≡ refusalOf (areaLocated i 16 end)
+  refusal-by-area = ap refusalNumber by-area ∙ reading-refusal w i (areaLocated i 16 end)

@@ -20,9 +20,9 @@ imageLength n = eqb (n % 4) 0 && leb 64 n && leb n 1024
 
 -- refusals 1 to 5, by the image's length and the bytes of the capability container
 abbrev pub containerChecks : ℕ → ℕ → ℕ → ℕ → ℕ → List Check
-containerChecks n mark version size access =
+containerChecks n magic version size access =
     check (imageLength n) image-size
-    ∷ check (eqb mark 0xE1) not-ndef
+    ∷ check (eqb magic 0xE1) not-ndef
     ∷ check (knownVersion version) unknown-version
     ∷ check (eqb access 0x00 || eqb access 0x0F) bad-access
     ∷ check (leb (16 + 8 * size) n) bad-data-area
@@ -38,5 +38,5 @@ memory = record {
   layout = layout;
   checks = λ i. containerChecks (length i) (byte i 12) (byte i 13) (byte i 14) (byte i 15);
   writable = λ i. eqb (byte i 15) 0x00;
-  block = 4;
+  block-size = 4;
 }

@@ -1,4 +1,3 @@
 -- Views of the code of Type 2 tags.
 pub mod Container
-pub mod Table
 pub mod Kept

@@ -43,10 +43,17 @@ fn nameable(block: usize, blocks: usize) -> bool
 }
 
 // The six bytes of a command, whether or not its block may be named.
-fn command_bytes(block: u8, four: [u8; container::BLOCK_SIZE]) -> [u8; LENGTH]
-    ensures { λ r. ⌜ r ≡ commandBytes block four ⌝ }
+fn command_bytes(block: u8, blockdata: [u8; container::BLOCK_SIZE]) -> [u8; LENGTH]
+    ensures { λ r. ⌜ r ≡ commandBytes block blockdata ⌝ }
 {
-    [0xA2, block, four[0], four[1], four[2], four[3]]
+    [
+        0xA2,
+        block,
+        blockdata[0],
+        blockdata[1],
+        blockdata[2],
+        blockdata[3],
+    ]
 }
 
 // Writes the command's bytes to the front of `bytes`: 20 if its block may not be named, 12 if they do not fit.
@@ -54,14 +61,14 @@ pub fn encode(command: Command, blocks: usize, bytes: &mut [u8]) -> CountAnswer
     ensures { λ r. ⌜ EncodedTo blocks command (now (bytes .entry)) r (now (bytes .exit)) ⌝ }
 {
     let block = command.block.0;
-    let four = command.bytes;
+    let blockdata = command.bytes;
     if !nameable(block, blocks) {
         return CountAnswer::Refused(refusals::MALFORMED_COMMAND);
     }
     if bytes.len() < LENGTH {
         return CountAnswer::Refused(refusals::SHORT_BUFFER);
     }
-    let whole = command_bytes(block as u8, four);
+    let whole = command_bytes(block as u8, blockdata);
     slices::store(&whole, 0, bytes);
     CountAnswer::Count(LENGTH)
 }
@@ -93,8 +100,11 @@ fn carried(bytes: &[u8]) -> Command
     ensures { λ r. ⌜ r ≡ commandAs (decoded (byte (now (bytes .entry)) 1) (drop 2 (now (bytes .entry)))) ⌝ }
 {
     let block = Block(bytes[1] as usize);
-    let four = [bytes[2], bytes[3], bytes[4], bytes[5]];
-    Command { block, bytes: four }
+    let blockdata = [bytes[2], bytes[3], bytes[4], bytes[5]];
+    Command {
+        block,
+        bytes: blockdata,
+    }
 }
 
 // Reads a command: 20 if the bytes are not well formed.

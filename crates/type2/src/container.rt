@@ -23,7 +23,7 @@ pub const LONGEST_IMAGE: usize = 1024;
 pub const MOST_BLOCKS: usize = LONGEST_IMAGE / BLOCK_SIZE;
 
 // The addresses of the container's four bytes, from here to ACCESS.
-pub const MARK: usize = 12;
+pub const MAGIC: usize = 12;
 
 const VERSION: usize = 13;
 
@@ -69,7 +69,7 @@ pub fn data_area(image: &[u8]) -> DataArea
     if LONGEST_IMAGE < n {
         return DataArea::Refused(refusals::IMAGE_SIZE);
     }
-    if image[MARK] != 0xE1 {
+    if image[MAGIC] != 0xE1 {
         return DataArea::Refused(refusals::NOT_NDEF);
     }
     if !version::is_known(image[VERSION]) {

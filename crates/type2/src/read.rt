@@ -11,11 +11,11 @@ ghost use mathlib.Core.Path.{_≡_};
 ghost use Rattle.tag.specs.Reading.{refusalNumber};
 ghost use Rattle.tag.specs.Contracts.{Read, Showed};
 ghost use Rattle.type2.specs.Type2.{type2};
-ghost use Rattle.type2.specs.Views.Table.{Clear};
+ghost use Rattle.tag.specs.Views.Blank.{Blank};
 
 // Reading, with the skip table lent.
 fn read_with(image: &[u8], gathered: &mut [u8], table: &mut [u16]) -> ReadAnswer
-    requires { ⌜ Clear (now table) ⌝ }
+    requires { ⌜ Blank 1024 (now table) ⌝ }
     ensures { λ r. ⌜ Read (type2 .reading) (now (image .entry)) (now (gathered .entry)) r (now (gathered .exit)) ⌝ }
 {
     match container::data_area(image) {
@@ -51,7 +51,7 @@ pub fn shown<'a>(image: &'a [u8], gathered: &'a [u8], answer: ReadAnswer) -> &'a
 
 // Reading's refusal, with the skip table lent.
 fn refusal_with(image: &[u8], table: &mut [u16]) -> u8
-    requires { ⌜ Clear (now table) ⌝ }
+    requires { ⌜ Blank 1024 (now table) ⌝ }
     ensures { λ r. ⌜ r ≡ refusalNumber ((type2 .reading) (now (image .entry))) ⌝ }
 {
     match container::data_area(image) {

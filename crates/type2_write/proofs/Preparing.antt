@@ -12,8 +12,9 @@ use Rattle.tlv_tag.specs.declared.prepare.Preparation as code
 use Rattle.tlv_tag.specs.declared.prepare.Preparation.the-variants as answer
 use Rattle.tlv_tag.specs.Update.{lengthAt, planBy}
 use Rattle.tlv_tag.specs.Views.Space.{space, spaceOf}
-use Rattle.tlv_tag.specs.Views.Reading.{areaView}
+use Rattle.tlv_tag.specs.Views.Reading.{areaLocated}
 use Rattle.tlv_tag.specs.Views.Update.{Spare, Prepared, PreparedIn}
+use Rattle.tag.specs.Views.Blank.{Blank}
 use Rattle.type2.specs.Type2.{type2}
 use Rattle.type2.specs.Views.Container.{Inside}
 use Rattle.type2.proofs.Memory.{whole-blocks}
@@ -21,7 +22,6 @@ use Rattle.type2.proofs.Deciding.{no-space-writing, space-writing}
 use Rattle.one_block_write.specs.Views.Listing.{guardedOutput, Listed}
 use Rattle.one_block_write.proofs.Plans.{plan-output}
 use Rattle.type2_write.specs.Views.Listing.{front, shutBytes}
-use Rattle.type2_write.specs.Views.Writing.{Unmarked}
 use Rattle.type2_write.proofs.Shutting.{length-shut}
 
 -- ---- the list
@@ -36,22 +36,22 @@ module _ (us i m new marks : List ℕ) (first : ℕ) (p : Prepared 4 us i m new 
 -- ---- by the answer
 
 module _ (i m : List ℕ) (end : ℕ) (w : Bool) (h : Inside i end w) where
-  pub spare : (new marks : List ℕ) → length new ≡ length i → Unmarked marks → Spare 4 i new marks
+  pub spare : (new marks : List ℕ) → length new ≡ length i → Blank 256 marks → Spare 4 i new marks
   spare new marks e u = record {
     some-size = omega arith;
     as-long = e;
     each-marked = omega (arith, h .area .short, u .size);
-    unmarked = u .zeros;
+    zeros = u .zeros;
   }
 
   -- the new image and the marks afterwards, and the answer
-  module _ (new marks : List ℕ) (r : code.Preparation) (p : PreparedIn 4 (spaceOf w (length m) (areaView i 16 end)) i m new marks r) where
+  module _ (new marks : List ℕ) (r : code.Preparation) (p : PreparedIn 4 (spaceOf w (length m) (areaLocated i 16 end)) i m new marks r) where
     pub refused : (k : ℕ) → r ≡ answer.Refused k → writing type2 i m ≡ refused-write k
-    refused k e = no-space-writing i m end w h k (subst (PreparedIn 4 (spaceOf w (length m) (areaView i 16 end)) i m new marks) e p)
+    refused k e = no-space-writing i m end w h k (subst (PreparedIn 4 (spaceOf w (length m) (areaLocated i 16 end)) i m new marks) e p)
 
     module _ (a : Address) (e : r ≡ answer.At a) (as-long : length new ≡ length i) (marks-long : length marks ≡ 256) where
-      there : (us : List ℕ) × (space us ≡ spaceOf w (length m) (areaView i 16 end)) × Prepared 4 us i m new marks (a .0)
-      there = subst (PreparedIn 4 (spaceOf w (length m) (areaView i 16 end)) i m new marks) e p
+      there : (us : List ℕ) × (space us ≡ spaceOf w (length m) (areaLocated i 16 end)) × Prepared 4 us i m new marks (a .0)
+      there = subst (PreparedIn 4 (spaceOf w (length m) (areaLocated i 16 end)) i m new marks) e p
 
       each-marked : length i / 4 ≤ length marks
       each-marked = omega (arith, h .area .short)

@@ -20,7 +20,7 @@ shut-made i first a k e f h =
     let three : a + 3 ≡ suc (suc (suc b)) = omega arith in
     let place : first ≡ b + k = omega arith in
     let made : set (byte i b ∷ byte i (suc b) ∷ byte i (suc (suc b)) ∷ byte i (suc (suc (suc b))) ∷ []) k 0 ≡ set (take 4 (drop b i)) k 0
-    = ap (λ four. set four k 0) (map-run 4 b i h) in
+    = ap (λ block. set block k 0) (map-run 4 b i h) in
     let moved : take 4 (drop b (set i (b + k) 0)) ≡ set (take 4 (drop b i)) k 0
     = ap (take 4) (drop-set-add b i k 0) ∙ take-set-lt 4 (drop b i) k 0 (omega arith) in
     rw (one, two, three, e) (made ∙ sym moved ∙ ap (λ x. take 4 (drop b (set i x 0))) (sym place))

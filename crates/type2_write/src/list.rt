@@ -20,9 +20,9 @@ fn shut_bytes(image: &[u8], first: Address) -> [u8; container::BLOCK_SIZE]
     let start = guard.address(container::BLOCK_SIZE);
     let at = start.0;
     let offset = first.0 - at;
-    let mut four = [image[at], image[at + 1], image[at + 2], image[at + 3]];
-    four[offset] = 0x00;
-    four
+    let mut shut = [image[at], image[at + 1], image[at + 2], image[at + 3]];
+    shut[offset] = 0x00;
+    shut
 }
 
 // Writes the list that turns `image` into `new`: `first` is the address of the first length byte, and the blocks besides its

@@ -9,16 +9,16 @@ use lib.ListN.{length}
 use Rattle.tag.specs.Refusals.{empty-message, not-writable, message-too-long}
 use Rattle.tag.specs.Checks.{Checked, check, fine, fault, firstOf}
 use Rattle.tag.specs.TagType.{refused-write, written, planned, writingBy, writing}
-use Rattle.type3.specs.declared.read.Attributes.{Attributes}
-use Rattle.type3.specs.Attributes.{attributes, attributeChecks, mayWrite}
+use Rattle.type3.specs.declared.read.AttributeInformation.{AttributeInformation}
+use Rattle.type3.specs.AttributeInformation.{attributeInformation, attributeChecks, mayWrite}
 use Rattle.type3.specs.Update.{fits, plan}
 use Rattle.type3.specs.Type3.{type3}
-use Rattle.type3.specs.Views.Attributes.{faultAs, Readable}
+use Rattle.type3.specs.Views.AttributeInformation.{faultAs, Readable}
 use Rattle.type3.specs.Views.Space.{refusalFor}
 use Rattle.type3.proofs.Message.{unread, passes-reads, reads-writable}
 
 module _ (idm i m : List ℕ) where
-  pub writing-unread : (r : ℕ) → firstOf (attributeChecks (length i) (attributes i)) ≡ fault r → writing (type3 idm) i m ≡ refused-write r
+  pub writing-unread : (r : ℕ) → firstOf (attributeChecks (length i) (attributeInformation i)) ≡ fault r → writing (type3 idm) i m ≡ refused-write r
   unfolding writing
   writing-unread r e = ap (writingBy (type3 idm) i m) (unread i r e)
 
@@ -26,13 +26,13 @@ module _ (idm i m : List ℕ) where
   abbrev left : Checked
   left = firstOf (check (not (eqb (length m) 0)) empty-message ∷ check (mayWrite i) not-writable ∷ check (fits i (length m)) message-too-long ∷ [])
 
-  writing-left : firstOf (attributeChecks (length i) (attributes i)) ≡ fine → writing (type3 idm) i m ≡ planned (plan i m) left
+  writing-left : firstOf (attributeChecks (length i) (attributeInformation i)) ≡ fine → writing (type3 idm) i m ≡ planned (plan i m) left
   unfolding writing
   writing-left e =
       let (p, q) = passes-reads i e in
       ap (writingBy (type3 idm) i m) q ∙ rw (reads-writable i p q)
 
-  module _ (a : Attributes) (known : Readable i a) where
+  module _ (a : AttributeInformation) (known : Readable i a) where
     left-is : left ≡ faultAs (refusalFor a (length m))
     left-is = rw (known .known .says .writable-is, known .known .says .nmaxb-is) (go (eqb (length m) 0) (mayWrite i) (fits i (length m)))
       where

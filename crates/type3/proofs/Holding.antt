@@ -9,20 +9,20 @@ use Rattle.tag.specs.Reading.{being-written, empty, Report, reads, Answer, answ
 use Rattle.tag.specs.Answers.{heldBy}
 use Rattle.tag.proofs.Logic.{nope}
 use Rattle.tag.proofs.Showing.{held-shown}
-use Rattle.type3.specs.Attributes.{mayWrite}
-use Rattle.type3.specs.Message.{View, refuse, busy, view, viewed, without, withMessage, readingOf, reading}
+use Rattle.type3.specs.AttributeInformation.{mayWrite}
+use Rattle.type3.specs.Message.{Announced, refuse, busy, announced, announce, without, withMessage, readingOf, reading}
 use Rattle.type3.specs.Type3.{type3}
 use Rattle.type3.proofs.Laws.{type3-laws}
 
 pub plain : (i : List ℕ) (p : Report) → reading i ≡ reads p → p .interrupted ≡ false
 unfolding reading
-plain i p e = go (viewed i) e
+plain i p e = go (announce i) e
   where
-    go : (v : View) → readingOf (mayWrite i) i v ≡ reads p → p .interrupted ≡ false
+    go : (v : Announced) → readingOf (mayWrite i) i v ≡ reads p → p .interrupted ≡ false
     go (refuse r) f = absurd (nope (cc))
     go busy f = let q : without being-written (mayWrite i) ≡ p = cc in ap (λ x. x .interrupted) (sym q)
-    go (view zero) f = let q : without empty (mayWrite i) ≡ p = cc in ap (λ x. x .interrupted) (sym q)
-    go (view (suc k)) f = let q : withMessage (suc k) i (mayWrite i) ≡ p = cc in ap (λ x. x .interrupted) (sym q)
+    go (announced zero) f = let q : without empty (mayWrite i) ≡ p = cc in ap (λ x. x .interrupted) (sym q)
+    go (announced (suc k)) f = let q : withMessage (suc k) i (mayWrite i) ≡ p = cc in ap (λ x. x .interrupted) (sym q)
 
 -- reading does not look at the number: any eight bytes will do
 pub held-read : (i before after : List ℕ) (a : Answer) (part : List ℕ)

@@ -20,7 +20,7 @@ use Rattle.tag.proofs.Blocks.{in-block}
 use Rattle.tag.proofs.Writes.{Sound}
 use Rattle.tag.proofs.Sending.{blockNumber, Named, Sized, touch-bounds, Nameable, list-good}
 use Rattle.tag.proofs.Laws.{Sent, Near, Laws, ready-reads}
-use Rattle.type3.specs.Attributes.{nmaxbOf, mayWrite}
+use Rattle.type3.specs.AttributeInformation.{nmaxbOf, mayWrite}
 use Rattle.type3.specs.Message.{reading}
 use Rattle.type3.specs.Update.{blocksFor, blocksPerCommand, addresses, lnSum, valuesBy, body, values, plan}
 use Rattle.type3.specs.Codec.{decode, commandOf}

@@ -14,14 +14,14 @@ use Rattle.tag.specs.Checks.{Checked, fine, fault, firstOf}
 use Rattle.tag.specs.Reading.{empty, being-written, Report, unreadable, reads, broken, nothing, holds, heldOf}
 use Rattle.tag.proofs.Logic.{and-three, and-both, lengths, nope}
 use Rattle.tag.proofs.Checks.{AllPass, fine-all, all-fine, OfReading, first-among}
-use Rattle.type3.specs.Attributes.{steadySum, nmaxbOf, attributes, attributeChecks, mayWrite}
-use Rattle.type3.specs.Message.{View, refuse, busy, view, viewBy, viewed, without, withMessage, readingOf, reading}
+use Rattle.type3.specs.AttributeInformation.{steadySum, nmaxbOf, attributeInformation, attributeChecks, mayWrite}
+use Rattle.type3.specs.Message.{Announced, refuse, busy, announced, announceBy, announce, without, withMessage, readingOf, reading}
 use Rattle.type3.specs.Update.{fits}
 
 -- ---- the checks
 
 abbrev pub Passes : List ℕ → Type 0
-Passes i = AllPass (attributeChecks (length i) (attributes i))
+Passes i = AllPass (attributeChecks (length i) (attributeInformation i))
 
 -- what they say of lengths
 pub record Bounds (i : List ℕ) : Type 0 where
@@ -34,8 +34,8 @@ bounds i c =
     let (blocks, least, short) = lengths 16 16 4096 (length i) (c .0) in
     record { whole = omega arith; short = short; reach = leb-true (16 * (1 + nmaxbOf i)) (length i) (c .1 .1 .1 .1 .0) }
 
-pub ln-fits : (i : List ℕ) → Passes i → attributes i .ln ≤ 16 * nmaxbOf i
-ln-fits i c = leb-true (attributes i .ln) (16 * nmaxbOf i) (c .1 .1 .1 .1 .1 .0)
+pub ln-fits : (i : List ℕ) → Passes i → attributeInformation i .ln ≤ 16 * nmaxbOf i
+ln-fits i c = leb-true (attributeInformation i .ln) (16 * nmaxbOf i) (c .1 .1 .1 .1 .1 .0)
 
 -- the bytes of block 0 that writing keeps
 abbrev pub steady : ℕ → Bool
@@ -52,8 +52,8 @@ same-nmaxb j i h = cc (h 3 refl, h 4 refl)
 
 pub checks-of : (i j : List ℕ) → length j ≡ length i → Agrees j i → Passes i
     → eqb (byte j 9) 0x00 || eqb (byte j 9) 0x0F ≡ true
-    → attributes j .sum ≡ attributes j .checksum
-    → attributes j .ln ≤ 16 * nmaxbOf i
+    → attributeInformation j .sum ≡ attributeInformation j .checksum
+    → attributeInformation j .ln ≤ 16 * nmaxbOf i
     → Passes j
 checks-of i j l h c flag sum ln =
     let e0 : byte j 0 ≡ byte i 0 = h 0 refl in
@@ -79,25 +79,25 @@ checks-of i j l h c flag sum ln =
 -- ---- reading by the checks
 
 -- one that fails gives its refusal
-pub unread : (i : List ℕ) (r : ℕ) → firstOf (attributeChecks (length i) (attributes i)) ≡ fault r → reading i ≡ unreadable r
-unfolding reading viewBy
+pub unread : (i : List ℕ) (r : ℕ) → firstOf (attributeChecks (length i) (attributeInformation i)) ≡ fault r → reading i ≡ unreadable r
+unfolding reading announceBy
 unread i r e = rw e
 
 -- a tag that passes them reads
-pub passes-reads : (i : List ℕ) → firstOf (attributeChecks (length i) (attributes i)) ≡ fine → (p : Report) × (reading i ≡ reads p)
-unfolding reading viewBy
-passes-reads i e = rw e (go (eqb (byte i 9) 0x0F) (attributes i .ln))
+pub passes-reads : (i : List ℕ) → firstOf (attributeChecks (length i) (attributeInformation i)) ≡ fine → (p : Report) × (reading i ≡ reads p)
+unfolding reading announceBy
+passes-reads i e = rw e (go (eqb (byte i 9) 0x0F) (attributeInformation i .ln))
   where
-    go : (b : Bool) (n : ℕ) → (p : Report) × (readingOf (mayWrite i) i (cond b busy (view n)) ≡ reads p)
+    go : (b : Bool) (n : ℕ) → (p : Report) × (readingOf (mayWrite i) i (cond b busy (announced n)) ≡ reads p)
     go true n = (without being-written (mayWrite i), refl)
     go false zero = (without empty (mayWrite i), refl)
     go false (suc n) = (withMessage (suc n) i (mayWrite i), refl)
 
 -- and one that is refused has failed one of them: 1 to 5, or 7
 pub numbered : (i : List ℕ) (r : ℕ) → reading i ≡ unreadable r → OfReading r
-numbered i r e = go (firstOf (attributeChecks (length i) (attributes i))) refl
+numbered i r e = go (firstOf (attributeChecks (length i) (attributeInformation i))) refl
   where
-    go : (c : Checked) → firstOf (attributeChecks (length i) (attributes i)) ≡ c → OfReading r
+    go : (c : Checked) → firstOf (attributeChecks (length i) (attributeInformation i)) ≡ c → OfReading r
     go fine q =
         let (p, f) = passes-reads i q in
         let e′ : reads p ≡ unreadable r = sym f ∙ e in
@@ -106,7 +106,7 @@ numbered i r e = go (firstOf (attributeChecks (length i) (attributes i))) refl
         let e′ : unreadable s ≡ unreadable r = sym (unread i s q) ∙ e in
         let p : s ≡ r = cc in
         subst OfReading p
-        (first-among OfReading (attributeChecks (length i) (attributes i)) (
+        (first-among OfReading (attributeChecks (length i) (attributeInformation i)) (
           (omega arith, omega arith),
           ((omega arith, omega arith), ((omega arith, omega arith), ((omega arith, omega arith), ((omega arith, omega arith), ((omega arith, omega arith), tt))))),
         ) s q)
@@ -115,58 +115,58 @@ numbered i r e = go (firstOf (attributeChecks (length i) (attributes i))) refl
 
 -- WriteFlag 0Fh: no message
 pub held-closed : (j : List ℕ) → Passes j → byte j 9 ≡ 0x0F → heldOf (reading j) ≡ nothing
-unfolding reading viewBy
-held-closed j c e = rw (all-fine (attributeChecks (length j) (attributes j)) c) (rw e)
+unfolding reading announceBy
+held-closed j c e = rw (all-fine (attributeChecks (length j) (attributeInformation j)) c) (rw e)
 
 -- WriteFlag 00h: the first Ln bytes from block 1 on
-pub held-open : (j : List ℕ) (n : ℕ) → Passes j → byte j 9 ≡ 0x00 → attributes j .ln ≡ n → (n ≡ 0 → ⊥)
+pub held-open : (j : List ℕ) (n : ℕ) → Passes j → byte j 9 ≡ 0x00 → attributeInformation j .ln ≡ n → (n ≡ 0 → ⊥)
     → heldOf (reading j) ≡ holds (take n (drop 16 j))
-unfolding reading viewBy
-held-open j n c e q z = rw (all-fine (attributeChecks (length j) (attributes j)) c) (rw (e, q) (some n z))
+unfolding reading announceBy
+held-open j n c e q z = rw (all-fine (attributeChecks (length j) (attributeInformation j)) c) (rw (e, q) (some n z))
   where
-    some : (k : ℕ) → (k ≡ 0 → ⊥) → heldOf (readingOf (mayWrite j) j (view k)) ≡ holds (take k (drop 16 j))
+    some : (k : ℕ) → (k ≡ 0 → ⊥) → heldOf (readingOf (mayWrite j) j (announced k)) ≡ holds (take k (drop 16 j))
     some zero s = absurd (s refl)
     some (suc k) s = refl
 
 -- ---- a tag that reads
 
 -- of a reading, what it says of writing
-writable-as : (w : Bool) (i : List ℕ) (v : View) (p : Report) → readingOf w i v ≡ reads p → p .writable ≡ w
+writable-as : (w : Bool) (i : List ℕ) (v : Announced) (p : Report) → readingOf w i v ≡ reads p → p .writable ≡ w
 writable-as w i (refuse r) p e = absurd (nope (cc))
 writable-as w i busy p e = let q : without being-written w ≡ p = cc in ap (λ x. x .writable) (sym q)
-writable-as w i (view zero) p e = let q : without empty w ≡ p = cc in ap (λ x. x .writable) (sym q)
-writable-as w i (view (suc n)) p e = let q : withMessage (suc n) i w ≡ p = cc in ap (λ x. x .writable) (sym q)
+writable-as w i (announced zero) p e = let q : without empty w ≡ p = cc in ap (λ x. x .writable) (sym q)
+writable-as w i (announced (suc n)) p e = let q : withMessage (suc n) i w ≡ p = cc in ap (λ x. x .writable) (sym q)
 
 pub reads-writable : (i : List ℕ) (p : Report) → reading i ≡ reads p → p .writable ≡ mayWrite i
 unfolding reading
-reads-writable i p e = writable-as (mayWrite i) i (viewed i) p e
+reads-writable i p e = writable-as (mayWrite i) i (announce i) p e
 
 pub reads-passes : (i : List ℕ) → (heldOf (reading i) ≡ broken → ⊥) → Passes i
-reads-passes i h = go (firstOf (attributeChecks (length i) (attributes i))) refl
+reads-passes i h = go (firstOf (attributeChecks (length i) (attributeInformation i))) refl
   where
-    go : (c : Checked) → firstOf (attributeChecks (length i) (attributes i)) ≡ c → Passes i
-    go fine q = fine-all (attributeChecks (length i) (attributes i)) q
+    go : (c : Checked) → firstOf (attributeChecks (length i) (attributeInformation i)) ≡ c → Passes i
+    go fine q = fine-all (attributeChecks (length i) (attributeInformation i)) q
     go (fault r) q = absurd (h (ap heldOf (unread i r q)))
 
 -- what it holds fits
 pub held-fits : (j m : List ℕ) → heldOf (reading j) ≡ holds m → fits j (length m) ≡ true
-unfolding reading viewBy
+unfolding reading announceBy
 held-fits j m e = go (eqb (byte j 9) 0x0F) refl
   where
     c : Passes j
     c = reads-passes j (λ f. nope (cc))
 
-    by-view : (n : ℕ) → heldOf (readingOf (mayWrite j) j (view n)) ≡ holds m → length m ≤ n
-    by-view zero f = absurd (nope (cc))
-    by-view (suc n) f =
+    by-announced : (n : ℕ) → heldOf (readingOf (mayWrite j) j (announced n)) ≡ holds m → length m ≤ n
+    by-announced zero f = absurd (nope (cc))
+    by-announced (suc n) f =
         let g : take (suc n) (drop 16 j) ≡ m = cc in
         omega (arith, length-take (suc n) (drop 16 j), ap length g)
 
     go : (b : Bool) → eqb (byte j 9) 0x0F ≡ b → fits j (length m) ≡ true
     go true q =
-        let f : nothing ≡ holds m = rw (all-fine (attributeChecks (length j) (attributes j)) c, q) at e in
+        let f : nothing ≡ holds m = rw (all-fine (attributeChecks (length j) (attributeInformation j)) c, q) at e in
         absurd (nope (cc))
     go false q =
-        let f : heldOf (readingOf (mayWrite j) j (view (attributes j .ln))) ≡ holds m
-        = rw (all-fine (attributeChecks (length j) (attributes j)) c, q) at e in
-        le-leb (length m) (16 * nmaxbOf j) (omega (arith, by-view (attributes j .ln) f, ln-fits j c))
+        let f : heldOf (readingOf (mayWrite j) j (announced (attributeInformation j .ln))) ≡ holds m
+        = rw (all-fine (attributeChecks (length j) (attributeInformation j)) c, q) at e in
+        le-leb (length m) (16 * nmaxbOf j) (omega (arith, by-announced (attributeInformation j .ln) f, ln-fits j c))

@@ -14,7 +14,7 @@ use Rattle.tag.specs.Stores.{Store, malformed, stores, formed, tagAfter}
 use Rattle.tag.specs.Views.Judging.{Applied}
 use Rattle.tag.specs.Model.{refused-storing, stored, given, modelBy, model}
 use Rattle.tag.proofs.Logic.{true-false}
-use Rattle.type3.specs.Attributes.{nmaxbOf, attributes, attributeChecks}
+use Rattle.type3.specs.AttributeInformation.{nmaxbOf, attributeInformation, attributeChecks}
 use Rattle.type3.specs.Codec.{Decoded, undecoded, decoded, decode, storesOf, commandOf}
 use Rattle.type3.specs.Type3.{type3}
 use Rattle.type3.specs.Views.Framing.{isCommand}
@@ -67,16 +67,16 @@ module _ (idm i bytes : List ℕ) where
   abbrev d : Decoded
   d = decode idm (byte i 2) (nmaxbOf i) bytes
 
-  pub model-refused : (r : ℕ) → firstOf (attributeChecks (length i) (attributes i)) ≡ fault r → model (type3 idm) i bytes ≡ refused-storing r
+  pub model-refused : (r : ℕ) → firstOf (attributeChecks (length i) (attributeInformation i)) ≡ fault r → model (type3 idm) i bytes ≡ refused-storing r
   model-refused r e = ap (λ v. modelBy i v (commandOf d)) (unread i r e)
 
-  model-given : firstOf (attributeChecks (length i) (attributes i)) ≡ fine → model (type3 idm) i bytes ≡ given i (commandOf d)
+  model-given : firstOf (attributeChecks (length i) (attributeInformation i)) ≡ fine → model (type3 idm) i bytes ≡ given i (commandOf d)
   model-given e = ap (λ v. modelBy i v (commandOf d)) (passes-reads i e .1)
 
-  pub model-malformed : firstOf (attributeChecks (length i) (attributes i)) ≡ fine → isCommand d ≡ false → model (type3 idm) i bytes ≡ refused-storing malformed-command
+  pub model-malformed : firstOf (attributeChecks (length i) (attributeInformation i)) ≡ fine → isCommand d ≡ false → model (type3 idm) i bytes ≡ refused-storing malformed-command
   model-malformed e q = model-given e ∙ ap (given i) (malformed-is d q)
 
-  pub model-stored : firstOf (attributeChecks (length i) (attributes i)) ≡ fine → isCommand d ≡ true → model (type3 idm) i bytes ≡ stored (tagAfter i (commandOf d))
+  pub model-stored : firstOf (attributeChecks (length i) (attributeInformation i)) ≡ fine → isCommand d ≡ true → model (type3 idm) i bytes ≡ stored (tagAfter i (commandOf d))
   model-stored e q =
       let (ss, p) = some-command d q in
       model-given e ∙ rw p

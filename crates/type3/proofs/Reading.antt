@@ -14,10 +14,10 @@ use Rattle.tag.specs.Checks.{fine, fault, firstOf}
 use Rattle.tag.specs.Reading.{being-written, empty, message, refusal, answer, answerOf}
 use Rattle.tag.proofs.Logic.{lengths}
 use Rattle.tag.proofs.Checks.{fine-all}
-use Rattle.type3.specs.declared.read.Attributes.{Attributes}
-use Rattle.type3.specs.Attributes.{attributes, imageLength, attributeChecks, mayWrite}
-use Rattle.type3.specs.Message.{busy, view, viewBy, readingOf, reading}
-use Rattle.type3.specs.Views.Attributes.{faultAs, WholeBlocks, Says, Attests, answerFor}
+use Rattle.type3.specs.declared.read.AttributeInformation.{AttributeInformation}
+use Rattle.type3.specs.AttributeInformation.{attributeInformation, imageLength, attributeChecks, mayWrite}
+use Rattle.type3.specs.Message.{busy, announced, announceBy, readingOf, reading}
+use Rattle.type3.specs.Views.AttributeInformation.{faultAs, WholeBlocks, Says, Attests, answerFor}
 use Rattle.type3.proofs.Message.{Passes, bounds, ln-fits, unread}
 
 -- ---- the number of the first test that fails
@@ -34,21 +34,21 @@ whole-blocks i e = let (blocks, least, most) = lengths 16 16 4096 (length i) e i
 
 -- the first test passes, or fails
 pub first-passed : (i : List ℕ) → imageLength (length i) ≡ true
-    → firstOf (drop 1 (attributeChecks (length i) (attributes i))) ≡ firstOf (attributeChecks (length i) (attributes i))
+    → firstOf (drop 1 (attributeChecks (length i) (attributeInformation i))) ≡ firstOf (attributeChecks (length i) (attributeInformation i))
 first-passed i e = rw e
 
-pub first-failed : (i : List ℕ) → imageLength (length i) ≡ false → fault 1 ≡ firstOf (attributeChecks (length i) (attributes i))
+pub first-failed : (i : List ℕ) → imageLength (length i) ≡ false → fault 1 ≡ firstOf (attributeChecks (length i) (attributeInformation i))
 first-failed i e = rw e
 
 -- what is known where there is none
-module _ (i : List ℕ) (e : firstOf (attributeChecks (length i) (attributes i)) ≡ fine) where
+module _ (i : List ℕ) (e : firstOf (attributeChecks (length i) (attributeInformation i)) ≡ fine) where
   passes : Passes i
-  passes = fine-all (attributeChecks (length i) (attributes i)) e
+  passes = fine-all (attributeChecks (length i) (attributeInformation i)) e
 
   pub fine-long : 16 ≤ length i
   fine-long = whole-blocks i (passes .0) .least
 
-  pub attested : (a : Attributes) → Says i a → Attests i a
+  pub attested : (a : AttributeInformation) → Says i a → Attests i a
   attested a s = record {
     says = s;
     whole = whole-blocks i (passes .0);
@@ -59,21 +59,21 @@ module _ (i : List ℕ) (e : firstOf (attributeChecks (length i) (attributes i))
 -- ---- the answer
 
 -- a test that fails gives its refusal
-pub answer-refused : (i : List ℕ) (r : ℕ) → firstOf (attributeChecks (length i) (attributes i)) ≡ fault r → answerOf 0 (reading i) ≡ refusal r
+pub answer-refused : (i : List ℕ) (r : ℕ) → firstOf (attributeChecks (length i) (attributeInformation i)) ≡ fault r → answerOf 0 (reading i) ≡ refusal r
 answer-refused i r e = ap (answerOf 0) (unread i r e)
 
 -- the attributes say the rest
-pub answer-known : (i : List ℕ) (a : Attributes) → firstOf (attributeChecks (length i) (attributes i)) ≡ fine → Attests i a
+pub answer-known : (i : List ℕ) (a : AttributeInformation) → firstOf (attributeChecks (length i) (attributeInformation i)) ≡ fine → Attests i a
     → answerFor a ≡ answerOf 0 (reading i)
-unfolding reading viewBy
-answer-known i a e k = rw (e, k .says .busy-is, k .says .writable-is, k .says .ln-is) (go (eqb (byte i 9) 0x0F) (attributes i .ln) (omega (arith, k .reach, k .ln-fits, k .says .ln-is)))
+unfolding reading announceBy
+answer-known i a e k = rw (e, k .says .busy-is, k .says .writable-is, k .says .ln-is) (go (eqb (byte i 9) 0x0F) (attributeInformation i .ln) (omega (arith, k .reach, k .ln-fits, k .says .ln-is)))
   where
     w : Bool
     w = mayWrite i
 
     go : (b : Bool) (n : ℕ) → 16 + n ≤ length i
         → cond b (answer being-written 0 0 false w) (cond (eqb n 0) (answer empty 0 0 false w) (answer message 16 n false w))
-        ≡ answerOf 0 (readingOf w i (cond b busy (view n)))
+        ≡ answerOf 0 (readingOf w i (cond b busy (announced n)))
     go true n l = refl
     go false zero l = refl
     go false (suc n) l =

@@ -20,7 +20,7 @@ use Rattle.tag.proofs.Addresses.{Above, above-unset, overlay-reads, above-run}
 use Rattle.tag.proofs.Runs.{length-run, take-run, map-run}
 use Rattle.tag.proofs.Blocks.{in-block}
 use Rattle.tag.proofs.Guarded.{Cell, shut, old, fresh, Between}
-use Rattle.type3.specs.Attributes.{steadySum, nmaxbOf, attributes}
+use Rattle.type3.specs.AttributeInformation.{steadySum, nmaxbOf, attributeInformation}
 use Rattle.type3.specs.Message.{reading}
 use Rattle.type3.specs.Update.{fits, blocksFor, addresses, lnSum, valuesBy, body, values, closedSum, closed, plan}
 use Rattle.type3.proofs.Message.{Passes, bounds, ln-fits, steady, Agrees, same-sum, same-nmaxb, checks-of, held-closed, held-open, held-fits}
@@ -89,10 +89,10 @@ quiet i j n c b = held-closed j (checks-of i j (b .0) agrees c flag sum ln) e9
     flag : eqb (byte j 9) 0x00 || eqb (byte j 9) 0x0F ≡ true
     flag = rw e9
 
-    sum : attributes j .sum ≡ attributes j .checksum
+    sum : attributeInformation j .sum ≡ attributeInformation j .checksum
     sum = rw (same-sum j i agrees, e9, e11, e12, e13, e14, e15) (omega arith)
 
-    ln : attributes j .ln ≤ 16 * nmaxbOf i
+    ln : attributeInformation j .ln ≤ 16 * nmaxbOf i
     ln = rw (e11, e12, e13) (ln-fits i c)
 
 -- ---- what writing sets
@@ -186,9 +186,9 @@ module _ (i m : List ℕ) (r : HasRoom i m) where
   reads-as : (N : List ℕ) → length N ≡ length i → Agrees N i → Written N (length m) (steadySum i + lnSum (length m)) m → heldOf (reading N) ≡ holds m
   reads-as N l h w =
       let n = length m in
-      let ln : attributes N .ln ≡ n = rw (w .b11, w .b12, w .b13) (omega arith) in
+      let ln : attributeInformation N .ln ≡ n = rw (w .b11, w .b12, w .b13) (omega arith) in
       let flag : eqb (byte N 9) 0x00 || eqb (byte N 9) 0x0F ≡ true = rw (w .b9) in
-      let sum : attributes N .sum ≡ attributes N .checksum
+      let sum : attributeInformation N .sum ≡ attributeInformation N .checksum
       = rw (same-sum N i h, w .b9, w .b11, w .b12, w .b13, w .b14, w .b15) (omega arith) in
       held-open N n (checks-of i N l h (r .passes) flag sum (omega (arith, ln, few-bytes))) (w .b9) ln (r .some-bytes)
       ∙ ap holds (sym (map-run n 16 N (omega (arith, l, inside))) ∙ ap (map (byte N)) (sym (take-run n (16 * blocksFor n) 16 (omega arith))) ∙ w .message)

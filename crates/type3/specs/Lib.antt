@@ -1,5 +1,5 @@
 -- The definitions of Type 3 tags. Read them in this order.
-pub mod Attributes
+pub mod AttributeInformation
 pub mod Message
 pub mod Update
 pub mod Codec

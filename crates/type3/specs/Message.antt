@@ -7,24 +7,24 @@ use lib.Dec.{eqb}
 use lib.ListN.{length, take, drop}
 use Rattle.tag.specs.Checks.{Checked, fine, fault, firstOf}
 use Rattle.tag.specs.Reading.{Content, message, empty, being-written, Report, Reading, unreadable, reads}
-use Rattle.type3.specs.Attributes.{Attributes, attributes, attributeChecks, mayWrite}
+use Rattle.type3.specs.AttributeInformation.{AttributeInformation, attributeInformation, attributeChecks, mayWrite}
 
 -- a refusal, being written, or the length of the message
-pub data View : Type 0 where
-  refuse : ℕ → View
-  busy : View
-  view : ℕ → View
+pub data Announced : Type 0 where
+  refuse : ℕ → Announced
+  busy : Announced
+  announced : ℕ → Announced
 
 -- WriteFlag 0Fh reads as being written
-abbrev pub viewAfter : Attributes → Checked → View
-viewAfter a fine = cond (eqb (a .write-flag) 0x0F) busy (view (a .ln))
-viewAfter a (fault r) = refuse r
+abbrev pub announceAfter : AttributeInformation → Checked → Announced
+announceAfter a fine = cond (eqb (a .write-flag) 0x0F) busy (announced (a .ln))
+announceAfter a (fault r) = refuse r
 
-unfoldable pub viewBy : ℕ → Attributes → View
-viewBy n a = viewAfter a (firstOf (attributeChecks n a))
+unfoldable pub announceBy : ℕ → AttributeInformation → Announced
+announceBy n a = announceAfter a (firstOf (attributeChecks n a))
 
-abbrev pub viewed : List ℕ → View
-viewed i = viewBy (length i) (attributes i)
+abbrev pub announce : List ℕ → Announced
+announce i = announceBy (length i) (attributeInformation i)
 
 -- without a message, a message of Ln bytes from block 1; a Type 3 message is never interrupted
 abbrev pub without : Content → Bool → Report
@@ -34,11 +34,11 @@ abbrev pub withMessage : ℕ → List ℕ → Bool → Report
 withMessage n i w = record { content = message; bytes = take n (drop 16 i); address = 16; interrupted = false; writable = w }
 
 -- Ln 0 reads as empty
-abbrev pub readingOf : Bool → List ℕ → View → Reading
+abbrev pub readingOf : Bool → List ℕ → Announced → Reading
 readingOf w i (refuse r) = unreadable r
 readingOf w i busy = reads (without being-written w)
-readingOf w i (view zero) = reads (without empty w)
-readingOf w i (view (suc n)) = reads (withMessage (suc n) i w)
+readingOf w i (announced zero) = reads (without empty w)
+readingOf w i (announced (suc n)) = reads (withMessage (suc n) i w)
 
 unfoldable pub reading : List ℕ → Reading
-reading i = readingOf (mayWrite i) i (viewed i)
+reading i = readingOf (mayWrite i) i (announce i)

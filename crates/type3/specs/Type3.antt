@@ -4,7 +4,7 @@ use mathlib.Core.List.{List}
 use Prim.Native.Nat.{ℕ}
 use Rattle.tag.specs.Bytes.{byte}
 use Rattle.tag.specs.TagType.{TagType}
-use Rattle.type3.specs.Attributes.{nmaxbOf}
+use Rattle.type3.specs.AttributeInformation.{nmaxbOf}
 use Rattle.type3.specs.Message.{reading}
 use Rattle.type3.specs.Update.{fits, plan}
 use Rattle.type3.specs.Codec.{decode, commandOf, span, encoded}

@@ -7,7 +7,7 @@ use lib.Dec.{leb}
 use lib.ListN.{length, replicate}
 use Rattle.tag.specs.Bytes.{byte, run, overlay}
 use Rattle.tag.specs.Plan.{Plan}
-use Rattle.type3.specs.Attributes.{steadySum, nmaxbOf}
+use Rattle.type3.specs.AttributeInformation.{steadySum, nmaxbOf}
 
 abbrev pub fits : List ℕ → ℕ → Bool
 fits i n = leb n (16 * nmaxbOf i)
@@ -51,7 +51,7 @@ abbrev pub plan : List ℕ → List ℕ → Plan
 plan i m = record {
   addresses = addresses m;
   values = values i m;
-  size = 16;
+  block-size = 16;
   width = blocksPerCommand (byte i 2);
   guard = 0;
   closed = closed i;

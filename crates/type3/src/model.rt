@@ -46,9 +46,9 @@ pub fn model(image: &mut [u8], idm: &[u8; 8], command: &[u8]) -> ModelAnswer
     if refusal != refusals::NONE {
         return ModelAnswer::Refused(refusal);
     }
-    let attributes = read::said(image);
-    let nbw = attributes.nbw;
-    let nmaxb = attributes.nmaxb;
+    let information = read::said(image);
+    let nbw = information.nbw;
+    let nmaxb = information.nmaxb;
     if take_command(image, idm, command, nbw, nmaxb) {
         return ModelAnswer::Stored;
     }

@@ -19,9 +19,9 @@ ghost use Rattle.tag.specs.Checks.{firstOf};
 ghost use Rattle.tag.specs.Reading.{answer};
 ghost use Rattle.tag.specs.Answers.{contentOf};
 ghost use Rattle.tag.specs.Contracts.{Read, Showed};
-ghost use Rattle.type3.specs.Attributes.{attributes, imageLength, flagsDefined, attributeChecks, mayWrite};
+ghost use Rattle.type3.specs.AttributeInformation.{attributeInformation, imageLength, flagsDefined, attributeChecks, mayWrite};
 ghost use Rattle.type3.specs.Message.{reading};
-ghost use Rattle.type3.specs.Views.Attributes.{WholeBlocks, checkedAs, faultAs, Says, Known, reportAs, answerFor};
+ghost use Rattle.type3.specs.Views.AttributeInformation.{WholeBlocks, checkedAs, faultAs, Says, Known, reportAs, answerFor};
 
 // The bytes of a block.
 pub const BLOCK_SIZE: usize = 16;
@@ -52,7 +52,7 @@ const LN_LOW: usize = LN + 1;
 const CHECKSUM: usize = 14;
 
 // What block 0 says of a tag that passes the tests.
-pub struct Attributes {
+pub struct AttributeInformation {
     pub nbw: usize,
     pub nmaxb: usize,
     pub ln: usize,
@@ -65,7 +65,7 @@ pub struct Attributes {
 // The answer of the tests: the first that fails gives its refusal.
 pub enum Checked {
     Refused(u8),
-    Fine(Attributes),
+    Fine(AttributeInformation),
 }
 
 // Is the byte one of two values?
@@ -81,7 +81,7 @@ fn is_either(x: u8, a: u8, b: u8) -> bool
 // Have WriteFlag, RWFlag and Nbr values that are defined?
 fn flags_defined(image: &[u8]) -> bool
     requires { ⌜ 16 ≤ length (now image) ⌝ }
-    ensures { λ r. ⌜ r ≡ flagsDefined (attributes (now (image .entry))) ⌝ }
+    ensures { λ r. ⌜ r ≡ flagsDefined (attributeInformation (now (image .entry))) ⌝ }
 {
     if !is_either(image[WRITE_FLAG], 0x00, 0x0F) {
         return false;
@@ -106,7 +106,7 @@ fn may_write(image: &[u8]) -> bool
 // Ln, of three bytes.
 fn ln_of(image: &[u8]) -> usize
     requires { ⌜ 16 ≤ length (now image) ⌝ }
-    ensures { λ r. ⌜ r ≡ attributes (now (image .entry)) .ln ⌝ }
+    ensures { λ r. ⌜ r ≡ attributeInformation (now (image .entry)) .ln ⌝ }
 {
     65536 * numbers::wide(image[LN]) + numbers::word(image, LN_LOW)
 }
@@ -114,7 +114,7 @@ fn ln_of(image: &[u8]) -> usize
 // Refusals 5 and 7; 0 for neither.
 fn size_fault(image: &[u8]) -> u8
     requires { ⌜ WholeBlocks (now image) ⌝ }
-    ensures { λ r. ⌜ faultAs r ≡ firstOf (drop 4 (attributeChecks (length (now (image .entry))) (attributes (now (image .entry))))) ⌝ }
+    ensures { λ r. ⌜ faultAs r ≡ firstOf (drop 4 (attributeChecks (length (now (image .entry))) (attributeInformation (now (image .entry))))) ⌝ }
 {
     let nmaxb = numbers::word(image, NMAXB);
     let end = Block(1 + nmaxb).address(BLOCK_SIZE);
@@ -130,7 +130,7 @@ fn size_fault(image: &[u8]) -> u8
 // Refusals 2 to 4, and then those of `size_fault`.
 fn block_fault(image: &[u8]) -> u8
     requires { ⌜ WholeBlocks (now image) ⌝ }
-    ensures { λ r. ⌜ faultAs r ≡ firstOf (drop 1 (attributeChecks (length (now (image .entry))) (attributes (now (image .entry))))) ⌝ }
+    ensures { λ r. ⌜ faultAs r ≡ firstOf (drop 1 (attributeChecks (length (now (image .entry))) (attributeInformation (now (image .entry))))) ⌝ }
 {
     if numbers::sum(image, CHECKSUM) != numbers::word(image, CHECKSUM) as u16 {
         return refusals::NOT_NDEF;
@@ -160,7 +160,7 @@ fn is_whole(n: usize) -> bool
 // The first of the refusals 1 to 5 and 7; 0 if the tag passes all tests. A number alone: the attributes beside it would be handed
 // on through memory, and `said` takes those that are asked for from block 0 again in less time.
 pub(crate) fn fault(image: &[u8]) -> u8
-    ensures { λ r. ⌜ faultAs r ≡ firstOf (attributeChecks (length (now (image .entry))) (attributes (now (image .entry)))) ⌝ }
+    ensures { λ r. ⌜ faultAs r ≡ firstOf (attributeChecks (length (now (image .entry))) (attributeInformation (now (image .entry)))) ⌝ }
 {
     if is_whole(image.len()) {
         return block_fault(image);
@@ -169,7 +169,7 @@ pub(crate) fn fault(image: &[u8]) -> u8
 }
 
 // What block 0 says.
-pub(crate) fn said(image: &[u8]) -> Attributes
+pub(crate) fn said(image: &[u8]) -> AttributeInformation
     requires { ⌜ 16 ≤ length (now image) ⌝ }
     ensures { λ r. ⌜ Says (now (image .entry)) r ⌝ }
 {
@@ -178,7 +178,7 @@ pub(crate) fn said(image: &[u8]) -> Attributes
     let ln = ln_of(image);
     let busy = image[WRITE_FLAG] == 0x0F;
     let writable = may_write(image);
-    Attributes {
+    AttributeInformation {
         nbw,
         nmaxb,
         ln,
@@ -189,8 +189,8 @@ pub(crate) fn said(image: &[u8]) -> Attributes
 
 // The attributes, or the first of the refusals 1 to 5 and 7. `fault` and `said` in one, for writing and judging, which take more
 // time than an answer through memory.
-pub fn attributes_of(image: &[u8]) -> Checked
-    ensures is { λ r. ⌜ checkedAs r ≡ firstOf (attributeChecks (length (now (image .entry))) (attributes (now (image .entry)))) ⌝ }
+pub fn attribute_information(image: &[u8]) -> Checked
+    ensures is { λ r. ⌜ checkedAs r ≡ firstOf (attributeChecks (length (now (image .entry))) (attributeInformation (now (image .entry)))) ⌝ }
     ensures known { λ r. ⌜ Known (now (image .entry)) r ⌝ }
 {
     if !is_whole(image.len()) {
@@ -200,12 +200,12 @@ pub fn attributes_of(image: &[u8]) -> Checked
     if refusal != refusals::NONE {
         return Checked::Refused(refusal);
     }
-    let attributes = said(image);
-    Checked::Fine(attributes)
+    let information = said(image);
+    Checked::Fine(information)
 }
 
 // What the attributes say of a message.
-fn report(a: Attributes) -> Report
+fn report(a: AttributeInformation) -> Report
     ensures { λ r. ⌜ reportAs r ≡ answerFor a ⌝ }
 {
     let writable = a.writable;
@@ -247,8 +247,8 @@ pub fn read(image: &[u8]) -> ReadAnswer
     if refusal != refusals::NONE {
         return ReadAnswer::Refused(refusal);
     }
-    let attributes = said(image);
-    ReadAnswer::Reads(report(attributes))
+    let information = said(image);
+    ReadAnswer::Reads(report(information))
 }
 
 // The message as a part of the image; empty without one, after a refusal, and where the answer's numbers do not fit or it claims

@@ -1,7 +1,7 @@
 // Where a message goes on a Type 3 tag: refusals 9 to 11, and how many blocks it takes.
 
 use crate::read;
-use crate::read::Attributes;
+use crate::read::AttributeInformation;
 use tag::refusals;
 ghost use mathlib.Core.Path.{_≡_};
 ghost use Rattle.type3.specs.Update.{blocksFor};
@@ -18,7 +18,7 @@ pub fn blocks_for(n: usize) -> usize
 }
 
 // Refusals 9, 10 and 11, in this order, for a message of `n` bytes; 0 where it fits, in blocks 1 and on.
-pub fn refusal(a: Attributes, n: usize) -> u8
+pub fn refusal(a: AttributeInformation, n: usize) -> u8
     ensures { λ r. ⌜ r ≡ refusalFor a n ⌝ }
 {
     if n == 0 {

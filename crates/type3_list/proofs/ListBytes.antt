@@ -12,15 +12,15 @@ use Rattle.tag.specs.TagType.{joined, listBytes}
 use Rattle.tag.proofs.Runs.{length-run, map-take, map-drop}
 use Rattle.tag.proofs.Picks.{picks-run}
 use Rattle.tag.proofs.Chunks.{chunk-more, joined-append}
-use Rattle.type3.specs.Attributes.{attributes}
+use Rattle.type3.specs.AttributeInformation.{attributeInformation}
 use Rattle.type3.specs.Update.{blocksFor, blocksPerCommand, closed, plan}
 use Rattle.type3.specs.Codec.{commandBytes, storedBytes, encoded}
 use Rattle.type3.specs.Type3.{type3}
 use Rattle.type3.proofs.Update.{HasRoom, inside}
 use Rattle.type3.proofs.Counts.{between-guard, between-on, between-past}
 use Rattle.type3_list.specs.Views.Blocks.{blocksBytes, Chosen}
-use Rattle.type3_list.specs.Views.Listing.{attributeBlock, attributeCommand, messageCommand, messageCommands, listAs}
-use Rattle.type3_list.proofs.Attributes.{length-attribute-command}
+use Rattle.type3_list.specs.Views.Listing.{attributeInformationBlock, attributeCommand, messageCommand, messageCommands, listAs}
+use Rattle.type3_list.proofs.AttributeInformation.{length-attribute-command}
 use Rattle.type3_list.proofs.MessageBlocks.{part-chosen, all-chosen}
 use Rattle.type3_list.proofs.Dealing.{length-commands}
 use Rattle.type3_list.proofs.StoredBlocks.{closed-block, new-block, new-at}
@@ -80,23 +80,23 @@ module _ (idm i m : List ℕ) (r : HasRoom i m) where
 
   -- ---- the whole list
 
-  block-command : (j : List ℕ) (flag n : ℕ) → take 16 j ≡ attributeBlock i flag n → encoded idm (blockOf 16 j 0 ∷ []) ≡ attributeCommand idm i flag n
+  block-command : (j : List ℕ) (flag n : ℕ) → take 16 j ≡ attributeInformationBlock i flag n → encoded idm (blockOf 16 j 0 ∷ []) ≡ attributeCommand idm i flag n
   block-command j flag n e = ap (commandBytes idm (0 ∷ [])) (append-nil (take 16 j) ∙ e)
 
   -- its bytes; that Ln is as it was takes that its low bytes are bytes
   pub list-bytes : (w t : ℕ) → w ≡ blocksPerCommand (byte i 2) → t ≡ (blocksFor (length m) + (w - 1)) / w → blocksFor (length m) ≤ 255
       → byte i 12 < 256 → byte i 13 < 256
-      → listBytes (type3 idm) (plan i m) i ≡ listAs idm i m (attributes i .ln) w t (run 1 (blocksFor (length m)))
+      → listBytes (type3 idm) (plan i m) i ≡ listAs idm i m (attributeInformation i .ln) w t (run 1 (blocksFor (length m)))
   list-bytes w t e f few b12 b13 =
       let bs = run 1 (blocksFor (length m)) in
-      let shut : encoded idm (blockOf 16 (closed i) 0 ∷ []) ≡ attributeCommand idm i 0x0F (attributes i .ln)
-      = block-command (closed i) 0x0F (attributes i .ln) (closed-block i (omega (arith, inside i m r)) b12 b13) in
+      let shut : encoded idm (blockOf 16 (closed i) 0 ∷ []) ≡ attributeCommand idm i 0x0F (attributeInformation i .ln)
+      = block-command (closed i) 0x0F (attributeInformation i .ln) (closed-block i (omega (arith, inside i m r)) b12 b13) in
       let opened : encoded idm (blockOf 16 (newImage (plan i m) i) 0 ∷ []) ≡ attributeCommand idm i 0x00 (length m)
       = block-command (newImage (plan i m) i) 0x00 (length m) (new-block i m r) in
       let rest = joined-append (encoded idm) (middle (plan i m) i) (blockOf 16 (newImage (plan i m) i) 0 ∷ []) in
       ap (λ x. encoded idm (blockOf 16 (closed i) 0 ∷ []) ++ x) rest
       ∙ cc (shut, middle-bytes w t e f few, opened)
-      ∙ sym (append-assoc (attributeCommand idm i 0x0F (attributes i .ln)) (messageCommands idm m w bs t) (attributeCommand idm i 0x00 (length m)))
+      ∙ sym (append-assoc (attributeCommand idm i 0x0F (attributeInformation i .ln)) (messageCommands idm m w bs t) (attributeCommand idm i 0x00 (length m)))
 
 -- the number of its bytes
 pub length-list-as : (idm i m : List ℕ) (ln w t : ℕ) (bs : List ℕ) → length idm ≡ 8 → length bs ≤ w * t

@@ -11,11 +11,11 @@ use Rattle.tag.specs.Bytes.{byte, run, overlay}
 use Rattle.tag.specs.Plan.{newImage}
 use Rattle.tag.proofs.Addresses.{overlay-reads}
 use Rattle.tag.proofs.Runs.{length-run, map-run}
-use Rattle.type3.specs.Attributes.{steadySum, attributes}
+use Rattle.type3.specs.AttributeInformation.{steadySum, attributeInformation}
 use Rattle.type3.specs.Update.{blocksFor, addresses, lnSum, body, values, closedSum, closed, plan}
 use Rattle.type3.proofs.Update.{closed-else, closed-length, closed-reads, above-addresses, length-body, new-agrees, new-length, HasRoom, inside}
 use Rattle.type3_list.specs.Views.Blocks.{messageBlock}
-use Rattle.type3_list.specs.Views.Listing.{attributeBlock}
+use Rattle.type3_list.specs.Views.Listing.{attributeInformationBlock}
 use Rattle.type3_list.proofs.MessageBlocks.{block-filled}
 
 -- block 0 of an image is its sixteen bytes
@@ -26,10 +26,10 @@ sixteen j l = sym (map-run 16 0 j (omega arith))
 
 -- with Ln as it was
 pub closed-block : (i : List ℕ) → 16 ≤ length i → byte i 12 < 256 → byte i 13 < 256
-    → take 16 (closed i) ≡ attributeBlock i 0x0F (attributes i .ln)
-unfolding attributeBlock
+    → take 16 (closed i) ≡ attributeInformationBlock i 0x0F (attributeInformation i .ln)
+unfolding attributeInformationBlock
 closed-block i l b12 b13 =
-    let ln = attributes i .ln in
+    let ln = attributeInformation i .ln in
     let high : byte i 11 ≡ ln / 65536 = omega arith in
     let mid : byte i 12 ≡ ln / 256 % 256 = omega arith in
     let low : byte i 13 ≡ ln % 256 = omega arith in
@@ -70,8 +70,8 @@ module _ (i m : List ℕ) (r : HasRoom i m) where
       (overlay-reads (length i) (values i m) [] (addresses m) i 8 (above-addresses m (length i) (inside i m r)) (omega arith)
       (omega (arith, length-body m, length-run (16 * blocksFor (length m)) 16)))
 
-  pub new-block : take 16 (newImage (plan i m) i) ≡ attributeBlock i 0x00 (length m)
-  unfolding new attributeBlock
+  pub new-block : take 16 (newImage (plan i m) i) ≡ attributeInformationBlock i 0x00 (length m)
+  unfolding new attributeInformationBlock
   new-block =
       let same = new-agrees i m in
       let set = new-reads in

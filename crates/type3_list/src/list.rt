@@ -13,7 +13,7 @@ ghost use Prim.Native.Nat.{_+_, _*_, _<_, _≤_};
 ghost use lib.ListN.{length, drop};
 ghost use Rattle.type3.specs.Codec.{blockListBytes, opening};
 ghost use Rattle.type3_list.specs.Views.Blocks.{Chosen};
-ghost use Rattle.type3_list.specs.Views.Listing.{attributeBlock, attributeCommand, messageCommand, messageCommands, listAs, Dealt, Listing};
+ghost use Rattle.type3_list.specs.Views.Listing.{attributeInformationBlock, attributeCommand, messageCommand, messageCommands, listAs, Dealt, Listing};
 
 // Where the command for block 0 has its data.
 const ATTRIBUTE_DATA: usize = commands::FRONT + block_list::ELEMENT;
@@ -47,9 +47,9 @@ fn put_block_list(blocks: &[u8], out: &mut [u8])
 }
 
 // Block 0 with this WriteFlag and this Ln, and its checksum; all else as the image has it.
-fn put_attribute_block(image: &[u8], flag: u8, ln: usize, out: &mut [u8])
+fn put_attribute_information_block(image: &[u8], flag: u8, ln: usize, out: &mut [u8])
     requires { ⌜ (16 ≤ length (now image)) × (ln < 65536) × (16 ≤ length (now out)) ⌝ }
-    ensures { λ _. ⌜ now (out .exit) ≡ attributeBlock (now (image .entry)) flag ln ++ drop 16 (now (out .entry)) ⌝ }
+    ensures { λ _. ⌜ now (out .exit) ≡ attributeInformationBlock (now (image .entry)) flag ln ++ drop 16 (now (out .entry)) ⌝ }
 {
     let high = ln / 65536;
     let mid = ln / 256 % 256;
@@ -84,13 +84,13 @@ fn put_attribute_block(image: &[u8], flag: u8, ln: usize, out: &mut [u8])
 // ---- the commands
 
 // Writes block 0 with this WriteFlag and this Ln.
-fn put_attributes(image: &[u8], idm: [u8; 8], flag: u8, ln: usize, out: &mut [u8])
+fn put_attribute_command(image: &[u8], idm: [u8; 8], flag: u8, ln: usize, out: &mut [u8])
     requires { ⌜ (16 ≤ length (now image)) × (ln < 65536) × (31 ≤ length (now out)) ⌝ }
     ensures { λ _. ⌜ now (out .exit) ≡ attributeCommand idm (now (image .entry)) flag ln ++ drop 31 (now (out .entry)) ⌝ }
 {
     put_opening(idm, 1, out);
     put_block_list(&[0u8], &mut out[commands::FRONT..]);
-    put_attribute_block(image, flag, ln, &mut out[ATTRIBUTE_DATA..]);
+    put_attribute_information_block(image, flag, ln, &mut out[ATTRIBUTE_DATA..]);
 }
 
 // Writes the blocks, which one command may store.
@@ -141,7 +141,7 @@ pub fn put_list(
     let n = message.len();
     let k = blocks.len();
     let last = ATTRIBUTE_COMMAND + commands::FRONT * turns + commands::PER_BLOCK * k;
-    put_attributes(image, idm, 0x0F, ln, list);
+    put_attribute_command(image, idm, 0x0F, ln, list);
     put_commands(
         message,
         idm,
@@ -150,5 +150,5 @@ pub fn put_list(
         blocks,
         &mut list[ATTRIBUTE_COMMAND..],
     );
-    put_attributes(image, idm, 0x00, n, &mut list[last..]);
+    put_attribute_command(image, idm, 0x00, n, &mut list[last..]);
 }

@@ -13,7 +13,7 @@ use Rattle.tag.specs.TagType.{refused-write, written, writing, refused-output, 
 use Rattle.tag.specs.Cuts.{Ready}
 use Rattle.tag.proofs.Laws.{written-ready}
 use Rattle.tag.proofs.Runs.{length-run}
-use Rattle.type3.specs.Attributes.{attributes}
+use Rattle.type3.specs.AttributeInformation.{attributeInformation}
 use Rattle.type3.specs.Update.{blocksFor, blocksPerCommand, plan}
 use Rattle.type3.specs.Type3.{type3}
 use Rattle.type3.proofs.Message.{bounds}
@@ -54,33 +54,33 @@ module _ (idm i m : List ℕ) (room w t : ℕ) (g : Planned idm i m w t) where
   list-length : length (list (plan i m) i) ≡ 2 + t
   list-length = list-count idm i m ready ∙ ap (λ v. 2 + (blocksFor (length m) + (v - 1)) / v) (sym (g .width-is)) ∙ ap (λ c. 2 + c) (sym (g .turns-is))
 
-  written-is : write (type3 idm) room i m ≡ fitted room (2 + t) (listAs idm i m (attributes i .ln) w t bs)
+  written-is : write (type3 idm) room i m ≡ fitted room (2 + t) (listAs idm i m (attributeInformation i .ln) w t bs)
   written-is =
       ap (writeBy (type3 idm) room i) (g .planned)
       ∙ ap (λ n. fitted room n (listBytes (type3 idm) (plan i m) i)) list-length
       ∙ ap (fitted room (2 + t)) (list-bytes idm i m (ready-room idm i m ready) w t (g .width-is) (g .turns-is) (g .few) (g .byte-12) (g .byte-13))
 
-  long : length (listAs idm i m (attributes i .ln) w t bs) ≡ 62 + 13 * t + 18 * blocksFor (length m)
-  long = let many = length-run (blocksFor (length m)) 1 in length-list-as idm i m (attributes i .ln) w t bs (g .eight) (omega (arith, g .enough)) ∙ rw many
+  long : length (listAs idm i m (attributeInformation i .ln) w t bs) ≡ 62 + 13 * t + 18 * blocksFor (length m)
+  long = let many = length-run (blocksFor (length m)) 1 in length-list-as idm i m (attributeInformation i .ln) w t bs (g .eight) (omega (arith, g .enough)) ∙ rw many
 
   pub write-short : room < 62 + 13 * t + 18 * blocksFor (length m) → write (type3 idm) room i m ≡ refused-output short-buffer
-  write-short l = written-is ∙ rw (lt-leb (length (listAs idm i m (attributes i .ln) w t bs)) room (omega (arith, long)))
+  write-short l = written-is ∙ rw (lt-leb (length (listAs idm i m (attributeInformation i .ln) w t bs)) room (omega (arith, long)))
 
   pub write-list : 62 + 13 * t + 18 * blocksFor (length m) ≤ room
-      → write (type3 idm) room i m ≡ output (2 + t) (listAs idm i m (attributes i .ln) w t bs)
-  write-list l = written-is ∙ rw (le-leb (length (listAs idm i m (attributes i .ln) w t bs)) room (omega (arith, long)))
+      → write (type3 idm) room i m ≡ output (2 + t) (listAs idm i m (attributeInformation i .ln) w t bs)
+  write-list l = written-is ∙ rw (le-leb (length (listAs idm i m (attributeInformation i .ln) w t bs)) room (omega (arith, long)))
 
 -- the buffer with the list laid over it, as the code lays it
-pub write-laid : (idm i m list list′ bs : List ℕ) (ln w t : ℕ) → Planned idm i m w t → ln ≡ attributes i .ln → bs ≡ run 1 (blocksFor (length m))
+pub write-laid : (idm i m list list′ bs : List ℕ) (ln w t : ℕ) → Planned idm i m w t → ln ≡ attributeInformation i .ln → bs ≡ run 1 (blocksFor (length m))
     → 62 + 13 * t + 18 * blocksFor (length m) ≤ length list
     → list′ ≡ listAs idm i m ln w t bs ++ drop (62 + 13 * t + 18 * length bs) list
     → list′ ≡ outputInto list (write (type3 idm) (length list) i m)
 write-laid idm i m list list′ bs ln w t g e f l q =
     let all = run 1 (blocksFor (length m)) in
-    let bytes = listAs idm i m (attributes i .ln) w t all in
+    let bytes = listAs idm i m (attributeInformation i .ln) w t all in
     q
     ∙ ap (λ x. listAs idm i m x w t bs ++ drop (62 + 13 * t + 18 * length bs) list) e
-    ∙ ap (λ x. listAs idm i m (attributes i .ln) w t x ++ drop (62 + 13 * t + 18 * length x) list) f
+    ∙ ap (λ x. listAs idm i m (attributeInformation i .ln) w t x ++ drop (62 + 13 * t + 18 * length x) list) f
     ∙ ap (λ k. bytes ++ drop (62 + 13 * t + 18 * k) list) (length-run (blocksFor (length m)) 1)
     ∙ ap (λ n. bytes ++ drop n list) (sym (long idm i m (length list) w t g))
     ∙ sym (ap (outputInto list) (write-list idm i m (length list) w t g l))

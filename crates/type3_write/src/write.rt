@@ -5,7 +5,7 @@ use tag::numbers;
 use tag::refusals;
 use type3::commands;
 use type3::read;
-use type3::read::Attributes;
+use type3::read::AttributeInformation;
 use type3::read::Checked;
 use type3::space;
 use type3_list::list;
@@ -15,7 +15,7 @@ ghost use lib.ListN.{length, take};
 ghost use Rattle.tag.specs.Bytes.{run};
 ghost use Rattle.tag.specs.Contracts.{Wrote};
 ghost use Rattle.type3.specs.Type3.{type3};
-ghost use Rattle.type3.specs.Views.Attributes.{Readable};
+ghost use Rattle.type3.specs.Views.AttributeInformation.{Readable};
 ghost use Rattle.type3_list.specs.Views.Listing.{Dealt};
 
 // A list has two commands for block 0.
@@ -52,7 +52,7 @@ fn write_to(
     image: &[u8],
     message: &[u8],
     idm: [u8; 8],
-    a: Attributes,
+    a: AttributeInformation,
     list: &mut [u8],
 ) -> CountAnswer
     requires { ⌜ Readable (now image) a ⌝ }
@@ -81,7 +81,7 @@ fn write_to(
 pub fn write(image: &[u8], message: &[u8], idm: &[u8; 8], list: &mut [u8]) -> CountAnswer
     ensures { λ r. ⌜ Wrote (type3 (now (idm .entry))) (now (image .entry)) (now (message .entry)) (now (list .entry)) r (now (list .exit)) ⌝ }
 {
-    let checked = read::attributes_of(image);
+    let checked = read::attribute_information(image);
     match checked {
         Checked::Refused(n) => CountAnswer::Refused(n),
         Checked::Fine(a) => write_to(image, message, *idm, a, list),

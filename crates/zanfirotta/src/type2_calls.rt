@@ -48,13 +48,13 @@ pub extern "C" fn zan_type2_model(image: &mut [u8], command: &[u8]) -> u64
 #[no_mangle]
 pub extern "C" fn zan_type2_encode(
     block: u64,
-    four: &[u8; container::BLOCK_SIZE],
+    blockdata: &[u8; container::BLOCK_SIZE],
     blocks: u64,
     bytes: &mut [u8],
 ) -> u64
-    ensures { λ r. ⌜ PutOutToC (encode blocks block (now (four .entry))) (now (bytes .entry)) r (now (bytes .exit)) ⌝ }
+    ensures { λ r. ⌜ PutOutToC (encode blocks block (now (blockdata .entry))) (now (bytes .entry)) r (now (bytes .exit)) ⌝ }
 {
-    let bytes4 = *four;
+    let bytes4 = *blockdata;
     let command = Command {
         block: Block(block as usize),
         bytes: bytes4,
@@ -68,11 +68,11 @@ pub extern "C" fn zan_type2_decode(
     bytes: &[u8],
     blocks: u64,
     block: &mut u64,
-    four: &mut [u8; container::BLOCK_SIZE],
+    blockdata: &mut [u8; container::BLOCK_SIZE],
 ) -> u64
     ensures answer { λ r. ⌜ r ≡ packedDecoded2 (decode blocks (now (bytes .entry))) ⌝ }
     ensures number { λ _. ⌜ now (block .exit) ≡ blockInto (now (block .entry)) (decode blocks (now (bytes .entry))) ⌝ }
-    ensures carried { λ _. ⌜ now (four .exit) ≡ dataInto (now (four .entry)) (decode blocks (now (bytes .entry))) ⌝ }
+    ensures carried { λ _. ⌜ now (blockdata .exit) ≡ dataInto (now (blockdata .entry)) (decode blocks (now (bytes .entry))) ⌝ }
 {
     let decoded = commands::decode(bytes, blocks as usize);
     let refusal = decoded.refusal;
@@ -82,6 +82,6 @@ pub extern "C" fn zan_type2_decode(
     let number = decoded.command.block.0;
     let carried = decoded.command.bytes;
     *block = number as u64;
-    *four = carried;
+    *blockdata = carried;
     0
 }

@@ -17,7 +17,7 @@ pub record Writable (k : Kind) (idm i m table : List ℕ) : Type 0 where
   pub reads : held (typeOf k idm) i ≡ broken → ⊥
 
 -- and its old message, where it had one
-pub record Judging (k : Kind) (idm i m table old : List ℕ) (had : Bool) : Type 0 where
+pub record Judging (k : Kind) (idm i m table old : List ℕ) (present : Bool) : Type 0 where
   pub attested : Attested k i
   pub protects : Protects k i m table
-  pub old-is : oldHeld had old ≡ held (typeOf k idm) i
+  pub old-is : oldHeld present old ≡ held (typeOf k idm) i

@@ -8,7 +8,7 @@ use Rattle.tag.specs.Bytes.{byte}
 use Rattle.tag.specs.TagType.{TagType}
 use Rattle.type2.specs.Type2.{type2}
 use Rattle.type2.specs.Views.Kept.{Covered}
-use Rattle.type3.specs.Attributes.{nmaxbOf}
+use Rattle.type3.specs.AttributeInformation.{nmaxbOf}
 use Rattle.type3.specs.Type3.{type3}
 use Rattle.kinds.specs.declared.Kind.{Kind}
 use Rattle.kinds.specs.declared.Kind.the-variants as kind
@@ -19,7 +19,7 @@ typeOf (kind.Type2 e) idm = type2
 typeOf (kind.Type3 nbw nmaxb) idm = type3 idm
 
 -- Nbw and Nmaxb are those of the tag, whose blocks lie in the image
-pub record Attributed (i : List ℕ) (nbw nmaxb : ℕ) : Type 0 where
+pub record AttributesKnown (i : List ℕ) (nbw nmaxb : ℕ) : Type 0 where
   pub nbw-is : nbw ≡ byte i 2
   pub nmaxb-is : nmaxb ≡ nmaxbOf i
   pub reach : 16 * (1 + nmaxb) ≤ length i
@@ -28,7 +28,7 @@ pub record Attributed (i : List ℕ) (nbw nmaxb : ℕ) : Type 0 where
 -- what the kind says of the tag handed in
 abbrev pub Attested : Kind → List ℕ → Type 0
 Attested (kind.Type2 e) i = length i ≤ 1024
-Attested (kind.Type3 nbw nmaxb) i = Attributed i nbw nmaxb
+Attested (kind.Type3 nbw nmaxb) i = AttributesKnown i nbw nmaxb
 
 -- what tells the protected addresses, for a message: where the bytes to set lie by the skip table, or that the message fits
 abbrev pub Protects : Kind → List ℕ → List ℕ → List ℕ → Type 0

@@ -4,7 +4,7 @@ use mathlib.Core.Path.{_≡_}
 use mathlib.Core.List.{List}
 use Prim.Native.Nat.{ℕ, zero, suc, _≤_}
 use lib.ListN.{length, replicate}
-use Rattle.tlv.specs.Views.Marks.{Marked}
+use Rattle.tlv.specs.Views.Areas.{SkipsSet}
 
 -- u is t with one more area marked, as far as it lies from first up to end
 pub record OneMore (first end : ℕ) (t u : List ℕ) : Type 0 where
@@ -12,7 +12,7 @@ pub record OneMore (first end : ℕ) (t u : List ℕ) : Type 0 where
   pub to : ℕ
   pub late : first ≤ from
   pub inside : to ≤ end
-  pub marked : Marked t u from to
+  pub skips : SkipsSet t u from to
 
 -- u is t with n more areas marked
 unfoldable pub Added : ℕ → ℕ → ℕ → List ℕ → List ℕ → Type 0

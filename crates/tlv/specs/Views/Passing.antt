@@ -15,7 +15,7 @@ use Rattle.tag.specs.Refusals.{bad-length}
 use Rattle.tlv.specs.Areas.{Control, Area}
 use Rattle.tlv.specs.Walk.{takeByte, onByte, Length, bad, len, Passed, more, stop, areaBy}
 use Rattle.tlv.specs.Views.Walks.{ahead, Within, Onward, Along}
-use Rattle.tlv.specs.Views.Marks.{SmallArea}
+use Rattle.tlv.specs.Views.Areas.{SmallArea}
 use Rattle.tlv.specs.Views.Counted.{OneMore}
 
 -- ---- length fields

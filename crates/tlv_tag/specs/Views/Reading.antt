@@ -13,24 +13,24 @@ use Rattle.tag.specs.Reading.{Report, Reading, unreadable, reads}
 use Rattle.tag.specs.Answers.{contentOf}
 use Rattle.tlv.specs.Areas.{allowedArea}
 use Rattle.tlv.specs.Walk.{lengthOf, find}
-use Rattle.tlv_tag.specs.Message.{View, refuse, view, viewBy, viewOf, reportOf}
+use Rattle.tlv_tag.specs.Message.{Located, refuse, located, locateBy, locateFrom, reportOf}
 
 -- the data area from first up to end
-abbrev pub areaView : List ℕ → ℕ → ℕ → View
-areaView i first end = viewOf i (find (allowedArea first (length i)) (end - first) i (run first (end - first)))
+abbrev pub areaLocated : List ℕ → ℕ → ℕ → Located
+areaLocated i first end = locateFrom i (find (allowedArea first (length i)) (end - first) i (run first (end - first)))
 
 -- a message TLV with the usable addresses us after its type byte
-abbrev pub tlvView : List ℕ → List ℕ → View
-tlvView i us = viewBy us (lengthOf i us)
+abbrev pub tlvLocated : List ℕ → List ℕ → Located
+tlvLocated i us = locateBy us (lengthOf i us)
 
 -- a value of n bytes, with the usable addresses us from its first on
 unfoldable pub valueReading : Bool → List ℕ → ℕ → List ℕ → Reading
 valueReading w i n us = cond (leb n (length us)) (reads (reportOf w i (take n us))) (unreadable bad-length)
 
 -- 0, or the refusal's number
-abbrev pub refusalOf : View → ℕ
+abbrev pub refusalOf : Located → ℕ
 refusalOf (refuse r) = r
-refusalOf (view us ms) = 0
+refusalOf (located us ms) = 0
 
 -- the code's report of such a value
 abbrev pub reportAs : List ℕ → List ℕ → code.Report → Report

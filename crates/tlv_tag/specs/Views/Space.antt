@@ -12,7 +12,7 @@ use Rattle.tlv.specs.declared.walk.Walk.{Walk}
 use Rattle.tlv.specs.Views.Walks.{ahead, Placed}
 use Rattle.tlv_tag.specs.declared.space.Space as code
 use Rattle.tlv_tag.specs.declared.space.Space.the-variants as answer
-use Rattle.tlv_tag.specs.Message.{View, refuse, view}
+use Rattle.tlv_tag.specs.Message.{Located, refuse, located}
 use Rattle.tlv_tag.specs.Update.{fitsIn}
 
 -- a refusal; or the usable addresses after the message TLV's type byte, which have room
@@ -21,9 +21,9 @@ pub data Space : Type 0 where
   space : List ℕ → Space
 
 -- for a message of n bytes, by the view of the tag and whether it is writable: reading's refusals, then 9, 10, 11
-abbrev pub spaceOf : Bool → ℕ → View → Space
+abbrev pub spaceOf : Bool → ℕ → Located → Space
 spaceOf w n (refuse r) = no-space r
-spaceOf w n (view us ms) =
+spaceOf w n (located us ms) =
     cond (eqb n 0) (no-space empty-message)
     (cond w (cond (fitsIn n (length us)) (space us) (no-space message-too-long))
     (no-space not-writable))

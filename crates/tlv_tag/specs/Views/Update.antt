@@ -22,7 +22,7 @@ pub record Spare (z : ℕ) (i new marks : List ℕ) : Type 0 where
   pub some-size : 0 < z
   pub as-long : length new ≡ length i
   pub each-marked : length i ≤ z * length marks
-  pub unmarked : marks ≡ replicate (length marks) 0
+  pub zeros : marks ≡ replicate (length marks) 0
 
 -- the new image, the marks, which are 1 for the blocks between the guard block's two commands and 0 else, and the address of the
 -- first length byte

@@ -4,14 +4,14 @@ use mathlib.Core.List.{List, [], _∷_, _++_}
 use Prim.Native.Nat.{ℕ, zero, suc, _+_, _*_, _/_, _%_, _<_, _≤_}
 use lib.ListN.{length, take, drop}
 use Rattle.tag.specs.Bytes.{byte}
-use Rattle.type3.specs.Attributes.{steadySum}
+use Rattle.type3.specs.AttributeInformation.{steadySum}
 use Rattle.type3.specs.Update.{lnSum}
 use Rattle.type3.specs.Codec.{commandBytes}
 use Rattle.type3_list.specs.Views.Blocks.{blocksBytes, Chosen}
 
 -- block 0 with this WriteFlag, this Ln and this checksum, all else as it is
-abbrev pub attributeBlockBy : List ℕ → ℕ → ℕ → ℕ → List ℕ
-attributeBlockBy i flag n s =
+abbrev pub attributeInformationBlockBy : List ℕ → ℕ → ℕ → ℕ → List ℕ
+attributeInformationBlockBy i flag n s =
     byte i 0
     ∷ byte i 1
     ∷ byte i 2
@@ -31,11 +31,11 @@ attributeBlockBy i flag n s =
     ∷ []
 
 -- block 0 with this WriteFlag and this Ln, and its checksum
-unfoldable pub attributeBlock : List ℕ → ℕ → ℕ → List ℕ
-attributeBlock i flag n = attributeBlockBy i flag n (steadySum i + flag + lnSum n)
+unfoldable pub attributeInformationBlock : List ℕ → ℕ → ℕ → List ℕ
+attributeInformationBlock i flag n = attributeInformationBlockBy i flag n (steadySum i + flag + lnSum n)
 
 abbrev pub attributeCommand : List ℕ → List ℕ → ℕ → ℕ → List ℕ
-attributeCommand idm i flag n = commandBytes idm (0 ∷ []) (attributeBlock i flag n)
+attributeCommand idm i flag n = commandBytes idm (0 ∷ []) (attributeInformationBlock i flag n)
 
 -- the command for some of the message's blocks
 abbrev pub messageCommand : List ℕ → List ℕ → List ℕ → List ℕ

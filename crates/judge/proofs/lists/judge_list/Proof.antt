@@ -14,13 +14,13 @@ use Rattle.judge.proofs.lists.judge_list.Statement.{statement}
 use Rattle.judge.proofs.lists.judge_list.Tie as tie
 
 abbrev Inv-loop : tie.InvT-loop
-Inv-loop kind idm image message table old had list work₀ gathered₀ at₀ count₀ work gathered at count =
+Inv-loop kind idm image message table old present list work₀ gathered₀ at₀ count₀ work gathered at count =
     (at ≤ length list) × (count ≤ at) × (length work ≡ length image) × (length gathered ≡ 1024)
     × (judge (task (typeOf kind idm) image message) 0 image (commands (typeOf kind idm) image list)
     ≡ judge (task (typeOf kind idm) image message) count work (from (typeOf kind idm) image list at))
 
 abbrev μ-loop : tie.MeasureT-loop
-μ-loop kind idm image message table old had list work₀ gathered₀ at₀ count₀ work gathered at count = length list - at
+μ-loop kind idm image message table old present list work₀ gathered₀ at₀ count₀ work gathered at count = length list - at
 
 loop-holds : tie.Need-loop-holds Inv-loop μ-loop
 loop-holds c =

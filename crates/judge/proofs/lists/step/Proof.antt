@@ -25,7 +25,7 @@ returns-2 c =
     let at-start = at-shared-slice-known4 .before .before .before .before in
     let a = at-start .args in
     step-change (typeOf (a .kind) (a .idm .now)) (a .image .now) (a .message .now) (a .work .now) (a .command .now) _ _ (at-take-command .take-command .ensures)
-    (a .old .now) (a .had) (at-start .pre .0 .old-is) (at-if1 .if1 .left) _ (at-is-kept .is-kept .ensures) (c .if2 .taken)
+    (a .old .now) (a .present) (at-start .pre .0 .old-is) (at-if1 .if1 .left) _ (at-is-kept .is-kept .ensures) (c .if2 .taken)
 
 returns-3 : tie.Need-returns-3
 returns-3 c =
@@ -40,7 +40,7 @@ returns-3 c =
     let a = at-start .args in
     step-misread (typeOf (a .kind) (a .idm .now)) (a .image .now) (a .message .now) (a .work .now) (a .command .now) _ _
     (at-take-command .take-command .ensures)
-    (a .old .now) (a .had) (at-start .pre .0 .old-is) (at-if1 .if1 .left) _ (at-is-kept .is-kept .ensures) (at-if2 .if2 .left) _ (at-is-safe .is-safe .ensures)
+    (a .old .now) (a .present) (at-start .pre .0 .old-is) (at-if1 .if1 .left) _ (at-is-kept .is-kept .ensures) (at-if2 .if2 .left) _ (at-is-safe .is-safe .ensures)
     (c .if3 .taken)
 
 returns-4 : tie.Need-returns-4
@@ -55,7 +55,7 @@ returns-4 c =
     let at-start = at-shared-slice-known4 .before .before .before .before in
     let a = at-start .args in
     step-none (typeOf (a .kind) (a .idm .now)) (a .image .now) (a .message .now) (a .work .now) (a .command .now) _ _ (at-take-command .take-command .ensures)
-    (a .old .now) (a .had) (at-start .pre .0 .old-is) (at-if1 .if1 .left) _ (at-is-kept .is-kept .ensures) (at-if2 .if2 .left) _ (at-is-safe .is-safe .ensures)
+    (a .old .now) (a .present) (at-start .pre .0 .old-is) (at-if1 .if1 .left) _ (at-is-kept .is-kept .ensures) (at-if2 .if2 .left) _ (at-is-safe .is-safe .ensures)
     (c .if3 .left)
 
 pub step-spec : {M : Type 1} → statement M

@@ -2,7 +2,7 @@
 use mathlib.Core.Path.{sym, ap, subst, _∙_}
 use Rattle.tag.specs.Judge.{judgeBy}
 use Rattle.type3.specs.Type3.{type3}
-use Rattle.type3.specs.Views.Attributes.{checkedAs, Known}
+use Rattle.type3.specs.Views.AttributeInformation.{checkedAs, Known}
 use Rattle.type3.proofs.Deciding.{writing-unread}
 use borrow.Author.Needs.{needs}
 use Rattle.judge.proofs.type3_lists.judge.Statement.{statement}
@@ -11,22 +11,22 @@ use Rattle.judge.proofs.type3_lists.judge.Tie as tie
 judge-readable-requires : tie.Need-judge-readable-requires
 judge-readable-requires c κs =
     let at-checked2 = c .before in
-    let at-attributes-of = at-checked2 .before .before in
-    let at-start = at-attributes-of .before .before .before .before in
+    let at-attribute-information = at-checked2 .before .before in
+    let at-start = at-attribute-information .before .before .before .before in
     let i = at-start .args .image .now in
     let r = at-checked2 .checked2 .given in
-    let t = at-attributes-of .attributes-of .ensures in
+    let t = at-attribute-information .attribute-information .ensures in
     record { passes = sym (t .0) ∙ ap checkedAs (r .1); known = subst (Known i) (r .1) (t .1) }
 
 returns : tie.Need-returns
 returns c =
     let at-checked = c .before in
-    let at-attributes-of = at-checked .before .before in
-    let at-start = at-attributes-of .before .before .before .before in
+    let at-attribute-information = at-checked .before .before in
+    let at-start = at-attribute-information .before .before .before .before in
     let a = at-start .args in
     let r = at-checked .checked .given in
     sym (ap (judgeBy (type3 (a .idm .now)) (a .image .now) (a .message .now) (a .list .now))
-    (writing-unread (a .idm .now) (a .image .now) (a .message .now) (r .0 .0) (sym (at-attributes-of .attributes-of .ensures .0) ∙ ap checkedAs (r .1))))
+    (writing-unread (a .idm .now) (a .image .now) (a .message .now) (r .0 .0) (sym (at-attribute-information .attribute-information .ensures .0) ∙ ap checkedAs (r .1))))
 
 pub judge-spec : {M : Type 1} → statement M
 judge-spec =

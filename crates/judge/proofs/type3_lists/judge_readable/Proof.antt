@@ -7,7 +7,7 @@ use borrow.Author.Tests.{leb-true}
 use lib.ListN.{length}
 use Rattle.tag.specs.Judge.{judgeBy}
 use Rattle.tag.proofs.Laws.{written-ready, ready-reads}
-use Rattle.type3.specs.Attributes.{nmaxbOf}
+use Rattle.type3.specs.AttributeInformation.{nmaxbOf}
 use Rattle.type3.specs.Update.{plan}
 use Rattle.type3.specs.Type3.{type3}
 use Rattle.type3.proofs.Deciding.{writing-refused, writing-planned}

@@ -17,7 +17,7 @@ returns c =
     let r = at-read .read in
     let shown = at-shown .shown in
     c .is-safe .ensures
-    ∙ ap (readsAs (a .new .now) (oldHeld (a .had) (a .old .now)))
+    ∙ ap (readsAs (a .new .now) (oldHeld (a .present) (a .old .now)))
     (held-read (a .kind) (a .idm .now) (a .image .now) (a .gathered .now) (r .last .1 .1 .1 .0) (readAs (r .result)) (shown .result .now) (at-start .pre)
     (r .ensures .0) (r .ensures .1) (shown .ensures))
 

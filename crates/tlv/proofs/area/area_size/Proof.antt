@@ -3,7 +3,7 @@ use mathlib.Core.Path.{sym, ap, _∙_}
 use Prim.Native.Nat.{_+_, _/_}
 use borrow.Author.Needs.{needs}
 use Rattle.tlv.specs.Areas.{areaSize}
-use Rattle.tlv.specs.Views.Marks.{controlAs}
+use Rattle.tlv.specs.Views.Areas.{controlAs}
 use Rattle.tlv.proofs.area.area_size.Statement.{statement}
 use Rattle.tlv.proofs.area.area_size.Tie as tie
 

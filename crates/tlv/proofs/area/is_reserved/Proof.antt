@@ -6,7 +6,7 @@ use borrow.Author.Needs.{needs}
 use borrow.Author.Tests.{eq-eqb, ne-eqb}
 use lib.Dec.{eqb}
 use Rattle.tlv.specs.Areas.{Control, lock, memory, reserved}
-use Rattle.tlv.specs.Views.Marks.{controlAs}
+use Rattle.tlv.specs.Views.Areas.{controlAs}
 use Rattle.tlv.proofs.area.is_reserved.Statement.{statement}
 use Rattle.tlv.proofs.area.is_reserved.Tie as tie
 

@@ -61,7 +61,7 @@ returns c =
       new-is = at-set-tlv-bytes .set-tlv-bytes .ensures ∙ ap (overlay us (tlvBytes (a .message .now))) (at-copy-image .copy-image .ensures);
       marks-are = λ b l.
           marked-between (a .size) us (a .image .now) (a .message .now) (a .marks .now) (k .last .1 .1 .1 .1 .0) (c .block .result .0)
-          (at-start .pre .1 .unmarked) (k .kept .1 .1 .1 .1 .0) (k .ensures)
+          (at-start .pre .1 .zeros) (k .kept .1 .1 .1 .1 .0) (k .ensures)
           (c .block .ensures ∙ ap (λ f. f / a .size) (found c .0)) b
           (omega (arith, length-set (k .last .1 .1 .1 .1 .0) (c .block .result .0) 0, k .kept .1 .1 .1 .1 .0));
       first-is = found c .0;

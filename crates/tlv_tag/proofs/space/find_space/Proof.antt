@@ -3,7 +3,7 @@ use mathlib.Core.Path.{sym, ap, _∙_}
 use native.Mathlib.Omega.{arith}
 use borrow.Author.Needs.{needs}
 use Rattle.tlv.specs.Views.Finding.{foundAs}
-use Rattle.tlv_tag.specs.Message.{viewOf}
+use Rattle.tlv_tag.specs.Message.{locateFrom}
 use Rattle.tlv_tag.specs.Views.Space.{spaceOf}
 use Rattle.tlv_tag.proofs.Fitting.{begin-placed, area-declared, found-all, found-at, here-placed}
 use Rattle.tlv_tag.proofs.space.find_space.Statement.{statement}
@@ -33,7 +33,7 @@ returns c =
     let f = at-find-message .find-message in
     let e = sym (ap (foundAs (f .last .1 .1 .1 .0)) (at-r .r .given .1)) ∙ f .ensures .0
     ∙ found-all (a .image .now) (a .table .now) (n .result) (a .first .0) (a .end .0) (at-start .pre) (n .ensures) in (
-      ap (λ x. spaceOf (a .writable) (a .n) (viewOf (a .image .now) x)) e,
+      ap (λ x. spaceOf (a .writable) (a .n) (locateFrom (a .image .now) x)) e,
       (tt, area-declared (a .image .now) (a .table .now) (f .last .1 .1 .1 .0) (n .result) (a .first .0) (a .end .0) (f .result) (n .ensures) (f .ensures .1)),
     )
 
@@ -50,7 +50,7 @@ returns-2 c =
     let e = sym (ap (foundAs (f .last .1 .1 .1 .0)) (g .1)) ∙ f .ensures .0
     ∙ found-all (a .image .now) (a .table .now) (n .result) (a .first .0) (a .end .0) (at-start .pre) (n .ensures) in
     let p = found-at (f .ensures .1) (g .1) in (
-      c .space-after .ensures .0 ∙ ap (λ x. spaceOf (a .writable) (a .n) (viewOf (a .image .now) x)) e,
+      c .space-after .ensures .0 ∙ ap (λ x. spaceOf (a .writable) (a .n) (locateFrom (a .image .now) x)) e,
       (
         here-placed (a .image .now) (f .last .1 .1 .1 .0) (a .n) (a .first .0) (a .end .0) (g .0 .1 .0) (c .space-after .result)
             (omega (arith, p .1, p .2, n .ensures .0)) (p .0 .1 .same-end ∙ n .ensures .1) (c .space-after .ensures .1),

@@ -3,7 +3,7 @@ use mathlib.Core.Path.{sym, _∙_}
 use borrow.Author.Needs.{needs}
 use Rattle.tlv.specs.Walk.{lengthOf}
 use Rattle.tlv.specs.Views.Walks.{ahead}
-use Rattle.tlv_tag.specs.Views.Reading.{tlvView}
+use Rattle.tlv_tag.specs.Views.Reading.{tlvLocated}
 use Rattle.tlv_tag.proofs.Fitting.{refused-space, whole-space}
 use Rattle.tlv_tag.proofs.space.space_after.Statement.{statement}
 use Rattle.tlv_tag.proofs.space.space_after.Tie as tie
@@ -12,7 +12,7 @@ returns : tie.Need-returns
 returns c =
     let a = c .before .before .before .before .args in
     let us = ahead (a .table .now) (a .w) in
-    (refused-space (a .writable) (a .n) (tlvView (a .image .now) us) _ (c .before .message-refusal .ensures) (c .if1 .taken), tt)
+    (refused-space (a .writable) (a .n) (tlvLocated (a .image .now) us) _ (c .before .message-refusal .ensures) (c .if1 .taken), tt)
 
 returns-2 : tie.Need-returns-2
 returns-2 c =

@@ -9,8 +9,8 @@ use Rattle.type2.proofs.commands.command_bytes.Tie as tie
 
 returns : tie.Need-returns
 returns c =
-    let four : length (c .args .t2) ≡ 4 = search needs in
-    ap (commandBytes (c .args .block)) (sym (four-bytes (c .args .t2) four))
+    let long : length (c .args .t2) ≡ 4 = search needs in
+    ap (commandBytes (c .args .block)) (sym (four-bytes (c .args .t2) long))
 
 pub command-bytes-spec : {M : Type 1} → statement M
 command-bytes-spec = tie.close (tie.spec (λ c. search needs) (λ c. search needs) (λ c. search needs) (λ c. search needs) returns)

@@ -27,9 +27,9 @@ returns-2 c =
     let at-start = at-nameable .before .before .before in
     let a = at-start .args in
     let n = at-nameable .nameable in
-    let four : length (a .command .bytes) ≡ 4 = search needs in
+    let long : length (a .command .bytes) ≡ 4 = search needs in
     let e = encode-short (a .blocks) (a .command .block .0) (a .command .bytes) (length (a .bytes .now))
-    (sym (n .ensures) ∙ not-false (n .result) (at-if1 .if1 .left)) four (omega arith) in
+    (sym (n .ensures) ∙ not-false (n .result) (at-if1 .if1 .left)) long (omega arith) in
     (sym (ap countOf e), sym (ap (outputInto (a .bytes .now)) e))
 
 cast-command-bytes : tie.Need-cast-command-bytes
@@ -46,9 +46,9 @@ returns-3 : tie.Need-returns-3
 returns-3 c =
     let a = c .before .before .before .before .before .before .before .before .before .before .before .args in
     let n = c .before .before .before .before .before .before .before .before .nameable in
-    let four : length (a .command .bytes) ≡ 4 = search needs in
+    let long : length (a .command .bytes) ≡ 4 = search needs in
     let bytes = commandBytes (a .command .block .0) (a .command .bytes) in
-    let e = encode-written (a .blocks) (a .command .block .0) (a .command .bytes) (length (a .bytes .now)) (sym (n .ensures) ∙ not-false (n .result) (c .before .before .before .before .before .before .before .if1 .left)) four (omega arith) in (
+    let e = encode-written (a .blocks) (a .command .block .0) (a .command .bytes) (length (a .bytes .now)) (sym (n .ensures) ∙ not-false (n .result) (c .before .before .before .before .before .before .before .if1 .left)) long (omega arith) in (
       sym (ap countOf e),
       c .before .before .store .ensures
           ∙ ap (sets (a .bytes .now) 0) (c .before .before .before .before .before .command-bytes .ensures)

@@ -2,7 +2,7 @@
 use mathlib.Core.Path.{sym, _∙_}
 use borrow.Author.Needs.{needs}
 use borrow.Author.Tests.{eq-eqb, ne-eqb, not-true, not-false}
-use Rattle.type2.proofs.Refusing.{not-blocks, image-too-short, image-too-long, no-mark, bad-version, bad-access, writable, read-only}
+use Rattle.type2.proofs.Refusing.{not-blocks, image-too-short, image-too-long, no-magic, bad-version, bad-access, writable, read-only}
 use Rattle.type2.proofs.container.data_area.Statement.{statement}
 use Rattle.type2.proofs.container.data_area.Tie as tie
 
@@ -39,7 +39,7 @@ data-area-spec =
     (λ c. (search image-too-short, tt))
     (λ c. (search image-too-long, tt))
     (λ c. search needs)
-    (λ c. (search no-mark, tt))
+    (λ c. (search no-magic, tt))
     (λ c. search needs)
     (λ c κs. search needs)
     returns-5

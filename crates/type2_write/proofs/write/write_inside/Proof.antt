@@ -16,9 +16,9 @@ prepare-requires c κs =
     let at-slice-known2 = at-prepare-arg2 .before .before .before .before in
     let at-start = at-slice-known2 .before .before .before .before in
     let a = at-start .args in (
-      blank (a .image .now) (a .table .now) (a .end .0) (a .writable) (at-start .pre .0 .area) (at-start .pre .1 .clear),
+      blank (a .image .now) (a .table .now) (a .end .0) (a .writable) (at-start .pre .0 .area) (at-start .pre .1 .blank-table),
       spare (a .image .now) (a .message .now) (a .end .0) (a .writable) (at-start .pre .0) (a .new .now) (a .marks .now) (at-start .pre .2)
-          (at-start .pre .1 .unmarked),
+          (at-start .pre .1 .blank-marks),
     )
 
 put-list-requires : tie.Need-put-list-requires
@@ -33,7 +33,7 @@ put-list-requires c κs =
     let p = at-prepare .prepare in
     let g = at-first .first .given in
     let long = p .kept .1 .1 .1 .1 .1 .1 .1 .0 ∙ at-start .pre .2 in
-    let marks-long = p .kept .1 .1 .1 .1 .1 .1 .1 .1 .0 ∙ at-start .pre .1 .unmarked .size in (
+    let marks-long = p .kept .1 .1 .1 .1 .1 .1 .1 .1 .0 ∙ at-start .pre .1 .blank-marks .size in (
       listed (a .image .now) (a .message .now) (a .end .0) (a .writable) (at-start .pre .0) (p .last .1 .1 .1 .1 .1 .1 .1 .0)
           (p .last .1 .1 .1 .1 .1 .1 .1 .1 .0) (p .result) (p .ensures .0) (g .0 .0) (g .1) long marks-long,
       long,
@@ -70,7 +70,7 @@ returns-2 c =
     let g = at-first .first .given in
     let e = listed-output (a .image .now) (a .message .now) (a .end .0) (a .writable) (at-start .pre .0) (p .last .1 .1 .1 .1 .1 .1 .1 .0)
     (p .last .1 .1 .1 .1 .1 .1 .1 .1 .0) (p .result) (p .ensures .0) (g .0 .0) (g .1)
-    (p .kept .1 .1 .1 .1 .1 .1 .1 .0 ∙ at-start .pre .2) (p .kept .1 .1 .1 .1 .1 .1 .1 .1 .0 ∙ at-start .pre .1 .unmarked .size) (length (a .list .now)) in
+    (p .kept .1 .1 .1 .1 .1 .1 .1 .0 ∙ at-start .pre .2) (p .kept .1 .1 .1 .1 .1 .1 .1 .1 .0 ∙ at-start .pre .1 .blank-marks .size) (length (a .list .now)) in
     (l .ensures .0 ∙ ap countOf e, l .ensures .1 ∙ ap (outputInto (a .list .now)) e)
 
 pub write-inside-spec : {M : Type 1} → statement M

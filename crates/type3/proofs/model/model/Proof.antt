@@ -6,7 +6,7 @@ use Rattle.tag.specs.Bytes.{byte}
 use Rattle.tag.specs.Stores.{tagAfter}
 use Rattle.tag.specs.Answers.{storingOf}
 use Rattle.tag.specs.Model.{imageAfter}
-use Rattle.type3.specs.Attributes.{nmaxbOf}
+use Rattle.type3.specs.AttributeInformation.{nmaxbOf}
 use Rattle.type3.specs.Codec.{decode, commandOf}
 use Rattle.type3.specs.Views.Framing.{isCommand}
 use Rattle.type3.proofs.Reading.{fault-some, fault-none, fine-long, attested}

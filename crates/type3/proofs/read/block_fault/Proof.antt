@@ -7,17 +7,17 @@ use borrow.Author.Needs.{needs}
 use borrow.Author.Tests.{eq-eqb, ne-eqb, not-true, not-false}
 use Rattle.tag.specs.Bytes.{byte}
 use Rattle.tag.specs.Views.Numbers.{sumTo}
-use Rattle.type3.specs.Attributes.{attributes}
+use Rattle.type3.specs.AttributeInformation.{attributeInformation}
 use Rattle.type3.proofs.read.block_fault.Statement.{statement}
 use Rattle.type3.proofs.read.block_fault.Tie as tie
 
 -- the sum that the checksum is compared with
-sum-is : (i : List ℕ) → sumTo i 14 ≡ attributes i .sum
+sum-is : (i : List ℕ) → sumTo i 14 ≡ attributeInformation i .sum
 unfolding sumTo
 sum-is i = omega arith
 
 -- the sum s and the word w of an image that passes the test
-summed : (i : List ℕ) (s w : ℕ) → s ≡ sumTo i 14 → s ≡ w → w ≡ 256 * byte i 14 + byte i 15 → attributes i .sum ≡ attributes i .checksum
+summed : (i : List ℕ) (s w : ℕ) → s ≡ sumTo i 14 → s ≡ w → w ≡ 256 * byte i 14 + byte i 15 → attributeInformation i .sum ≡ attributeInformation i .checksum
 summed i s w p e q = sym (sum-is i) ∙ sym p ∙ e ∙ q
 
 returns : tie.Need-returns
@@ -26,7 +26,7 @@ returns c =
     let at-sum = at-word .before in
     let at-start = at-sum .before .before in
     let i = at-start .args .image .now in
-    let wrong : attributes i .sum ≡ attributes i .checksum → ⊥
+    let wrong : attributeInformation i .sum ≡ attributeInformation i .checksum → ⊥
     = λ e. c .if1 .taken (at-sum .sum .ensures .0 ∙ sum-is i ∙ e ∙ sym (at-word .word .ensures .0)) in
     rw (ne-eqb _ _ wrong)
 

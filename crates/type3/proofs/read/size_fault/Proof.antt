@@ -4,7 +4,7 @@ use native.Mathlib.Omega.{arith}
 use borrow.Author.Needs.{needs}
 use borrow.Author.Tests.{le-leb, lt-leb}
 use lib.ListN.{length}
-use Rattle.type3.specs.Attributes.{nmaxbOf, attributes}
+use Rattle.type3.specs.AttributeInformation.{nmaxbOf, attributeInformation}
 use Rattle.type3.proofs.read.size_fault.Statement.{statement}
 use Rattle.type3.proofs.read.size_fault.Tie as tie
 
@@ -22,7 +22,7 @@ returns-2 c =
     let at-start = at-address .before .before .before in
     let i = at-start .args .image .now in
     let reach : 16 * (1 + nmaxbOf i) ≤ length i = omega arith in
-    let long : 16 * nmaxbOf i < attributes i .ln = omega arith in
+    let long : 16 * nmaxbOf i < attributeInformation i .ln = omega arith in
     rw (le-leb _ _ reach, lt-leb _ _ long)
 
 returns-3 : tie.Need-returns-3
@@ -31,7 +31,7 @@ returns-3 c =
     let at-start = at-address .before .before .before in
     let i = at-start .args .image .now in
     let reach : 16 * (1 + nmaxbOf i) ≤ length i = omega arith in
-    let short : attributes i .ln ≤ 16 * nmaxbOf i = omega arith in
+    let short : attributeInformation i .ln ≤ 16 * nmaxbOf i = omega arith in
     rw (le-leb _ _ reach, le-leb _ _ short)
 
 pub size-fault-spec : {M : Type 1} → statement M

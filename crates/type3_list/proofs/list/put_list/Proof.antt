@@ -7,7 +7,7 @@ use borrow.Author.Needs.{needs}
 use lib.ListN.{length, drop, length-append, length-drop}
 use Rattle.tag.proofs.Filling.{lay-part}
 use Rattle.type3_list.specs.Views.Listing.{attributeCommand, messageCommands}
-use Rattle.type3_list.proofs.Attributes.{length-attribute-command}
+use Rattle.type3_list.proofs.AttributeInformation.{length-attribute-command}
 use Rattle.type3_list.proofs.Dealing.{length-commands}
 use Rattle.type3_list.proofs.list.put_list.Statement.{statement}
 use Rattle.type3_list.proofs.list.put_list.Tie as tie
@@ -19,8 +19,8 @@ returns : tie.Need-returns
 returns c =
     let at-put-attributes2 = c .before .before in
     let at-put-commands = at-put-attributes2 .before .before .before .before in
-    let at-put-attributes = at-put-commands .before .before .before .before in
-    let at-slice-known = at-put-attributes .before .before in
+    let at-put-attribute-command = at-put-commands .before .before .before .before in
+    let at-slice-known = at-put-attribute-command .before .before in
     let at-start = at-slice-known .before .before .before .before in
     let a = at-start .args in
     let i = a .image .now in
@@ -30,7 +30,7 @@ returns c =
     let k = length bs in
     let eight = idm-length at-start in
     let last = 31 + 13 * a .turns + 18 * k in
-    let shut = at-put-attributes .put-attributes in
+    let shut = at-put-attribute-command .put-attribute-command in
     let closed = attributeCommand n i 0x0F (a .ln) in
     let body = messageCommands n m (a .w) bs (a .turns) in
     let place : 31 + (13 * a .turns + 18 * k) ≡ last = omega arith in

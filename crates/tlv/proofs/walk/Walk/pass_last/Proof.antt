@@ -5,7 +5,7 @@ use borrow.Author.Needs.{needs}
 use borrow.Author.Tests.{not-true, not-false}
 use Rattle.tlv.specs.Areas.{reserved, without}
 use Rattle.tlv.specs.Walk.{areaBy, more, stop}
-use Rattle.tlv.specs.Views.Marks.{controlAs}
+use Rattle.tlv.specs.Views.Areas.{controlAs}
 use Rattle.tlv.specs.Views.Walks.{ahead, ruleOf}
 use Rattle.tlv.proofs.Steps.{on-none, on-took, yes-by, no-by, took-placed, skipped}
 use Rattle.tlv.proofs.walk.Walk.pass_last.Statement.{statement}

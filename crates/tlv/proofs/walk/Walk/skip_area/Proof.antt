@@ -2,32 +2,32 @@
 use mathlib.Core.Path.{refl}
 use native.Mathlib.Omega.{arith}
 use borrow.Author.Needs.{needs}
-use Rattle.tlv.specs.Views.Marks.{areaAs}
-use Rattle.tlv.proofs.Marking.{area-marked}
+use Rattle.tlv.specs.Views.Areas.{areaAs}
+use Rattle.tlv.proofs.SkipTable.{area-skipped}
 use Rattle.tlv.proofs.walk.Walk.skip_area.Statement.{statement}
 use Rattle.tlv.proofs.walk.Walk.skip_area.Tie as tie
 
 returns : tie.Need-returns
 returns c =
     let at-end = c .before in
-    let at-mark = at-end .before .before .before .before in
-    let at-earlier = at-mark .before .before in
+    let at-skip = at-end .before .before .before .before in
+    let at-earlier = at-skip .before .before in
     let at-later = at-earlier .before in
     let at-struct-known2 = at-later .before in
     let at-start = at-struct-known2 .before .before .before .before in
-    let m = at-mark .mark in
+    let m = at-skip .skip in
     let from = at-later .later in
     let to = at-earlier .earlier in
     let a = at-start .args in
     let w = a .self in (
-      area-marked (a .table .now) (m .last .0) (areaAs (a .area)) (w .at .0) (w .end .0) (from .result .0) (to .result .0) (m .ensures) (from .ensures) (to .ensures) (at-start .pre .within .ordered),
+      area-skipped (a .table .now) (m .last .0) (areaAs (a .area)) (w .at .0) (w .end .0) (from .result .0) (to .result .0) (m .ensures) (from .ensures) (to .ensures) (at-start .pre .within .ordered),
       record {
         one-more = record {
           from = from .result .0;
           to = to .result .0;
           late = omega (arith, from .ensures);
           inside = omega (arith, to .ensures);
-          marked = m .ensures;
+          skips = m .ensures;
         };
         counted = omega arith;
         same-at = refl;

@@ -23,7 +23,7 @@ pub record SmallArea (r : code-area.Area) : Type 0 where
   pub size : r .size ≤ 256
 
 -- the addresses from first up to stop hold stop, and the others what they held
-pub record Marked (t u : List ℕ) (first stop : ℕ) : Type 0 where
+pub record SkipsSet (t u : List ℕ) (first stop : ℕ) : Type 0 where
   pub same-length : length u ≡ length t
   pub inside : (x : ℕ) → first ≤ x → x < stop → byte u x ≡ stop
   pub before : (x : ℕ) → x < first → byte u x ≡ byte t x

@@ -6,9 +6,9 @@ use Prim.Native.Nat.{ℕ, _≤_}
 use lib.ListN.{length, replicate}
 
 -- the data area lies inside the image and the table
-pub record Blank (image table : List ℕ) (first end : ℕ) : Type 0 where
+pub record BlankArea (image table : List ℕ) (first end : ℕ) : Type 0 where
   pub ordered : first ≤ end
   pub in-table : end ≤ length table
   pub in-image : end ≤ length image
   pub short : length table ≤ 1024
-  pub clear : table ≡ replicate (length table) 0
+  pub zeros : table ≡ replicate (length table) 0

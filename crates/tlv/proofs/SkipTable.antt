@@ -12,11 +12,11 @@ use lib.Seq.{getD-set-same, getD-set-other}
 use Rattle.tag.specs.Bytes.{byte}
 use Rattle.tlv.specs.Areas.{Area, covers, without}
 use Rattle.tlv.specs.Views.Table.{unskipped}
-use Rattle.tlv.specs.Views.Marks.{Marked}
-use Rattle.tlv.proofs.Skipping.{marked-more}
+use Rattle.tlv.specs.Views.Areas.{SkipsSet}
+use Rattle.tlv.proofs.Skipping.{skipped-more}
 
 -- t has become u: the addresses from first up to a are marked
-pub record Marking (t u : List ℕ) (first a stop : ℕ) : Type 0 where
+pub record SkipsSetTo (t u : List ℕ) (first a stop : ℕ) : Type 0 where
   pub same-length : length u ≡ length t
   pub low : first ≤ a
   pub high : a ≤ max first stop
@@ -24,8 +24,8 @@ pub record Marking (t u : List ℕ) (first a stop : ℕ) : Type 0 where
   pub before : (x : ℕ) → x < first → byte u x ≡ byte t x
   pub after : (x : ℕ) → a ≤ x → byte u x ≡ byte t x
 
-pub mark-start : (t : List ℕ) (first stop : ℕ) → Marking t t first first stop
-mark-start t first stop = record {
+pub skip-start : (t : List ℕ) (first stop : ℕ) → SkipsSetTo t t first first stop
+skip-start t first stop = record {
   same-length = refl;
   low = omega arith;
   high = omega arith;
@@ -34,8 +34,8 @@ mark-start t first stop = record {
   after = λ x h. refl;
 }
 
-pub mark-one : (t u : List ℕ) (first a stop : ℕ) → Marking t u first a stop → a < stop → stop ≤ length t → Marking t (set u a stop) first (a + 1) stop
-mark-one t u first a stop m l h = record {
+pub skip-one : (t u : List ℕ) (first a stop : ℕ) → SkipsSetTo t u first a stop → a < stop → stop ≤ length t → SkipsSetTo t (set u a stop) first (a + 1) stop
+skip-one t u first a stop m l h = record {
   same-length = length-set u a stop ∙ m .same-length;
   low = omega (arith, m .low);
   high = omega arith;
@@ -50,8 +50,8 @@ mark-one t u first a stop m l h = record {
         rw s (getD-set-same u a stop 0 (omega (arith, m .same-length)))
     here x p q false e = getD-set-other u a x stop 0 (eqb-false x a e) ∙ m .inside x p (omega (arith, eqb-false x a e))
 
-pub mark-done : {t u : List ℕ} {first a stop : ℕ} → Marking t u first a stop → stop ≤ a → Marked t u first stop
-mark-done m l = record {
+pub skip-done : {t u : List ℕ} {first a stop : ℕ} → SkipsSetTo t u first a stop → stop ≤ a → SkipsSet t u first stop
+skip-done m l = record {
   same-length = m .same-length;
   inside = λ x p q. m .inside x p (omega arith);
   before = m .before;
@@ -61,9 +61,9 @@ mark-done m l = record {
 -- ---- an area marked
 
 -- an area marked from `at` on and up to the end
-pub area-marked : (t u : List ℕ) (r : Area) (at end first stop : ℕ) → Marked t u first stop → first ≡ max (r .start) at → stop ≡ min (r .start + r .size) end → at ≤ end
+pub area-skipped : (t u : List ℕ) (r : Area) (at end first stop : ℕ) → SkipsSet t u first stop → first ≡ max (r .start) at → stop ≡ min (r .start + r .size) end → at ≤ end
     → unskipped u at (end - at) ≡ without r (unskipped t at (end - at))
-area-marked t u r at end first stop m from to l = marked-more t u r at (end - at) (λ x p q. at-each x p q (leb (r .start) x) refl (ltb x (r .start + r .size)) refl)
+area-skipped t u r at end first stop m from to l = skipped-more t u r at (end - at) (λ x p q. at-each x p q (leb (r .start) x) refl (ltb x (r .start + r .size)) refl)
   where
     at-each : (x : ℕ) → at ≤ x → x < at + (end - at) → (b : Bool) → leb (r .start) x ≡ b → (d : Bool) → ltb x (r .start + r .size) ≡ d
         → eqb (byte u x) 0 ≡ eqb (byte t x) 0 && not (covers r x)

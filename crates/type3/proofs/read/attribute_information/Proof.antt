@@ -1,10 +1,10 @@
--- `read::attributes_of` meets its contract. Assumes nothing.
+-- `read::attribute_information` meets its contract. Assumes nothing.
 use mathlib.Core.Path.{sym, _∙_}
 use borrow.Author.Needs.{needs}
 use borrow.Author.Tests.{not-true, not-false}
 use Rattle.type3.proofs.Reading.{fault-some, fault-none, whole-blocks, first-passed, first-failed, attested}
-use Rattle.type3.proofs.read.attributes_of.Statement.{statement}
-use Rattle.type3.proofs.read.attributes_of.Tie as tie
+use Rattle.type3.proofs.read.attribute_information.Statement.{statement}
+use Rattle.type3.proofs.read.attribute_information.Tie as tie
 
 returns : tie.Need-returns
 returns c =
@@ -46,7 +46,7 @@ returns-3 c =
     let passes = sym (at-block-fault .block-fault .ensures ∙ first-passed i whole) ∙ fault-none _ (at-if2 .if2 .left) in
     (sym passes, attested i passes (c .said .result) (c .said .ensures))
 
-pub attributes-of-spec : {M : Type 1} → statement M
-attributes-of-spec =
+pub attribute-information-spec : {M : Type 1} → statement M
+attribute-information-spec =
     tie.close
     (tie.spec (λ c κs. search needs) returns block-fault-requires returns-2 said-requires returns-3)

@@ -7,18 +7,18 @@ use native.Mathlib.Omega.{arith}
 use lib.ListN.{length}
 use Rattle.tag.specs.Bytes.{byte}
 use Rattle.tag.specs.Views.Numbers.{sumTo}
-use Rattle.type3.specs.Attributes.{steadySum}
+use Rattle.type3.specs.AttributeInformation.{steadySum}
 use Rattle.type3.proofs.Codec.{length-command}
-use Rattle.type3_list.specs.Views.Listing.{attributeBlock, attributeCommand}
+use Rattle.type3_list.specs.Views.Listing.{attributeInformationBlock, attributeCommand}
 
 -- the sum of the bytes of block 0 that writing keeps
 pub sum-steady : (i : List ℕ) → sumTo i 9 + byte i 10 ≡ steadySum i
 unfolding sumTo
 sum-steady i = omega arith
 
-pub length-attribute-block : (i : List ℕ) (flag n : ℕ) → length (attributeBlock i flag n) ≡ 16
-unfolding attributeBlock
-length-attribute-block i flag n = refl
+pub length-attribute-information-block : (i : List ℕ) (flag n : ℕ) → length (attributeInformationBlock i flag n) ≡ 16
+unfolding attributeInformationBlock
+length-attribute-information-block i flag n = refl
 
 pub length-attribute-command : (idm i : List ℕ) (flag n : ℕ) → length idm ≡ 8 → length (attributeCommand idm i flag n) ≡ 31
-length-attribute-command idm i flag n eight = length-command idm (0 ∷ []) (attributeBlock i flag n) eight (length-attribute-block i flag n)
+length-attribute-command idm i flag n eight = length-command idm (0 ∷ []) (attributeInformationBlock i flag n) eight (length-attribute-information-block i flag n)

@@ -11,10 +11,10 @@ use Rattle.tag.specs.Bytes.{byte}
 use Rattle.tag.specs.Checks.{Checked, fine, fault, firstOf}
 use Rattle.tag.specs.Reading.{message, empty, being-written, Answer, answer}
 use Rattle.tag.specs.Answers.{contentOf}
-use Rattle.type3.specs.declared.read.Attributes.{Attributes}
+use Rattle.type3.specs.declared.read.AttributeInformation.{AttributeInformation}
 use Rattle.type3.specs.declared.read.Checked as code
 use Rattle.type3.specs.declared.read.Checked.the-variants as checked
-use Rattle.type3.specs.Attributes.{nmaxbOf, attributes, attributeChecks, mayWrite}
+use Rattle.type3.specs.AttributeInformation.{nmaxbOf, attributeInformation, attributeChecks, mayWrite}
 
 -- ---- the attributes
 
@@ -34,23 +34,23 @@ pub record WholeBlocks (i : List ℕ) : Type 0 where
   pub blocks : length i % 16 ≡ 0
 
 -- what the code's attributes are
-pub record Says (i : List ℕ) (a : Attributes) : Type 0 where
+pub record Says (i : List ℕ) (a : AttributeInformation) : Type 0 where
   pub nbw-is : a .nbw ≡ byte i 2
   pub nmaxb-is : a .nmaxb ≡ nmaxbOf i
-  pub ln-is : a .ln ≡ attributes i .ln
+  pub ln-is : a .ln ≡ attributeInformation i .ln
   pub busy-is : a .busy ≡ eqb (byte i 9) 0x0F
   pub writable-is : a .writable ≡ mayWrite i
 
 -- and the bounds that the tests have shown
-pub record Attests (i : List ℕ) (a : Attributes) : Type 0 where
+pub record Attests (i : List ℕ) (a : AttributeInformation) : Type 0 where
   pub says : Says i a
   pub whole : WholeBlocks i
   pub reach : 16 * (1 + a .nmaxb) ≤ length i
   pub ln-fits : a .ln ≤ 16 * a .nmaxb
 
 -- a tag that passes all tests, with its attributes
-pub record Readable (i : List ℕ) (a : Attributes) : Type 0 where
-  pub passes : firstOf (attributeChecks (length i) (attributes i)) ≡ fine
+pub record Readable (i : List ℕ) (a : AttributeInformation) : Type 0 where
+  pub passes : firstOf (attributeChecks (length i) (attributeInformation i)) ≡ fine
   pub known : Attests i a
 
 abbrev pub Known : List ℕ → code.Checked → Type 0
@@ -63,7 +63,7 @@ abbrev pub reportAs : Report → Answer
 reportAs p = answer (contentOf (p .content)) (p .address .0) (p .length) (p .interrupted) (p .writable)
 
 -- what the attributes say of a message
-abbrev pub answerFor : Attributes → Answer
+abbrev pub answerFor : AttributeInformation → Answer
 answerFor a =
     cond (a .busy) (answer being-written 0 0 false (a .writable))
     (cond (eqb (a .ln) 0) (answer empty 0 0 false (a .writable)) (answer message 16 (a .ln) false (a .writable)))

@@ -11,7 +11,7 @@ use Rattle.tag.specs.Checks.{Check, check}
 use Rattle.tag.specs.Version.{knownVersion}
 
 -- the attributes as numbers
-pub record Attributes : Type 0 where
+pub record AttributeInformation : Type 0 where
   pub version : ℕ
   pub nbr : ℕ
   pub nbw : ℕ
@@ -30,8 +30,8 @@ steadySum i = byte i 0 + byte i 1 + byte i 2 + byte i 3 + byte i 4 + byte i 5 + 
 abbrev pub nmaxbOf : List ℕ → ℕ
 nmaxbOf i = 256 * byte i 3 + byte i 4
 
-abbrev pub attributes : List ℕ → Attributes
-attributes i = record {
+abbrev pub attributeInformation : List ℕ → AttributeInformation
+attributeInformation i = record {
   version = byte i 0;
   nbr = byte i 1;
   nbw = byte i 2;
@@ -48,14 +48,14 @@ abbrev pub imageLength : ℕ → Bool
 imageLength n = eqb (n % 16) 0 && leb 16 n && leb n 4096
 
 -- WriteFlag is 00h or 0Fh, RWFlag 00h or 01h, and Nbr is not 0
-abbrev pub flagsDefined : Attributes → Bool
+abbrev pub flagsDefined : AttributeInformation → Bool
 flagsDefined a =
     (eqb (a .write-flag) 0x00 || eqb (a .write-flag) 0x0F)
     && (eqb (a .rw-flag) 0x00 || eqb (a .rw-flag) 0x01)
     && not (eqb (a .nbr) 0)
 
 -- refusals 1 to 5 and 7, by the image's length and the attributes; 7 whatever WriteFlag says
-abbrev pub attributeChecks : ℕ → Attributes → List Check
+abbrev pub attributeChecks : ℕ → AttributeInformation → List Check
 attributeChecks n a =
     check (imageLength n) image-size
     ∷ check (eqb (a .sum) (a .checksum)) not-ndef
