@@ -19,10 +19,10 @@ use Rattle.type2.specs.declared.Command as command2
 use Rattle.type2.specs.declared.commands.Decoded as decoded2
 use Rattle.type2.specs.Codec as two
 use Rattle.type2.specs.CodecContracts as views2
-use Rattle.type3.specs.declared.Command as command3
-use Rattle.type3.specs.declared.commands.Decoded as decoded3
+use Rattle.type3_commands.specs.declared.Command as command3
+use Rattle.type3_commands.specs.declared.commands.Decoded as decoded3
 use Rattle.type3.specs.Codec as three
-use Rattle.type3.specs.CodecContracts as views3
+use Rattle.type3_commands.specs.CodecContracts as views3
 use Rattle.demands.specs.Code2.{codec2, codec3}
 use Rattle.demands.proofs.Answered.{put-all, put-counted}
 use Rattle.demands.proofs.Codecs.{codec-2, codec-3}

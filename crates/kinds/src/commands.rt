@@ -13,7 +13,7 @@ fn span(kind: Kind, idm: &[u8; 8], image: &[u8], list: &[u8]) -> usize
 {
     match kind {
         Kind::Type2(e) => type2::commands::LENGTH,
-        Kind::Type3(nbw, nmaxb) => type3::commands::span(list),
+        Kind::Type3(nbw, nmaxb) => type3_commands::commands::span(list),
     }
 }
 
@@ -43,6 +43,12 @@ pub fn take_command(
 {
     match kind {
         Kind::Type2(e) => type2::model::take_command(work, command),
-        Kind::Type3(nbw, nmaxb) => type3::model::take_command(work, idm, command, nbw, nmaxb),
+        Kind::Type3(nbw, nmaxb) => type3_commands::model::take_command(
+            work,
+            idm,
+            command,
+            nbw,
+            nmaxb,
+        ),
     }
 }

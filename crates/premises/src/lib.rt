@@ -3,7 +3,7 @@
 // contracts are what they are for.
 
 use tag::Block;
-use type3::commands;
+use type3_commands::commands;
 ghost use mathlib.Core.Path.{_≡_};
 ghost use lib.ListN.{length};
 ghost use Rattle.demands.specs.Demand2.{Octets};
@@ -30,7 +30,7 @@ pub fn whole_type2(command: type2::Command, blocks: usize)
     ensures { λ _. ⌜ (codec2 blocks .Whole) command ⌝ }
 {}
 
-pub fn whole_type3(command: type3::Command, idm: &[u8; 8], nbw: usize, nmaxb: usize)
+pub fn whole_type3(command: type3_commands::Command, idm: &[u8; 8], nbw: usize, nmaxb: usize)
     ensures { λ _. ⌜ (codec3 (now (idm .entry)) nbw nmaxb .Whole) command ⌝ }
 {
     let blocks = command.blocks;

@@ -5,13 +5,7 @@ pub mod Update
 pub mod Shown
 pub mod Laws
 pub mod Counts
-pub mod Numbering
-pub mod Naming
-pub mod Encoding
-pub mod Decoding
 pub mod Reading
 pub mod Deciding
-pub mod Storing
-pub mod Modelling
 pub mod Holding
 pub mod Keeping

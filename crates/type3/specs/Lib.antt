@@ -4,5 +4,4 @@ pub mod Message
 pub mod Update
 pub mod Codec
 pub mod Type3
-pub mod CodecContracts
 pub mod Views

@@ -159,7 +159,7 @@ fn is_whole(n: usize) -> bool
 
 // The first of the refusals 1 to 5 and 7; 0 if the tag passes all tests. A number alone: the attributes beside it would be handed
 // on through memory, and `said` takes those that are asked for from block 0 again in less time.
-pub(crate) fn fault(image: &[u8]) -> u8
+pub fn fault(image: &[u8]) -> u8
     ensures { λ r. ⌜ faultAs r ≡ firstOf (attributeChecks (length (now (image .entry))) (attributeInformation (now (image .entry)))) ⌝ }
 {
     if is_whole(image.len()) {
@@ -169,7 +169,7 @@ pub(crate) fn fault(image: &[u8]) -> u8
 }
 
 // What block 0 says.
-pub(crate) fn said(image: &[u8]) -> AttributeInformation
+pub fn said(image: &[u8]) -> AttributeInformation
     requires { ⌜ 16 ≤ length (now image) ⌝ }
     ensures { λ r. ⌜ Says (now (image .entry)) r ⌝ }
 {

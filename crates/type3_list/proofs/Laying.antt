@@ -12,7 +12,7 @@ use Rattle.tag.specs.Bytes.{byte}
 use Rattle.tag.proofs.Filling.{lay-part}
 use Rattle.type3.specs.Codec.{blockListBytes, opening, commandBytes}
 use Rattle.type3.proofs.Codec.{length-opening, length-block-list}
-use Rattle.type3.proofs.Naming.{block-list-append}
+use Rattle.type3_commands.proofs.Naming.{block-list-append}
 
 -- one name more
 pub block-list-more : (bs : List ℕ) (j : ℕ) → j < length bs → blockListBytes (take (j + 1) bs) ≡ blockListBytes (take j bs) ++ (0x80 ∷ byte bs j ∷ [])

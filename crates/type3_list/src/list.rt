@@ -4,9 +4,9 @@
 use crate::blocks;
 use tag::numbers;
 use tag::slices;
-use type3::block_list;
-use type3::commands;
 use type3::read;
+use type3_commands::block_list;
+use type3_commands::commands;
 ghost use mathlib.Core.Path.{_≡_};
 ghost use mathlib.Core.List.{[], _∷_, _++_};
 ghost use Prim.Native.Nat.{_+_, _*_, _<_, _≤_};

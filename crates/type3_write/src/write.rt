@@ -3,11 +3,11 @@
 use tag::CountAnswer;
 use tag::numbers;
 use tag::refusals;
-use type3::commands;
 use type3::read;
 use type3::read::AttributeInformation;
 use type3::read::Checked;
 use type3::space;
+use type3_commands::commands;
 use type3_list::list;
 ghost use mathlib.Core.Path.{_≡_};
 ghost use Prim.Native.Nat.{_+_, _-_, _/_, _<_, _≤_};

@@ -7,13 +7,13 @@ use native.Mathlib.Omega.{arith}
 use borrow.Author.Tests.{eq-eqb}
 use lib.ListN.{length, take, drop}
 use Rattle.tag.specs.Bytes.{byte}
-use Rattle.type3.specs.declared.commands.Decoded as code
+use Rattle.type3_commands.specs.declared.commands.Decoded as code
 use Rattle.type3.specs.Codec.{decoded}
-use Rattle.type3.specs.Views.InPlace.{numbers, carried}
-use Rattle.type3.specs.CodecContracts.{blockNumbers, decodedAs, commandAs, DecodedTo}
-use Rattle.type3.specs.Views.Framing.{isCommand}
-use Rattle.type3.proofs.Naming.{length-numbers}
-use Rattle.type3.proofs.Decoding.{decode-carried, frame}
+use Rattle.type3_commands.specs.Views.InPlace.{numbers, carried}
+use Rattle.type3_commands.specs.CodecContracts.{blockNumbers, decodedAs, commandAs, DecodedTo}
+use Rattle.type3_commands.specs.Views.Framing.{isCommand}
+use Rattle.type3_commands.proofs.Naming.{length-numbers}
+use Rattle.type3_commands.proofs.Decoding.{decode-carried, frame}
 
 pub used-blocks : (idm : List ℕ) (nbw nmaxb : ℕ) (all : List ℕ) (d : code.Decoded) → DecodedTo idm nbw nmaxb all d → d .refusal ≡ 0
     → (d .command .count ≤ 8) × (length (take (d .command .count) (blockNumbers (d .command .blocks))) ≡ d .command .count)

@@ -5,10 +5,10 @@ use tag::Block;
 use tag::CountAnswer;
 use tag::refusals;
 use tag::slices;
-use type3::Command;
-use type3::block_list;
-use type3::commands;
 use type3::read;
+use type3_commands::Command;
+use type3_commands::block_list;
+use type3_commands::commands;
 ghost use mathlib.Core.Path.{_≡_};
 ghost use mathlib.Core.List.{[]};
 ghost use Prim.Native.Nat.{_*_, _≤_};
@@ -20,7 +20,7 @@ ghost use Rattle.tag.specs.Judge.{judged};
 ghost use Rattle.type3.specs.Message.{reading};
 ghost use Rattle.type3.specs.Type3.{type3};
 ghost use Rattle.type3.specs.Codec.{encode, decode};
-ghost use Rattle.type3.specs.CodecContracts.{blockNumbers, blocksOf};
+ghost use Rattle.type3_commands.specs.CodecContracts.{blockNumbers, blocksOf};
 ghost use Rattle.zanfirotta.specs.Packed.{PutOutToC, ReadToC, TookToC, packedVerdict, packedSpan, packedDecoded3, countInto, blocksInto, blockdataInto};
 
 #[no_mangle]
@@ -56,7 +56,7 @@ pub extern "C" fn zan_type3_judge(image: &[u8], message: &[u8], idm: &[u8; 8], l
 pub extern "C" fn zan_type3_model(image: &mut [u8], idm: &[u8; 8], command: &[u8]) -> u64
     ensures { λ r. ⌜ TookToC (type3 (now (idm .entry))) (now (image .entry)) (now (command .entry)) r (now (image .exit)) ⌝ }
 {
-    let answer = type3::model::model(image, idm, command);
+    let answer = type3_commands::model::model(image, idm, command);
     answers::storing(answer)
 }
 

@@ -2,7 +2,7 @@
 use mathlib.Core.Path.{ap}
 use borrow.Author.Needs.{needs}
 use Rattle.tag.proofs.Runs.{bytes-of}
-use Rattle.type3.specs.CodecContracts.{blocksOf}
+use Rattle.type3_commands.specs.CodecContracts.{blocksOf}
 use Rattle.zanfirotta.proofs.type3_calls.blocks_from.Statement.{statement}
 use Rattle.zanfirotta.proofs.type3_calls.blocks_from.Tie as tie
 

@@ -5,8 +5,8 @@ use lib.ListN.{length}
 use Rattle.tag.specs.Answers.{countOf}
 use Rattle.tag.specs.TagType.{outputInto}
 use Rattle.type3.specs.Codec.{encode}
-use Rattle.type3.specs.CodecContracts.{blockNumbers}
-use Rattle.type3.proofs.Numbering.{numbers-back}
+use Rattle.type3_commands.specs.CodecContracts.{blockNumbers}
+use Rattle.type3_commands.proofs.Numbering.{numbers-back}
 use Rattle.zanfirotta.specs.Packed.{packedCount}
 use Rattle.zanfirotta.proofs.type3_calls.zan_type3_encode.Statement.{statement}
 use Rattle.zanfirotta.proofs.type3_calls.zan_type3_encode.Tie as tie

@@ -1,0 +1,15 @@
+// The write command of Type 3 tags: its bytes, the codec, and the tag as a model that takes it.
+
+pub mod block_list;
+pub mod commands;
+pub mod model;
+mod stores;
+
+use tag::Block;
+
+// A write command. Its first `count` blocks are used, with sixteen bytes for each.
+pub struct Command {
+    pub count: usize,
+    pub blocks: [Block; commands::MOST_BLOCKS],
+    pub bytes: [u8; commands::MOST_BYTES],
+}
