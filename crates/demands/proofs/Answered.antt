@@ -1,4 +1,4 @@
--- An answer of the code is the one that its values say.
+-- An answer of the code is determined by its view in the definitions.
 -- Assumes nothing.
 use mathlib.Core.Path.{_≡_, refl, sym, ap, ap₂, _∙_}
 use mathlib.Core.Bool.{Bool, true, false, _&&_}
@@ -40,7 +40,7 @@ pub stored-is : (r : model-answer.ModelAnswer) → modelAs r ≡ gives tt → r 
 stored-is (storing.Refused f) e = absurd (nope (cc))
 stored-is storing.Stored e = refl
 
--- ---- a refusal by its number
+-- ---- refusals are equal if their numbers are
 
 idm : Refusal → ℕ
 idm (plain r) = r
@@ -68,12 +68,12 @@ refused-count-is (counted.Refused f) n e = ap counted.Refused (same-refusal f n 
 refused-count-is (counted.Count k) n e = absurd (nope (cc))
 
 module _ (o : ℕ → Output) (buffer out : List ℕ) where
-  -- what is put out is counted, and laid over the buffer's front
+  -- an output is answered with its count, and lies at the buffer's front
   pub put-all : (r : count.CountAnswer) (n : ℕ) (all : List ℕ) → PutOut o buffer r out → o (length buffer) ≡ output n all
       → (r ≡ counted.Count n) × (out ≡ overwrite all buffer)
   put-all r n all (a, b) e = (counted-is r n (a ∙ ap countOf e), b ∙ ap (outputInto buffer) e)
 
-  -- and what is counted was put out
+  -- and where a count is answered, there is an output with that count
   pub put-counted : (n : ℕ) → PutOut o buffer (counted.Count n) out → (all : List ℕ) × (o (length buffer) ≡ output n all) × (out ≡ overwrite all buffer)
   put-counted n (a, b) = go (o (length buffer)) refl
     where

@@ -1,4 +1,4 @@
--- Demand 3 of any answers that meet the contracts, from demand 3 of the definitions.
+-- Demand 3 about any answers that meet the contracts, from demand 3 about the definitions.
 -- Assumes nothing.
 use mathlib.Core.Path.{_≡_, refl, sym, ap, ap₂, _∙_}
 use mathlib.Core.List.{List, [], _∷_}
@@ -34,7 +34,7 @@ refused-same (stored k) j f e = absurd (nope (cc))
 took-none : (T : TagType) (j command : List ℕ) (f : ℕ) (k : List ℕ) → Took T j command (storing.Refused f) k → k ≡ j
 took-none T j command f k (a, b) = b ∙ refused-same (model T j command) j f a
 
--- a writing that is counted has put out our list
+-- where `write` answers a count, it has written our list to the buffer
 pub wrote-ours : (T : TagType) (i m : List ℕ) → writing T i m ≡ written ((T .plan) i m) → (buffer out : List ℕ) (n : ℕ) → Wrote T i m buffer (counted.Count n) out
     → (length (list ((T .plan) i m) i) ≡ n) × (write T (length buffer) i m ≡ output n (ourBytes T i m)) × (take (length (ourBytes T i m)) out ≡ ourBytes T i m)
 wrote-ours T i m w buffer out n wrote =

@@ -1,4 +1,4 @@
--- Demand 2 of any answers that meet the contracts, for every type of tag, from demands 2 and 3 of the definitions.
+-- Demand 2 about any answers that meet the contracts, for every type of tag, from demands 2 and 3 about the definitions.
 -- Assumes nothing.
 use mathlib.Core.Path.{_≡_, refl, sym, ap, ap₂, _∙_}
 use mathlib.Core.Bool.{Bool, true, false}
@@ -35,14 +35,14 @@ use Rattle.demands.proofs.Answered.{same-refusal, refused-count-is, unr
 use Rattle.demands.proofs.ByContract.{wrote-ours, by-contract}
 
 module _ (T : TagType) where
-  -- the answer for a tag that reads, by its gathering buffer
+  -- the answer for a tag that reads depends on whether the gathering buffer is too short
   reads-answer : (i gathering : List ℕ) (r : read.ReadAnswer) → readAs r ≡ answerOf (length gathering) ((T .reading) i) → (p : Report) → (T .reading) i ≡ reads p
       → (b : Bool) → tooShort (length gathering) p ≡ b
       → readAs r ≡ elim b [ true ↦ refusal short-gathering-buffer | false ↦ answer (p .content) (p .address) (length (p .bytes)) (p .interrupted) (p .writable) ]
   reads-answer i gathering r a p q true t = a ∙ ap (answerOf (length gathering)) q ∙ rw t
   reads-answer i gathering r a p q false t = a ∙ ap (answerOf (length gathering)) q ∙ rw t
 
-  -- 13 is answered just where the gathering buffer is too short
+  -- 13 is answered exactly if the gathering buffer is too short
   pub short-answer : (i gathering gathered : List ℕ) (r : read.ReadAnswer) → Read (T .reading) i gathering r gathered
       → (p : Report) → (T .reading) i ≡ reads p → (r ≡ reading.Refused short-gathering-buffer) ↔ (tooShort (length gathering) p ≡ true)
   short-answer i gathering gathered r (a, b) p q = ((λ e. go e (tooShort (length gathering) p) refl), (λ t. unread-is r short-gathering-buffer (reads-answer i gathering r a p q true t)))
@@ -54,7 +54,7 @@ module _ (T : TagType) where
           = sym (ap readAs e) ∙ reads-answer i gathering r a p q false t in
           absurd (nope (cc))
 
-  -- a writing that is counted: the tag was ready
+  -- where `write` answers a count, the tag was ready
   pub counted-ready : (i m buffer out : List ℕ) (n : ℕ) → Wrote T i m buffer (counted.Count n) out → Ready T i m
   counted-ready i m buffer out n (a, b) = go (writing T i m) refl
     where
@@ -62,7 +62,7 @@ module _ (T : TagType) where
       go (refused-write r) q = let z : gives n ≡ refusesOne r = a ∙ ap (λ w. countOf (writeBy T (length buffer) i w)) q in absurd (nope (cc))
       go (written p) q = written-ready T i m p q .0
 
-  -- 11 is answered just where writing is refused with it
+  -- 11 is answered exactly if writing is refused with it
   pub too-long-answer : (i m buffer out : List ℕ) (r : count.CountAnswer) → Wrote T i m buffer r out
       → (r ≡ counted.Refused message-too-long) ↔ (writing T i m ≡ refused-write message-too-long)
   too-long-answer i m buffer out r (a, b) = (

@@ -1,4 +1,4 @@
--- The codecs lose nothing, either way.
+-- The codecs lose nothing: decoding undoes encoding, and encoding undoes decoding.
 -- Assumes nothing.
 use mathlib.Core.Path.{_≡_, refl, sym, ap, _∙_}
 use mathlib.Core.Bool.{Bool, true, false}

@@ -1,4 +1,4 @@
--- Encoding and decoding by the contracts lose nothing, for both types.
+-- Calls of `encode` and `decode` that meet their contracts lose nothing, for both types.
 -- Assumes nothing.
 use mathlib.Core.Path.{_≡_, refl, sym, ap, _∙_}
 use mathlib.Core.Bool.{Bool, true, false}
@@ -27,13 +27,13 @@ use Rattle.demands.specs.Code2.{codec2, codec3}
 use Rattle.demands.proofs.Answered.{put-all, put-counted}
 use Rattle.demands.proofs.Codecs.{codec-2, codec-3}
 
--- the bytes that were laid over a buffer, at its front
+-- the front of a buffer is what was written over it
 front : (n : ℕ) (all buffer out : List ℕ) → out ≡ overwrite all buffer → n ≡ length all → take n out ≡ all
 front n all buffer out e k = ap (take n) e ∙ ap (λ x. take x (overwrite all buffer)) k ∙ take-append-seam all (drop (length all) buffer)
 
 -- ---- Type 2
 
--- what was decoded, by the struct's refusal
+-- where the struct's refusal is 0, a command was decoded
 read-2 : (d : decoded2.Decoded) → d .refusal ≡ 0 → views2.decodedAs d ≡ two.decoded (d .command .block .0) (d .command .bytes)
 read-2 d z = rw (eq-eqb (d .refusal) 0 z)
 
@@ -74,7 +74,7 @@ none-3 d bs bytes e = go (eqb (d .refusal) 0) refl
     go false q = let z : three.undecoded (refusalAt (d .refusal) 0) ≡ three.decoded bs bytes = rw q at e in absurd (nope (cc))
 
 module _ (idm : List ℕ) (eight : length idm ≡ 8) (nbw nmaxb : ℕ) where
-  -- arrays that are longer than what is used encode as what is used of them
+  -- only the part of the arrays that is used matters to encoding
   padded : (c : ℕ) (bs bytes : List ℕ) (room : ℕ) → length (take c bs) ≡ c
       → three.encode idm nbw nmaxb c bs bytes room ≡ three.encode idm nbw nmaxb (length (take c bs)) (take c bs) (take (16 * c) bytes) room
   padded c bs bytes room n =

@@ -1,4 +1,4 @@
--- Demand 2 for every type of tag, from its laws: the tag that took our commands reads as the message, and the part shown after
+-- Demand 2 for every type of tag, from its laws. The tag that took our commands reads as the message, and the part shown after
 -- reading is the message.
 -- Assumes nothing.
 use mathlib.Core.Path.{_≡_, refl, sym, ap, _∙_}
@@ -19,7 +19,7 @@ use Rattle.demands.specs.Demand3.{cutOf, ourBytes}
 use Rattle.demands.specs.Demand2.{Demand2}
 use Rattle.demands.proofs.Demand3.{our-commands, our-image}
 
--- what fits a buffer is put out as it is
+-- an output is what was to be written, with its count
 pub fitted-is : (room k n : ℕ) (bytes all : List ℕ) → fitted room k bytes ≡ output n all → (k ≡ n) × (bytes ≡ all)
 fitted-is room k n bytes all e = go (leb (length bytes) room) refl
   where

@@ -1,4 +1,4 @@
--- Demand 3 from the laws of a type of tag.
+-- Demand 3 for every type of tag, from its laws.
 -- Assumes nothing.
 use mathlib.Core.Path.{_≡_, refl, sym, ap, ap₂, _∙_}
 use mathlib.Core.List.{List, [], _∷_, map}
@@ -48,7 +48,7 @@ command-stores j malformed h = absurd (h refl)
 command-stores j (stores ss) h = (ss, refl, refl)
 
 module _ (T : TagType) (L : Laws T) where
-  -- ---- our list's bytes are cut into just our commands
+  -- ---- our list's bytes are cut into exactly our commands
 
   our-pieces : (i m : List ℕ) → Ready T i m → pieces T i (ourBytes T i m) ≡ map (T .encoded) (list ((T .plan) i m) i)
   our-pieces i m r =
@@ -75,7 +75,7 @@ module _ (T : TagType) (L : Laws T) where
     reading-ok : held T i ≡ broken → ⊥
     reading-ok = ready-reads T i m r
 
-    -- the judge of bytes is the judge of their commands
+    -- the verdict on the bytes of a list is the verdict on its commands
     by-commands : (bytes : List ℕ) → judged T i m bytes ≡ judge t 0 i (commands T i bytes)
     by-commands bytes = ap (judgeBy T i m bytes) (ready-written T i m r)
 

@@ -1,4 +1,4 @@
--- Lists of bytes, byte by byte, and that they stay lists of bytes.
+-- Lists of bytes: each byte is below 256, and they stay lists of bytes when bytes are set, overlaid or appended.
 -- Assumes nothing.
 use mathlib.Core.List.{List, [], _∷_, _++_}
 use Prim.Native.Nat.{ℕ, zero, suc, _<_}

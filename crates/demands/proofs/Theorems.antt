@@ -57,7 +57,7 @@ type2-count i m r =
     length-single ((type2 .plan) i m) i refl (type2-laws .sound i m r .blockwise .inside)
     (touch-of 4 us (tlvBytes m) (lengthAt us) (lengthAt us / 4) (first-set us m some) (block-of 4 (lengthAt us) (omega arith)))
 
--- and of the code, by the contracts of read, shown, write, model, encode and decode
+-- demand 2 about the code, through the contracts of read, shown, write, model, encode and decode
 pub type2-code2 : (blocks end : ℕ) → Code2 type2 (codec2 blocks) (alike2 end) count2
 type2-code2 blocks end = record {
   written-reads = written-tells type2 type2-laws;
@@ -74,11 +74,11 @@ type2-code2 blocks end = record {
 pub type2-demand3 : (i m : List ℕ) → Ready type2 i m → Demand3 type2 i m
 type2-demand3 = demand3.claim type2 type2-laws
 
--- and of the code, by the contracts of write, judge and model
+-- demand 3 about the code, through the contracts of write, judge and model
 pub type2-code3 : (i m : List ℕ) → Ready type2 i m → Code3 type2 i m
 type2-code3 i m r = by-contract type2 i m (type2-demand3 i m r) (ready-written type2 i m r)
 
--- ---- Type 3, for the caller's eight-byte number
+-- ---- Type 3, for any IDm of eight bytes
 
 module _ (idm : List ℕ) (eight : length idm ≡ 8) where
   pub type3-demand2 : Demand2 (type3 idm)

@@ -1,4 +1,4 @@
--- Refusal 11 comes exactly if no image that the requirements admit reads as the message, for both types.
+-- Refusal 11 comes exactly if no image that the requirements compare with reads as the message, for both types.
 -- Assumes nothing.
 use mathlib.Core.Path.{_≡_, refl, sym, ap, _∙_}
 use mathlib.Core.Bool.{Bool, true, false, not, _||_}
@@ -49,7 +49,7 @@ module _ (T : TagType) (i m : List ℕ) (a : Asked T i m) where
       let e : firstOf (checksOf T i m (a .report)) ≡ fault message-too-long = rw (ne-eqb (length m) 0 (a .some-bytes)) (rw (a .writable) (rw f)) in
       rw (a .reads-as) (ap (planned ((T .plan) i m)) e)
 
-  -- 11 is given exactly if nothing of a kind holds the message, if that is so without room and fails with it
+  -- 11 is given exactly if P holds, for any P that holds without room and fails with room
   exactly : (P : Type 0) → ((T .fits) i (length m) ≡ false → P) → ((T .fits) i (length m) ≡ true → P → ⊥) → (writing T i m ≡ refused-write message-too-long) ↔ P
   exactly P without with-room = (
     (λ e. go e ((T .fits) i (length m)) refl),
@@ -135,7 +135,7 @@ pub too-long-2 : TooLong2
 too-long-2 i m a t us e end =
     exactly type2 i m a ((j : List ℕ) → Octets j → Alike2 end t us i j → held type2 j ≡ holds m → ⊥) (no-room i m a t us e end) (with-room i m a t us e end)
 
--- the image's own message TLV is the one that 11 goes by
+-- the same, with the message TLV that the walk finds in the image
 pub alike-2 : (i m : List ℕ) → Asked type2 i m → (end : ℕ) → (writing type2 i m ≡ refused-write message-too-long) ↔ ((j : List ℕ) → Octets j → alike2 end i j → held type2 j ≡ holds m → ⊥)
 alike-2 i m a end =
     let p = placed memory i (a .report) (a .reads-as) .0 in

@@ -1,5 +1,5 @@
--- What the theorems take for granted is met by something: a specimen tag of each type is ready for a message, and is a tag of
--- bytes that refusal 11 can be asked of; the Type 2 one has the message TLV that 11 goes by.
+-- The premises of the theorems can be met. A specimen tag of each type is ready for a message and meets the premises of the
+-- theorems about refusal 11, and the walk finds the message TLV of the Type 2 specimen.
 -- Assumes nothing.
 use mathlib.Core.Path.{_≡_, refl}
 use mathlib.Core.Bool.{Bool, true, false, _&&_}
@@ -46,7 +46,7 @@ ready-3 = record {
   room = refl;
 }
 
--- ---- a list of bytes, by a test that computes
+-- ---- whether a list is a list of bytes, by a test that computes
 
 below : List ℕ → Bool
 below [] = true

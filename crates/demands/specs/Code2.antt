@@ -1,6 +1,6 @@
--- Demand 2 about what the public functions answer: of any answers that meet the contracts of `read`, `shown`, `write`, `model`, `encode`
--- and `decode`, which are the relations `Read`, `Showed`, `Wrote`, `Took`, `EncodedTo` and `DecodedTo`. The record `Code2` is the whole
--- claim. This file states; `proofs/Code2.antt` proves.
+-- Demand 2 about what the public functions answer. It holds of any answers that meet the contracts of `read`, `shown`, `write`,
+-- `model`, `encode` and `decode`: the relations `Read`, `Showed`, `Wrote`, `Took`, `EncodedTo` and `DecodedTo`. The record `Code2`
+-- is the whole claim; `proofs/Code2.antt` proves it.
 -- Assumes nothing.
 use mathlib.Core.Path.{_≡_}
 use mathlib.Core.Bool.{true}
@@ -37,9 +37,9 @@ use Rattle.demands.specs.Demand3.{ourBytes}
 use Rattle.demands.specs.Demand2.{Octets, Asked, Alike2, Alike3}
 use Rattle.demands.specs.ByContract.{Run}
 
--- ---- what the claim goes by, type by type
+-- ---- what the claim uses of each type
 
--- a codec of the code, told what it is told: the contracts of `encode` and `decode`, for its own struct of a command
+-- a codec of the code, for what its caller states: the contracts of `encode` and `decode`, for its type's struct of a command
 pub record CommandCodec : Type 1 where
   pub Command : Type 0
   -- the answer of `decode`: its refusal, or 0, and the command
@@ -48,12 +48,12 @@ pub record CommandCodec : Type 1 where
   pub command : Decoded → Command
   pub EncodedTo : Command → List ℕ → count.CountAnswer → List ℕ → Type 0
   pub DecodedTo : List ℕ → Decoded → Type 0
-  -- the struct's arrays have their lengths, as those of every value have
+  -- the struct's arrays have their lengths; this holds of every value
   pub Whole : Command → Type 0
   -- the command with zeros for what it does not use of its arrays
   pub used : Command → Command
 
--- Type 2's, told how many blocks the tag has
+-- the codec of Type 2, which takes the number of blocks
 abbrev pub codec2 : ℕ → CommandCodec
 codec2 blocks =
     record {
@@ -67,7 +67,7 @@ codec2 blocks =
       used = λ c. c;
     }
 
--- Type 3's, told our IDm, Nbw and Nmaxb
+-- the codec of Type 3, which takes our IDm, Nbw and Nmaxb
 abbrev pub codec3 : List ℕ → ℕ → ℕ → CommandCodec
 codec3 idm nbw nmaxb =
     record {
@@ -87,11 +87,11 @@ codec3 idm nbw nmaxb =
           };
     }
 
--- Type 2: which images refusal 11 looks at, for every end up to which an address that is not usable counts as skipped
+-- Type 2: the images that refusal 11 is about; below `end`, an address that is not usable counts as skipped
 abbrev pub alike2 : ℕ → List ℕ → List ℕ → Type 0
 alike2 end i j = (t : ℕ) (us : List ℕ) → messageTlv layout i ≡ found t us → Alike2 end t us i j
 
--- how many commands there are: blocks touched + 1; 2 + k/w rounded up
+-- the number of commands: blocks touched + 1 for Type 2, 2 + k/w rounded up for Type 3
 abbrev pub count2 : List ℕ → List ℕ → ℕ
 count2 i m = touched ((type2 .plan) i m) i + 1
 
@@ -100,7 +100,7 @@ count3 i m = 2 + (blocksFor (length m) + (blocksPerCommand (byte i 2) - 1)) / bl
 
 -- ---- the claim
 
--- the answer r and the part shown tell that the tag holds the message m
+-- the answer r and the part shown say that the tag holds the message m
 pub record Tells (m : List ℕ) (r : read.ReadAnswer) (part : List ℕ) : Type 0 where
   pub report : code.Report
   pub answered : r ≡ reading.Reads report
@@ -109,7 +109,7 @@ pub record Tells (m : List ℕ) (r : read.ReadAnswer) (part : List ℕ) : Type 0
   pub its-bytes : part ≡ m
 
 pub record Code2 (T : TagType) (C : CommandCodec) (Alike : List ℕ → List ℕ → Type 0) (commands : List ℕ → List ℕ → ℕ) : Type 0 where
-  -- given the commands written, one a call, the model stores each; the tag that it leaves is read as the message, and the message is
+  -- given the commands written, one a call, the model stores each; the tag that it leaves reads as the message, and the message is
   -- shown, unless the gathering buffer is too short
   pub written-reads : (i m buffer out : List ℕ) (n : ℕ) → Wrote T i m buffer (counted.Count n) out
       → (rs : List model-answer.ModelAnswer) (j : List ℕ) → Run T i (pieces T i (take (length (ourBytes T i m)) out)) rs j
@@ -117,9 +117,9 @@ pub record Code2 (T : TagType) (C : CommandCodec) (Alike : List ℕ → List ℕ
       × (
       (gathering gathered part : List ℕ) (r : read.ReadAnswer) → Read (T .reading) j gathering r gathered → Showed j gathered r part
       → (r ≡ reading.Refused short-gathering-buffer → ⊥) → Tells m r part)
-  -- as many commands as the requirements count
+  -- the list has as many commands as the requirements say
   pub counts : (i m buffer out : List ℕ) (n : ℕ) → Wrote T i m buffer (counted.Count n) out → n ≡ commands i m
-  -- 11 exactly if no image that is alike but for what writing may set reads as the message
+  -- 11 exactly if no image that differs only in what writing may set reads as the message
   pub too-long-exactly : (i m : List ℕ) → Asked T i m → (buffer out : List ℕ) (r : count.CountAnswer) → Wrote T i m buffer r out
       → (r ≡ counted.Refused message-too-long) ↔ ((j : List ℕ) → Octets j → Alike i j → held T j ≡ holds m → ⊥)
   -- a tag that does not read gets one of 1 to 8
@@ -128,10 +128,10 @@ pub record Code2 (T : TagType) (C : CommandCodec) (Alike : List ℕ → List ℕ
   -- a tag that reads gets 13 exactly if its message is interrupted and longer than the gathering buffer
   pub gathers : (i gathering gathered : List ℕ) (r : read.ReadAnswer) → Read (T .reading) i gathering r gathered
       → (p : Report) → (T .reading) i ≡ reads p → (r ≡ reading.Refused short-gathering-buffer) ↔ (tooShort (length gathering) p ≡ true)
-  -- the command that was decoded encodes to the bytes that it was decoded from
+  -- a decoded command encodes to the bytes that it was decoded from
   pub encode-decode : (all : List ℕ) (d : C .Decoded) → (C .DecodedTo) all d → (C .refusal) d ≡ 0
       → (buffer out : List ℕ) (r : count.CountAnswer) → length all ≤ length buffer → (C .EncodedTo) ((C .command) d) buffer r out
       → (r ≡ counted.Count (length all)) × (out ≡ overwrite all buffer)
-  -- the bytes that were encoded decode to the command, with zeros for what it does not use
+  -- the bytes of an encoded command decode to that command, with zeros for what it does not use of its arrays
   pub decode-encode : (c : C .Command) → (C .Whole) c → (buffer out : List ℕ) (n : ℕ) → (C .EncodedTo) c buffer (counted.Count n) out
       → (d : C .Decoded) → (C .DecodedTo) (take n out) d → ((C .refusal) d ≡ 0) × ((C .command) d ≡ (C .used) c)

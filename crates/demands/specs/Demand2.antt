@@ -1,6 +1,6 @@
--- Demand 2: reading, writing and the codec, as theorems about the definitions. That reading answers as the documents say and
--- that writing gives exactly these commands is what the definitions are; what follows from them is stated here.
--- This file states; `proofs/Theorems.antt` proves.
+-- Demand 2: reading, writing and the codec, as theorems about the definitions. The definitions themselves say what reading answers
+-- and which commands writing gives. This file states what follows from them.
+-- `proofs/Theorems.antt` proves it.
 -- Assumes nothing.
 use mathlib.Core.Path.{_≡_}
 use mathlib.Core.Bool.{true, false}
@@ -26,7 +26,7 @@ use Rattle.demands.specs.Demand3.{cutOf}
 -- ---- for every type of tag
 
 pub record Demand2 (T : TagType) : Type 0 where
-  -- the tag that took the commands written reads as the message, and as many were written as the answer says
+  -- the tag that took the commands written reads as the message, and the number answered is the number of commands
   pub written-reads : (room n : ℕ) (i m bytes : List ℕ) → write T room i m ≡ output n bytes
       → (n ≡ length (commands T i bytes)) × (held T (cutOf T i bytes n) ≡ holds m)
   -- a tag that does not read gets one of 1 to 8
@@ -37,12 +37,12 @@ pub record Demand2 (T : TagType) : Type 0 where
 
 -- ---- refusal 11, exactly
 
--- lists of bytes
+-- a list of bytes: every number is below 256
 abbrev pub Octets : List ℕ → Type 0
 Octets [] = Unit {0}
 Octets (b ∷ bs) = (b < 256) × Octets bs
 
--- a tag that reads, that is writable, and a message that is not empty: only 11 is left to refuse
+-- the tag reads and is writable, and the message is not empty: of 1 to 11, only 11 may still come
 pub record Asked (T : TagType) (i m : List ℕ) : Type 0 where
   pub report : Report
   pub reads-as : (T .reading) i ≡ reads report
@@ -51,14 +51,14 @@ pub record Asked (T : TagType) (i m : List ℕ) : Type 0 where
   pub image-octets : Octets i
   pub message-octets : Octets m
 
--- Type 2: images of equal length, equal up to and with the type byte, at t, and at all skipped addresses: those after it and
--- below `end` that are not among the usable ones, us
+-- Type 2: images of equal length that are equal up to and with the type byte, at t, and at all skipped addresses, which are those
+-- after it and below `end` that are not among the usable ones, us
 pub record Alike2 (end t : ℕ) (us i j : List ℕ) : Type 0 where
   pub same-length : length j ≡ length i
   pub same-start : (a : ℕ) → a ≤ t → byte j a ≡ byte i a
   pub same-skipped : (a : ℕ) → t < a → a < end → has a us ≡ false → byte j a ≡ byte i a
 
--- for every end: whether an address past the data area counts as skipped changes nothing
+-- for every end: it makes no difference whether an address past the data area counts as skipped
 abbrev pub TooLong2 : Type 0
 TooLong2 = (i m : List ℕ) → Asked type2 i m → (t : ℕ) (us : List ℕ) → messageTlv layout i ≡ found t us → (end : ℕ)
     → (writing type2 i m ≡ refused-write message-too-long) ↔ ((j : List ℕ) → Octets j → Alike2 end t us i j → held type2 j ≡ holds m → ⊥)
@@ -76,10 +76,10 @@ TooLong3 idm = (i m : List ℕ) → Asked (type3 idm) i m
 -- ---- the codec loses nothing
 
 pub record Codec2 : Type 0 where
-  -- what is encoded is read again as the same command, of as many bytes as the answer says
+  -- what is encoded decodes to the same command, and the number answered is the number of its bytes
   pub decode-encode : (blocks b : ℕ) (bytes : List ℕ) (room n : ℕ) (all : List ℕ) → length bytes ≡ 4
       → codec2.encode blocks b bytes room ≡ output n all → (codec2.decode blocks all ≡ codec2.decoded b bytes) × (n ≡ length all)
-  -- what is read as a command is what that command encodes to
+  -- bytes that decode to a command are what that command encodes to
   pub encode-decode : (blocks : ℕ) (all : List ℕ) (b : ℕ) (bytes : List ℕ) (room : ℕ) → length all ≤ room
       → codec2.decode blocks all ≡ codec2.decoded b bytes → codec2.encode blocks b bytes room ≡ output (length all) all
 

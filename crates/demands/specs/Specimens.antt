@@ -1,4 +1,4 @@
--- The thirteen specimen tags that the requirements mark P, as one table under one claim. Each row gives a tag by its bytes, a
+-- The thirteen specimen tags that the requirements mark P, as one table under one claim. Each row gives the bytes of a tag, a
 -- question and the answer that the requirements state. The checker computes every answer from the definitions, by `refl`.
 -- Assumes nothing.
 use mathlib.Core.Path.{_≡_, refl}
@@ -28,15 +28,15 @@ use Rattle.type3.specs.Type3.{type3}
 abbrev pub tag2 : ℕ → List ℕ → List ℕ
 tag2 n bytes = take n (replicate 12 0x00 ++ bytes ++ replicate n 0x00)
 
--- the same of 64 bytes, size 6: 48 bytes of data area, which begin with these
+-- a Type 2 tag of 64 bytes, size 6; its data area of 48 bytes begins with these
 abbrev pub small : List ℕ → List ℕ
 small bytes = tag2 64 (0xE1 ∷ 0x10 ∷ 0x06 ∷ 0x00 ∷ bytes)
 
--- 280 bytes, size 33: u bytes of the 264 follow the type byte of a message TLV, and all before it are NULL TLVs
+-- one of 280 bytes, size 33; u of the 264 data bytes follow the type byte of a message TLV, and all before it are NULL TLVs
 abbrev large : ℕ → List ℕ
 large u = tag2 280 (0xE1 ∷ 0x10 ∷ 0x21 ∷ 0x00 ∷ replicate (263 - u) 0x00 ++ 0x03 ∷ [])
 
--- a Type 3 tag with thirteen blocks after block 0, by WriteFlag and the checksum's low byte; Ln is 35
+-- a Type 3 tag with thirteen blocks after block 0, given WriteFlag and the checksum's low byte; Ln is 35
 abbrev pub tag3 : ℕ → ℕ → List ℕ
 tag3 flag sum =
     0x10 ∷ 0x04 ∷ 0x01 ∷ 0x00 ∷ 0x0D ∷ 0x00 ∷ 0x00 ∷ 0x00 ∷ 0x00 ∷ flag ∷ 0x01 ∷ 0x00 ∷ 0x00 ∷ 0x23 ∷ 0x00 ∷ sum ∷ replicate 208 0x00
@@ -48,18 +48,18 @@ some n = replicate n 0xD0
 -- ---- questions and answers
 
 pub data Question : Type 0 where
-  -- what does it read as
+  -- what does the tag read as
   read : Question
-  -- is a message of n bytes written
+  -- does a message of n bytes fit
   written : ℕ → Question
-  -- what is its byte at an address once a message of n bytes is written
+  -- which byte does an address have once a message of n bytes is written
   written-at : ℕ → ℕ → Question
-  -- is a list judged good for the message
+  -- what does the judge answer for a message and a list
   judge-list : List ℕ → List ℕ → Question
 
 pub data Outcome : Type 0 where
   refuses : ℕ → Outcome
-  -- which it is, the message's address and length, whether interrupted, whether writable
+  -- the content, the message's address and length, whether interrupted, whether writable
   reads : Content → ℕ → ℕ → Bool → Bool → Outcome
   -- the commands were written, and the tag that took them reads as the message
   fits : Outcome
@@ -72,7 +72,7 @@ abbrev ofAnswer : Answer → Outcome
 ofAnswer (refusal r) = refuses r
 ofAnswer (answer content a n b w) = reads content a n b w
 
--- the tag once it took the commands of a list's bytes
+-- the tag after the commands of a list's bytes
 abbrev took : TagType → List ℕ → List ℕ → List ℕ
 took T i bytes = cut (length (commands T i bytes)) i (commands T i bytes)
 
@@ -98,7 +98,7 @@ outcome T i (written n) = ofWrite T i (some n) (write T roomy i (some n))
 outcome T i (written-at n a) = ofByte T i a (write T roomy i (some n))
 outcome T i (judge-list m bytes) = ofVerdict (judged T i m bytes)
 
--- an outcome as numbers, to be compared
+-- an outcome as numbers, which can be compared
 abbrev contentNumber : Content → ℕ
 contentNumber message = 1
 contentNumber empty = 2

@@ -1,1 +1,1 @@
-// The demands are theorems about the definitions: this crate has no code. Open specs/ first.
+// The demands, as theorems about the definitions. This crate has no code; open specs/ first.

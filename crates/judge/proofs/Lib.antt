@@ -1,2 +1,2 @@
--- Laws of the judge.
+-- Laws that the proofs of the judge use.
 pub mod Preparing

@@ -1,4 +1,4 @@
--- What the judge has worked out of a Type 2 tag before it looks at the list: the plan, and where the bytes to set lie.
+-- What the judge knows of a Type 2 tag before it looks at the list: writing is not refused, and the addresses of the bytes to set.
 -- Assumes nothing.
 use mathlib.Core.Path.{_≡_, sym, ap, _∙_}
 use mathlib.Core.Bool.{Bool}

@@ -1,2 +1,2 @@
--- What the judge's functions ask of each other.
+-- What the judge's functions require of each other.
 pub mod Views

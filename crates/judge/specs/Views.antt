@@ -1,3 +1,3 @@
--- Views of the judge: what its functions ask of each other.
+-- Views of the judge. They state what its functions require of each other.
 pub mod Task
 pub mod Type2

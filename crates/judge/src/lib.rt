@@ -1,5 +1,5 @@
-// The judge of command lists, whoever made them. The step, the loop over a list's commands and its end stand once, for every type of
-// tag; a type adds its first tests and where the bytes to set lie.
+// The judge of command lists, whoever made them. Every type of tag shares the step for one command, the loop over the commands and
+// the test at the end of the list. A type adds refusals 1 to 11 and what the tests need to know of the tag.
 
 mod lists;
 pub mod type2_lists;

@@ -1,4 +1,4 @@
-// A list's commands, one after the other, on a copy of the tag. Nothing here names a type of tag.
+// Judges a list's commands, one after the other, on a copy of the tag. Nothing here depends on a type of tag.
 
 use kinds::Kind;
 use kinds::commands;
@@ -14,7 +14,7 @@ ghost use Rattle.tag.specs.Views.Judging.{Tested, ListJudged};
 ghost use Rattle.kinds.specs.Views.Types.{typeOf};
 ghost use Rattle.judge.specs.Views.Task.{Writable, Judging};
 
-// The fault of one command, 20 to 22, or 0. What a well-formed command says is stored in `work` in any case.
+// The fault of one command, 20 to 22, or 0. A well-formed command is stored in `work` even if it is at fault.
 fn step(
     kind: Kind,
     idm: &[u8; 8],
@@ -42,7 +42,7 @@ fn step(
     refusals::NONE
 }
 
-// The list's commands in order; `work` starts as the tag handed in. A rest shorter than a command is the last one.
+// Judges the list's commands in order. `work` starts as the tag handed in. A rest shorter than a command counts as the last one.
 fn judge_list(
     kind: Kind,
     idm: &[u8; 8],
@@ -86,7 +86,8 @@ fn judge_list(
     JudgeAnswer::Refused(refusals::UNFINISHED, count)
 }
 
-// With lent arrays: `first` gathers the old message and keeps it, `gathered` serves each reading on the way.
+// Judges a list in the caller's work arrays. The old message is gathered in `first` and stays there; each later reading uses
+// `gathered`.
 fn judge_on(
     kind: Kind,
     idm: &[u8; 8],
@@ -119,8 +120,8 @@ fn judge_on(
     )
 }
 
-// Judges a list for a tag on which writing the message is not refused. Makes the arrays and lends them on: where an array is made, a
-// proof carries all its elements; where a slice is lent, it does not.
+// Judges a list where writing the message to the tag is not refused. This function only makes the work arrays and passes them as
+// slices. In the function that makes an array, a proof carries all its elements; in one that takes a slice, it does not.
 pub(crate) fn judge_writable(
     kind: Kind,
     idm: &[u8; 8],

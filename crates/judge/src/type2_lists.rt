@@ -1,4 +1,4 @@
-// What Type 2 adds to the judge: refusals 1 to 11 as writing gives them, and where the bytes to set lie.
+// The judge of Type 2 lists. It gives refusals 1 to 11 as writing does, finds where the bytes to set lie, and then judges the list.
 
 use crate::lists;
 use kinds::Kind;
@@ -21,7 +21,7 @@ ghost use Rattle.type2.specs.Views.Container.{Inside};
 ghost use Rattle.tag.specs.Views.Blank.{Blank};
 ghost use Rattle.judge.specs.Views.Type2.{Planned};
 
-// With the space for the message found.
+// Judges the list once there is room for the message. `w` is the walk after the type byte of the message TLV.
 fn judge_space(image: &[u8], message: &[u8], list: &[u8], w: Walk, table: &[u16]) -> JudgeAnswer
     requires { ⌜ Planned (now image) (now message) × Room (now image) (now table) (length (now message)) w × (ahead (now table) w ≡ (type2 .plan) (now image) (now message) .addresses) ⌝ }
     ensures { λ r. ⌜ ListJudged type2 (now (image .entry)) (now (message .entry)) (now (list .entry)) r ⌝ }
@@ -31,7 +31,7 @@ fn judge_space(image: &[u8], message: &[u8], list: &[u8], w: Walk, table: &[u16]
     lists::judge_writable(Kind::Type2(extent), &none, image, message, table, list)
 }
 
-// In the data area up to `end`.
+// Judges the list for a tag whose data area ends at `end`.
 fn judge_area(
     image: &[u8],
     message: &[u8],
@@ -56,7 +56,7 @@ fn judge_area(
     }
 }
 
-// With the skip table.
+// Judges the list, with a blank array for the skip table.
 fn judge_with(image: &[u8], message: &[u8], list: &[u8], table: &mut [u16]) -> JudgeAnswer
     requires { ⌜ Blank 1024 (now table) ⌝ }
     ensures { λ r. ⌜ Judged type2 (now (image .entry)) (now (message .entry)) (now (list .entry)) r ⌝ }
@@ -67,7 +67,7 @@ fn judge_with(image: &[u8], message: &[u8], list: &[u8], table: &mut [u16]) -> J
     }
 }
 
-// Judges the list of commands, laid end to end, that is to write the message to the tag.
+// Judges a list that is to write the message to the tag. The list is the bytes of its commands, laid end to end.
 pub fn judge(image: &[u8], message: &[u8], list: &[u8]) -> JudgeAnswer
     ensures { λ r. ⌜ Judged type2 (now (image .entry)) (now (message .entry)) (now (list .entry)) r ⌝ }
 {

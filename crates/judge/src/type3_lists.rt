@@ -1,4 +1,5 @@
-// What Type 3 adds to the judge: refusals 1 to 11 as writing gives them. It skips no address, and lends an empty skip table.
+// The judge of Type 3 lists. It gives refusals 1 to 11 as writing does and then judges the list. A Type 3 tag skips no address, so
+// its skip table is empty.
 
 use crate::lists;
 use kinds::Kind;
@@ -12,7 +13,7 @@ ghost use Rattle.tag.specs.Contracts.{Judged};
 ghost use Rattle.type3.specs.Type3.{type3};
 ghost use Rattle.type3.specs.Views.AttributeInformation.{Readable};
 
-// Refusals 9 to 11 of a tag that reads, then the list.
+// Gives refusals 9 to 11 for a tag that reads, then judges the list.
 fn judge_readable(
     list: &[u8],
     image: &[u8],
@@ -34,7 +35,7 @@ fn judge_readable(
     lists::judge_writable(kind, idm, image, message, &table, list)
 }
 
-// Judges the list of commands, laid end to end, that is to write the message to the tag.
+// Judges a list that is to write the message to the tag. The list is the bytes of its commands, laid end to end.
 pub fn judge(image: &[u8], message: &[u8], idm: &[u8; 8], list: &[u8]) -> JudgeAnswer
     ensures { λ r. ⌜ Judged (type3 (now (idm .entry))) (now (image .entry)) (now (message .entry)) (now (list .entry)) r ⌝ }
 {

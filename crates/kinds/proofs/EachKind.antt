@@ -1,5 +1,5 @@
--- What holds of every kind, kind by kind: a command takes at least a byte, an image fits a work array, and a tag holds what reading
--- it answers and shows.
+-- What holds of every kind: a command takes at least one byte, an image fits in a work array, and the answer of reading and the
+-- part shown say what a tag holds.
 -- Assumes nothing.
 use mathlib.Core.Path.{_≡_}
 use mathlib.Core.List.{List}

@@ -1,2 +1,2 @@
--- A type of tag by value, as the definitions have it.
+-- What a type of tag as a value means in the definitions.
 pub mod Views

@@ -7,7 +7,7 @@ ghost use lib.ListN.{length};
 ghost use Rattle.tag.specs.Views.Judging.{Piece, Applied};
 ghost use Rattle.kinds.specs.Views.Types.{typeOf, Attested};
 
-// How many bytes the first command of the list takes, by the tag handed in.
+// How many bytes the first command of the list takes.
 fn span(kind: Kind, idm: &[u8; 8], image: &[u8], list: &[u8]) -> usize
     ensures { λ r. ⌜ r ≡ (typeOf kind (now (idm .entry)) .span) (now (image .entry)) (now (list .entry)) ⌝ }
 {
@@ -17,7 +17,7 @@ fn span(kind: Kind, idm: &[u8; 8], image: &[u8], list: &[u8]) -> usize
     }
 }
 
-// How many bytes the command at `at` takes; a rest that is shorter is the last command.
+// How many bytes the command at `at` takes. A rest that is too short for a command counts as the last one.
 pub fn piece_size(kind: Kind, idm: &[u8; 8], image: &[u8], list: &[u8], at: usize) -> usize
     requires { ⌜ at < length (now list) ⌝ }
     ensures { λ r. ⌜ Piece (typeOf kind (now (idm .entry))) (now (image .entry)) (now (list .entry)) at r ⌝ }
@@ -30,7 +30,7 @@ pub fn piece_size(kind: Kind, idm: &[u8; 8], image: &[u8], list: &[u8], at: usiz
     size
 }
 
-// Gives the tag `work` a command and answers whether it is well formed by the tag handed in; if not, nothing is stored.
+// Stores a command in the tag `work` and answers whether it is well formed for the tag handed in. If it is not, nothing is stored.
 pub fn take_command(
     kind: Kind,
     idm: &[u8; 8],

@@ -1,4 +1,4 @@
-// Whether a tag keeps its protected bytes, by its type.
+// Whether a tag keeps its protected bytes, for every type.
 
 use crate::Kind;
 ghost use mathlib.Core.Path.{_≡_};
@@ -6,8 +6,8 @@ ghost use lib.ListN.{length};
 ghost use Rattle.tag.specs.Judge.{keeps, task};
 ghost use Rattle.kinds.specs.Views.Types.{typeOf, Attested, Protects};
 
-// Does the tag `work` have the bytes of the tag handed in at each address that writing the message does not set? A tag with a TLV area
-// goes by its skip table; Type 3 has none.
+// Does the tag `work` have the bytes of the tag handed in at each address that writing the message does not set? Only Type 2 uses
+// the skip table.
 pub fn is_kept(
     kind: Kind,
     idm: &[u8; 8],

@@ -1,5 +1,5 @@
-// A type of tag by value, and what every type can do: be read, take a command, cut a list into commands, tell whether a tag keeps its
-// protected bytes. Code above this crate names no type.
+// A type of tag as a value, and what every type can do: read a tag, take a command, cut a list into commands, and tell whether a
+// tag keeps its protected bytes. Code that uses these functions need not distinguish the types.
 
 pub mod commands;
 pub mod kept;
@@ -7,11 +7,11 @@ pub mod reading;
 
 use tlv_tag::kept::Extent;
 
-// The bytes of the longest image of any type.
+// The length of the longest image of any type, in bytes.
 pub const LONGEST_IMAGE: usize = type3::read::LONGEST_IMAGE;
 
-// A type of tag, with what was worked out of the tag handed in: Type 2 where the bytes to set lie, Type 3 Nbw and Nmaxb. What the caller
-// states, our IDm, is lent beside the kind; Type 2 does not use it.
+// A type of tag, with what the functions need to know of the tag handed in: for Type 2 the extent of the bytes to set, for Type 3
+// Nbw and Nmaxb. The IDm that the caller states is passed next to the kind; Type 2 does not use it.
 pub enum Kind {
     Type2(Extent),
     Type3(usize, usize),

@@ -1,4 +1,5 @@
-// What a tag holds, by its type. Each call reads the tag, with a lent gathering buffer that every interrupted message fits.
+// What a tag holds, for every type. Each function reads the tag, with a gathering buffer from its caller. `is_safe` and `holds`
+// require one in which every interrupted message fits.
 
 use crate::Kind;
 use tag::ReadAnswer;
@@ -12,7 +13,8 @@ ghost use Rattle.tag.specs.Judge.{holdsAs, readsAs};
 ghost use Rattle.tag.specs.TagType.{held};
 ghost use Rattle.kinds.specs.Views.Types.{typeOf};
 
-// The gathering buffer's bytes: only Type 2 has interrupted messages, and none is longer than its image.
+// The length of a gathering buffer in which every interrupted message fits. Only Type 2 has interrupted messages, and none is
+// longer than its image.
 pub const GATHERED: usize = type2::container::LONGEST_IMAGE;
 
 // What the tag reads as.
@@ -25,7 +27,7 @@ pub fn read(kind: Kind, idm: &[u8; 8], image: &[u8], gathered: &mut [u8]) -> Rea
     }
 }
 
-// Does the tag read as none, as the new message, or as the old one where there was one?
+// Does the tag read as none, as the new message, or as the old one, if there was one?
 pub fn is_safe(
     kind: Kind,
     idm: &[u8; 8],

@@ -1,6 +1,6 @@
-// What theorems of crates/demands take for granted of a caller's values, as facts about every value of the code's types: a slice of
-// bytes holds octets, an eight-byte number has eight of them, and a command's arrays have their lengths. The functions do nothing; their
-// contracts are what they are for.
+// The premises that theorems of crates/demands have about a caller's values hold of every value of the code's types. A slice of
+// bytes holds octets, an IDm has eight of them, and a command's arrays have their lengths. The functions do nothing: they exist for
+// their contracts.
 
 use tag::Block;
 use type3_commands::commands;
@@ -9,7 +9,7 @@ ghost use lib.ListN.{length};
 ghost use Rattle.demands.specs.Demand2.{Octets};
 ghost use Rattle.demands.specs.Code2.{codec2, codec3};
 
-// What a slice of bytes holds are octets.
+// The elements of a slice of bytes are octets.
 pub fn octets(bytes: &[u8])
     ensures { λ _. ⌜ Octets (now (bytes .entry)) ⌝ }
 {
@@ -18,7 +18,7 @@ pub fn octets(bytes: &[u8])
     }
 }
 
-// The number that a caller of Type 3 states has eight bytes.
+// The IDm that a caller of Type 3 states has eight bytes.
 pub fn eight(idm: &[u8; 8])
     ensures { λ _. ⌜ (length (now (idm .entry)) ≡ 8) × Octets (now (idm .entry)) ⌝ }
 {

@@ -1,8 +1,8 @@
-// What the programs print: bytes as hexadecimal digits, counts, and refusals.
+// Printing for the programs: bytes as hexadecimal digits, counts, and refusals.
 
 use libc::STDOUT_FILENO;
 
-// The low half of a byte as a digit.
+// The low half of a byte as a hexadecimal digit.
 fn digit(n: u8) -> u8 {
     let low = n % 16;
     if low < 10 {
@@ -12,13 +12,13 @@ fn digit(n: u8) -> u8 {
     }
 }
 
-// A byte as two digits, and what stands after it.
+// Prints a byte as two digits, and a character after it.
 fn print_byte(b: u8, after: u8) {
     let text = [digit(b / 16), digit(b), after];
     io::write_all(STDOUT_FILENO, &text);
 }
 
-// The bytes with spaces between them, and the line's end; nothing for no bytes.
+// Prints a line of bytes with spaces between them. For no bytes it prints nothing, not even the end of the line.
 pub fn line(bytes: &[u8]) {
     let mut i = 0usize;
     while i < bytes.len() {
@@ -42,7 +42,7 @@ pub fn refusal(r: u8) {
     text(b"\n");
 }
 
-// How many commands a list has.
+// Prints how many commands a list has.
 pub fn commands(n: usize) {
     number(n);
     text(b" commands\n");

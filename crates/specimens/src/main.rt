@@ -1,5 +1,5 @@
-// Runs through the code the specimens that are not marked P, the detection examples of source document 001, appendix C, empty
-// lists, and foreign lists with each fault from 20 to 23, and prints one line each.
+// Runs specimens through the code and prints one line for each. They are the specimens that are not marked P, the detection
+// examples of source document 001, appendix C, empty lists, and foreign lists with each fault from 20 to 23.
 
 mod print;
 mod type2_tags;
@@ -15,7 +15,7 @@ fn interrupted() {
     type2_tags::write(b"interrupted, 38 bytes", front, &too_long);
 }
 
-// The paper stops before address 28. By 01 the lock area is the one address 24, so that the type byte looked for is at 27.
+// In C.7 and C.8 the document stops before address 28. By 01 the lock area is address 24 alone, so the next type byte is at 27.
 fn appendix_c() {
     type2_tags::read(b"C.2.1", b"\xE1\x10\x06\x00\x03\x03\xD0\x00\x00\xFE");
     type2_tags::read(b"C.2.2", b"\xE1\x10\x06\x00\x03\x00\xFE");
@@ -33,7 +33,7 @@ fn appendix_c() {
     );
 }
 
-// A message of 35 bytes, on tags of fourteen blocks that take one and four blocks a command.
+// A message of 35 bytes, on tags of fourteen blocks that take one block and four blocks a command.
 fn lengths() {
     let message = [0xD0u8; 35];
     type3_tags::write(
@@ -77,12 +77,12 @@ fn empty_lists() {
     );
 }
 
-// A list for D0 00 01 on the empty tag.
+// Judges a list that is to write D0 00 01 to the empty tag.
 fn judge_foreign(name: &[u8], list: &[u8]) {
     type2_tags::judge(name, b"\xE1\x10\x06\x00\x03\x00\xFE", b"\xD0\x00\x01", list);
 }
 
-// Foreign lists: another order, and one for each of 20 to 23.
+// Foreign lists: one in another order, and one for each of 20 to 23.
 fn foreign_lists() {
     judge_foreign(
         b"block 5 first",

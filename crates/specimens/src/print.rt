@@ -1,4 +1,4 @@
-// A line for each answer.
+// Prints one line for each answer.
 
 use printing::number;
 use printing::refusal;
@@ -9,7 +9,7 @@ use tag::JudgeAnswer;
 use tag::ReadAnswer;
 use tag::Report;
 
-// The line's beginning.
+// The beginning of the line.
 pub fn name(s: &[u8]) {
     text(s);
     text(b": ");

@@ -1,4 +1,4 @@
-// Type 2 tags of 112 bytes, given by what they hold from the capability container on; all other bytes are 00h.
+// Type 2 tags of 112 bytes, given by their bytes from the capability container on. All other bytes are 00h.
 
 use crate::print;
 use tag::slices;

@@ -1,4 +1,4 @@
-// Type 3 tags of fourteen blocks, given by their attribute block; all other bytes are 00h.
+// Type 3 tags of fourteen blocks, given by their attribute information block. All other bytes are 00h.
 
 use crate::print;
 use tag::slices;

@@ -1,5 +1,5 @@
--- Lists of addresses that rise: one predicate gives their order, that none stands twice, and their bounds. With it, what an
--- overlay at such addresses reads back as.
+-- Lists of addresses that rise, and what an overlay at such addresses reads back as. One predicate gives their order, that no
+-- address occurs twice, and their bounds.
 -- Assumes nothing.
 use mathlib.Core.Path.{_≡_, refl}
 use mathlib.Core.Bool.{true, false, not}
@@ -15,7 +15,7 @@ use Rattle.tag.specs.Bytes.{byte, run, overlay, isSet}
 use Rattle.tag.proofs.Images.{length-overlay}
 
 module _ (hi : ℕ) where
-  -- x lies below each of us, they rise, and hi lies above them
+  -- x lies below all of us, they rise, and hi lies above x and them
   abbrev pub Above : ℕ → List ℕ → Type 0
   Above x [] = x < hi
   Above x (y ∷ us) = (x < y) × Above y us

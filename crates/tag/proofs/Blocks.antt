@@ -1,5 +1,5 @@
--- Lists of whole blocks, for every block size and any number of blocks a command: what a plan over whole blocks is (`Blockwise`),
--- and the blocks that a guarded list stores.
+-- Lists of whole blocks, for every block size and any number of blocks in a command. Defines a plan over whole blocks (`Blockwise`)
+-- and shows which blocks a guarded list stores.
 -- Assumes nothing.
 use mathlib.Core.Path.{_≡_, refl, sym, _∙_}
 use mathlib.Core.Bool.{Bool, true, false, true≢false}

@@ -1,4 +1,4 @@
--- Tests in order: none fails exactly if each passes, and one that fails gives one of their refusals.
+-- Tests that run in order. The answer is 'fine' exactly if each test passes; a fault is the refusal of one of them.
 -- Assumes nothing.
 use mathlib.Core.Path.{_≡_, refl, subst}
 use mathlib.Core.Bool.{Bool, true, false}

@@ -1,4 +1,4 @@
--- Blocks dealt out to commands, w to each: how many commands that takes, and one more of them takes the next w.
+-- Blocks dealt out to commands, w to each: how many commands that takes, and which blocks the next command takes.
 -- Assumes nothing.
 use mathlib.Core.Path.{_≡_, refl, sym, ap, _∙_}
 use mathlib.Core.List.{List, [], _∷_, _++_, map, append-nil, append-assoc}
@@ -11,7 +11,7 @@ use Rattle.tag.specs.Stores.{Store}
 use Rattle.tag.specs.Plan.{chunk}
 use Rattle.tag.specs.TagType.{joined}
 
--- k over w, rounded up: as many commands of w blocks as k blocks need, and no more
+-- k/w rounded up: as many commands of w blocks as k blocks need, and no more
 pub rounded-up : (w k : ℕ) → 0 < w → (k ≤ w * ((k + (w - 1)) / w)) × (w * ((k + (w - 1)) / w) < k + w)
 rounded-up w k p =
     let e : w * ((k + (w - 1)) / w) + (k + (w - 1)) % w ≡ k + (w - 1) = div-add-mod (k + (w - 1)) w in
@@ -28,7 +28,7 @@ chunk-more w (suc c) ss =
     let e : w * suc c ≡ w + w * c = omega arith in
     rw (e, ← drop-drop (w * c) w ss) (ap (λ r. take w ss ∷ r) (chunk-more w c (drop w ss)))
 
--- the bytes of one command more
+-- one more command adds its bytes at the end
 pub joined-append : (f : List Store → List ℕ) (cs : List (List Store)) (c : List Store) → joined (map f (cs ++ (c ∷ []))) ≡ joined (map f cs) ++ f c
 joined-append f [] c = append-nil (f c)
 joined-append f (d ∷ cs) c = ap (λ r. f d ++ r) (joined-append f cs c) ∙ sym (append-assoc (f d) (joined (map f cs)) (f c))

@@ -1,5 +1,5 @@
--- How many commands a list has: two for the guard block and, between them, as many as the chosen blocks fill. The chosen
--- blocks are those for which the test is true, counted; a test that is true just on a run of blocks counts that run.
+-- How many commands a list has: two for the guard block and, between them, as many as the picked blocks fill. The picked blocks are
+-- those for which a test is true. If it is true only on a run of blocks, the count is the length of the run.
 -- Assumes nothing.
 use mathlib.Core.Path.{_≡_, refl, sym, ap, _∙_}
 use mathlib.Core.Bool.{Bool, true, false, not, _&&_, cond}
@@ -27,7 +27,7 @@ module _ (t : ℕ → Bool) where
         length-append (picks t 0 [] b k) (picks t 0 [] (b + k) l),
       )
 
-  -- one block more, as a loop over rising blocks meets them
+  -- one more block, as a loop over rising blocks meets it
   counted-next : (k : ℕ) → counted t 0 (k + 1) ≡ counted t 0 k + cond (t k) 1 0
   counted-next k =
       let e : 0 + k ≡ k = omega arith in
@@ -39,7 +39,7 @@ module _ (t : ℕ → Bool) where
   pub counted-no : (k : ℕ) → t k ≡ false → counted t 0 (k + 1) ≡ counted t 0 k
   counted-no k q = counted-next k ∙ rw q (omega arith)
 
-  -- more blocks, more of them picked
+  -- of more blocks, at least as many are picked
   pub counted-more : (k n : ℕ) → k ≤ n → counted t 0 k ≤ counted t 0 n
   counted-more k n l =
       let e : k + (n - k) ≡ n = omega arith in
@@ -71,7 +71,7 @@ counted-like t u k b h = sym (length-picks t 0 [] b k) ∙ ap length (picks-like
 pub counted-same : (t u : ℕ → Bool) (k : ℕ) → ((c : ℕ) → c < k → t c ≡ u c) → counted t 0 k ≡ counted u 0 k
 counted-same t u k h = counted-like t u k 0 (λ c l m. h c (omega arith))
 
--- with one block more that passes the test
+-- the test that leaves out one block that passes counts one fewer
 counted-but : (t : ℕ → Bool) (g N : ℕ) → g < N → t g ≡ true → counted t 0 N ≡ 1 + counted (λ b. not (eqb b g) && t b) 0 N
 counted-but t g N l q =
     let u : ℕ → Bool = λ b. not (eqb b g) && t b in

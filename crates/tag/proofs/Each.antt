@@ -1,4 +1,4 @@
--- What holds of each element of a list, of its parts, of lists joined and of lists mapped.
+-- A property of each element of a list: it carries over to parts of the list, to lists joined and to lists mapped.
 -- Assumes nothing.
 use mathlib.Core.List.{List, [], _∷_, _++_, map}
 use Prim.Native.Nat.{ℕ, zero, suc}

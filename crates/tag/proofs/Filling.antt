@@ -1,5 +1,5 @@
--- A buffer that is filled from its front: what is laid so far, and then what was there before. One more byte, and a part that
--- was lent and came back with more at its front.
+-- A buffer that is filled from its front. It holds the bytes written so far, then what was there at first. More bytes are added one
+-- by one, or through a part of the buffer that another function fills at its front.
 -- Assumes nothing.
 use mathlib.Core.Path.{_≡_, sym, ap, _∙_}
 use mathlib.Core.List.{List, [], _∷_, _++_, append-nil, append-assoc}
@@ -10,15 +10,15 @@ use borrow.Rule.Slice.PartMut.{putMid}
 use lib.ListN.{length, take, drop, set, length-append, length-take, length-drop, take-append-drop, drop-of-length-le}
 use lib.Seq.{take-length, drop-cons, set-at, take-at, drop-at, drop-drop, drop-append-le, append-snoc}
 
--- ---- a part that was lent
+-- ---- a part that another function fills
 
--- of a list cut at m, the front without its first k, and the back, are the list without its first k
+-- a list is cut at m; its front without the first k, joined with its back, is the list without its first k
 rejoin : (k m : ℕ) (l : List ℕ) → k ≤ m → m ≤ length l → drop k (take m l) ++ drop m l ≡ drop k l
 rejoin k m l h g =
     let e : k ≤ length (take m l) = simp length-take (omega arith) in
     sym (drop-append-le k (take m l) (drop m l) e) ∙ ap (drop k) (take-append-drop m l)
 
--- the part from a to e was lent, and came back as z, with y for its first k bytes
+-- the part from a to e has become z: y for its first k bytes, the rest as it was
 pub lent : (xs y z : List ℕ) (a e k : ℕ) → a + k ≤ e → e ≤ length xs → z ≡ y ++ drop k (take (e - a) (drop a xs))
     → putMid a (e - a) xs z ≡ take a xs ++ (y ++ drop (a + k) xs)
 lent xs y z a e k h g q =
@@ -29,12 +29,12 @@ lent xs y z a e k h g q =
 -- ---- xs has p laid over t
 
 module _ (xs p t : List ℕ) (a : ℕ) (laid : xs ≡ p ++ drop a t) (far : length p ≡ a) where
-  -- k bytes more, y
+  -- with k more bytes, y
   pub lay-more : (y : List ℕ) (k : ℕ) → take a xs ++ (y ++ drop (a + k) xs) ≡ (p ++ y) ++ drop (a + k) t
   lay-more y k =
       rw (laid, take-at p (drop a t) a far, ← drop-drop k a (p ++ drop a t), drop-at p (drop a t) a far, drop-drop k a t, append-assoc)
 
-  -- by a part that was lent
+  -- the same, through the part from a to e
   pub lay-part : (y z : List ℕ) (e k : ℕ) → a + k ≤ e → e ≤ length xs
       → z ≡ y ++ drop k (take (e - a) (drop a xs)) → putMid a (e - a) xs z ≡ (p ++ y) ++ drop (a + k) t
   lay-part y z e k h g r = lent xs y z a e k h g r ∙ lay-more y k

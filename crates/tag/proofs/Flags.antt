@@ -1,4 +1,4 @@
--- What a flag says once its loop has ended: whether two slices are equal, and whether a tag has kept its bytes.
+-- What a flag says when its loop ends: whether two slices are equal, and whether a tag has kept its bytes.
 -- Assumes nothing.
 use mathlib.Core.Path.{_≡_, refl, sym, ap, _∙_}
 use mathlib.Core.Bool.{Bool, true, false, not, _&&_, _||_, cond, and-assoc}
@@ -24,7 +24,7 @@ unfolding flagTo
 flag-by p q zero h = refl
 flag-by p q (suc n) h = rw (h n (omega arith), flag-by p q n (λ k l. h k (omega arith)))
 
--- the flag tested
+-- testing the flag for 0 gives the test back
 pub zero-flag : (b : Bool) → eqb (cond b 0 1) 0 ≡ b
 zero-flag true = refl
 zero-flag false = refl
@@ -46,7 +46,7 @@ equal-more p i j [] a = refl
 equal-more p i j (u ∷ us) a =
     rw (equal-more p i j us a) (sym (and-assoc (not (p u) || eqb (byte j u) (byte i u)) (equalAt p i j us) ((not (p a) || eqb (byte j a) (byte i a)) && true)))
 
--- at each address that is not free
+-- the flag of a loop over n addresses from a on says whether j has the bytes of i at each of them that is not free
 pub flag-kept : (free : ℕ → Bool) (i j : List ℕ) (a n : ℕ)
     → flagTo (λ k. free (a + k) || eqb (byte j (a + k)) (byte i (a + k))) n ≡ cond (equalAt (λ x. not (free x)) i j (run a n)) 0 1
 unfolding flagTo

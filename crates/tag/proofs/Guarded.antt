@@ -1,7 +1,6 @@
--- The guarded list is accepted and ends in the new image, for every type of tag. It shuts a guard block, so that the tag
--- holds none; it stores the other blocks from the new image; it opens the guard block last. Stores that would change nothing
--- may be left out.
--- The invariant is byte by byte: while the guard is shut, a byte of the guard block is as closed, any other is old or new.
+-- The guarded list is accepted and ends in the new image, for every type of tag. It shuts a guard block, so the tag holds none; it
+-- stores the other blocks from the new image; it opens the guard block last. Stores that would change nothing may be left out.
+-- The invariant is byte by byte: while the guard block is shut, its bytes are those of the closed image, any other is old or new.
 -- Assumes nothing.
 use mathlib.Core.Path.{_≡_, refl, sym, ap, _∙_}
 use mathlib.Core.Bool.{Bool, true, false, true≢false}
@@ -64,7 +63,7 @@ cut-runs : (sss : List (List Store)) (j : List ℕ) (cs : List Command)
 cut-runs [] j cs = refl
 cut-runs (ss ∷ sss) j cs = cut-runs sss (puts j ss) cs
 
--- what a byte may be while the guard is shut
+-- what a byte may be while the guard block is shut
 pub data Cell (G : ℕ → Bool) (start closed new j : List ℕ) (a : ℕ) : Type 0 where
   shut : G a ≡ true → byte j a ≡ byte closed a → Cell G start closed new j a
   old : G a ≡ false → byte j a ≡ byte start a → Cell G start closed new j a
@@ -73,7 +72,7 @@ pub data Cell (G : ℕ → Bool) (start closed new j : List ℕ) (a : ℕ) : Typ
 abbrev pub Between : (ℕ → Bool) → List ℕ → List ℕ → List ℕ → List ℕ → Type 0
 Between G i c n j = (length j ≡ length i) × ((a : ℕ) → a < length i → Cell G i c n j a)
 
--- what a type of tag shows of its guard
+-- what a type of tag shows of its guard block
 pub record Guard (t : Task) : Type 0 where
   pub block : ℕ → Bool
   pub closed : List ℕ
@@ -88,7 +87,7 @@ module _ (t : Task) (g : Guard t) where
   abbrev Btw : List ℕ → Type 0
   Btw j = Between (g .block) (t .start) (g .closed) (g .new) j
 
-  -- a store of the new image beside the guard
+  -- a store of the new image outside the guard block
   pub record Beside (s : Store) : Type 0 where
     pub part-of : PartOf (g .new) s
     pub clear : (a : ℕ) → In s a → (g .block) a ≡ false
@@ -117,7 +116,7 @@ module _ (t : Task) (g : Guard t) where
       go (old x y) = y
       go (fresh x y) = y ∙ g .new-kept a l q
 
-  -- once new, always new
+  -- a byte that is new stays new
   new-put : (j : List ℕ) (s : Store) (a : ℕ) → a < length j → Beside s → (In s a) ⊎ (byte j a ≡ byte (g .new) a) → byte (put j s) a ≡ byte (g .new) a
   new-put j s a l p h = ⊎-elim (λ c. c .1) (λ c. c .1 ∙ ⊎-elim (λ i. absurd (c .0 i)) (λ e. e) h) (put-cases (g .new) j s a (p .part-of) l)
 
@@ -139,14 +138,14 @@ module _ (t : Task) (g : Guard t) where
       go (inl (inr i)) = inl i
       go (inr e) = inr (new-puts ss j a l (p .0) (inr e))
 
-  -- every tag that a command beside the guard may leave has its guard shut still
+  -- every tag that a command outside the guard block may leave still has its guard block shut
   btw-left : (ss : List Store) (j x : List ℕ) → Btw j → Each Beside ss → Left j (stores ss) x → Btw x
   btw-left ss j x b p e = rw e (btw-puts ss j b p)
 
   btw-safe : (j : List ℕ) → Btw j → Safe t j
   btw-safe j b = as-none (g .quiet j b)
 
-  -- the judge passes over what lies between
+  -- the judge passes the commands between the guard block's two
   judge-runs : (sss : List (List Store)) (n : ℕ) (j : List ℕ) (cs : List Command) → Btw j → Eaches Beside sss
       → judge t n j (map stores sss ++ cs) ≡ judge t (n + length sss) (runs j sss) cs
   judge-runs [] n j cs b p = rw add-zero
@@ -167,7 +166,7 @@ module _ (t : Task) (g : Guard t) where
   abbrev pub ending : Store → List (List Store) → List Command
   ending last mids = map stores mids ++ stores (last ∷ []) ∷ []
 
-  -- from a tag whose guard is shut and whose other bytes are the old ones
+  -- from a tag whose guard block is shut and whose other bytes are old
   module _ (last : Store) (mids : List (List Store)) (s : Tail last mids) (j : List ℕ) (b : Btw j)
       (off : (a : ℕ) → a < length (t .start) → (g .block) a ≡ false → byte j a ≡ byte (t .start) a) where
     M-btw : Btw (runs j mids)
@@ -186,8 +185,8 @@ module _ (t : Task) (g : Guard t) where
         aside a l n false q =
             new-runs mids j a (omega (arith, b .0)) (s .mids-beside) (⊎-elim inl (λ e. inr (off a l q ∙ e)) (s .covered a l q))
 
-    -- the last command leaves the new image
-    -- P of the tag before is asked for too: a command may one day leave it as it was
+    -- The last command leaves the new image. P of the tag before is asked for too, because another definition of `Left` may let a
+    -- command leave the tag as it was.
     last-left : (P : List ℕ → Type 0) → P (runs j mids) → P (g .new) → (x : List ℕ) → Left (runs j mids) (stores (last ∷ [])) x → P x
     last-left P p q x e = rw e (rw last-new q)
 
@@ -222,7 +221,7 @@ module _ (t : Task) (g : Guard t) where
     shut-first : Btw (put (t .start) first)
     shut-first = (length-sets (t .start) (first .at) (first .bytes), λ a l. cell a l .0)
 
-    -- P of the tag before is asked for too: a command may one day leave it as it was
+    -- P of the tag before is asked for too, because another definition of `Left` may let a command leave the tag as it was
     first-left : (P : List ℕ → Type 0) → P (t .start) → P (put (t .start) first) → (x : List ℕ) → Left (t .start) (stores (first ∷ [])) x → P x
     first-left P p q x e = rw e q
 

@@ -1,5 +1,5 @@
--- Images byte by byte: what stands at an address after stores and after an overlay, and the restart law: two images that
--- agree but for the addresses set have equal overlays.
+-- Images byte by byte: the byte at an address after stores and after an overlay. Also the restart law: two images that differ only
+-- at the addresses set have equal overlays.
 -- Assumes nothing.
 use mathlib.Core.Path.{_≡_, refl, sym, _∙_}
 use mathlib.Core.Bool.{Bool, true, false, not, false≢true}
@@ -15,7 +15,7 @@ use lib.Seq.{sets, length-sets, getD-set-same, getD-set-other, ext-getD}
 use Rattle.tag.specs.Bytes.{byte, overlay, isSet}
 use Rattle.tag.specs.Stores.{Store, Command, malformed, stores, put, puts, tagAfter, cut}
 
--- ---- a run of stores, at an address
+-- ---- the byte at an address after stores
 
 pub sets-below : (vs j : List ℕ) (s a : ℕ) → a < s → byte (sets j s vs) a ≡ byte j a
 sets-below [] j s a h = refl

@@ -1,5 +1,5 @@
--- The judge computes what the statements of `Cuts` say: it accepts exactly the lists for which the three things hold, and gives
--- exactly the first fault with its position. Once for every type of tag.
+-- The judge decides what the statements of `Cuts` say, for every type of tag. It accepts exactly the safe lists, and otherwise
+-- gives exactly the first fault with its position.
 -- Assumes nothing.
 use mathlib.Core.Path.{_≡_, refl, sym, ap, ap₂, _∙_}
 use mathlib.Core.Bool.{Bool, true, false, not, _||_, false≢true}
@@ -94,7 +94,7 @@ fault-is t j (stores ss) = go (every (keeps t) (states j ss)) refl (every (λ x.
     go true q true r = rw (q, r, fault) (none stores-malformed (λ x w. keeps-kept t x (every-left (keeps t) ss j q x w))
         (λ x w. reads-safe t x (every-left (λ x. isSafe t ((t .held) x)) ss j r x w)))
 
--- what a command that is not at fault keeps
+-- a command that is not at fault
 record Fine (t : Task) (j : List ℕ) (c : Command) : Type 0 where
   pub formed : c ≡ malformed → ⊥
   pub kept : KeptBy t j c
@@ -112,7 +112,7 @@ of-fine t j c f (form a) h = absurd (h .formed a)
 of-fine t j c f (change a b) h = absurd (b (h .kept))
 of-fine t j c f (reading a b s) h = absurd (s (h .safe))
 
--- a command has one fault
+-- the statement `Fault` fixes the fault that the judge computes
 fault-only : (t : Task) (j : List ℕ) (c : Command) (f : ℕ) → Fault t j c f → fault t j c ≡ f
 fault-only t j c f x = same f (fault t j c) x (fault-is t j c)
   where
@@ -299,7 +299,7 @@ refuses-exactly t cs r p = ((λ e. to (refuse-first t 0 (t .start) cs r p e)), (
         at-end (omega arith) re (rw (← pe) (cleared p nf))
         (rw (← pe) (unheld ((t .held) (cut p (t .start) cs)) (t .wanted) w (holdsAs ((t .held) (cut p (t .start) cs)) (t .wanted)) refl))
 
--- a step of the judge, and its end, for whoever shows that a list is accepted
+-- a step of the judge, and its end, for proofs that a list is accepted
 pub judge-goes : (t : Task) (n : ℕ) (j : List ℕ) (ss : List Store) (cs : List Command) → KeptBy t j (stores ss) → SafeBy t j (stores ss)
     → judge t n j (stores ss ∷ cs) ≡ judge t (suc n) (puts j ss) cs
 judge-goes t n j ss cs k s =

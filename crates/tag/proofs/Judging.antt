@@ -1,5 +1,5 @@
--- The judge along a list, step by step, for whoever computes it: a command's fault by the tests made of it, and the judge by
--- the first command's fault.
+-- The judge along a list, step by step, for the proofs of the code that computes it. The tests give a command's fault, and the
+-- first command's fault gives the judge's next step.
 -- Assumes nothing.
 use mathlib.Core.Path.{_≡_, refl}
 use mathlib.Core.Bool.{true, false}

@@ -1,5 +1,5 @@
--- Whether a tag keeps the bytes of another, by ranges of addresses: which addresses are tested decides, a range may be split, and a
--- range that is tested whole is a comparison of two parts.
+-- Whether a tag keeps the bytes of another, range by range. Only the tested addresses count, a range may be split, and a range that
+-- is tested whole is a comparison of two parts.
 -- Assumes nothing.
 use mathlib.Core.Path.{_≡_, refl, sym, ap, _∙_}
 use mathlib.Core.Bool.{Bool, true, false, not, _&&_, _||_, and-true, and-false, and-assoc}
@@ -40,7 +40,7 @@ module _ (p : ℕ → Bool) (i j : List ℕ) where
   equal-all (suc n) s h l u =
       rw (h s (omega arith) (omega arith), drop-cons j s 0 (omega arith), drop-cons i s 0 (omega arith), equal-all n (suc s) (λ a l u. h a (omega arith) (omega arith)) (omega arith) (omega arith))
 
--- ---- all addresses but some from first up to stop are tested
+-- ---- every address outside the range from first up to stop is tested
 
 module _ (p : ℕ → Bool) (i j : List ℕ) (first stop : ℕ) (size : length j ≡ length i) (low : first ≤ stop) (high : stop ≤ length i)
     (below : (a : ℕ) → a < first → p a ≡ true) (above : (a : ℕ) → stop ≤ a → p a ≡ true) where

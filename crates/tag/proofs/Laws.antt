@@ -1,5 +1,5 @@
--- What each type of tag shows of itself, and no more: from these laws demands 2 and 3 follow for every type alike. And: ready
--- is just what writing does not refuse.
+-- The laws that each type of tag has to prove of itself. Demands 2 and 3 follow from them for every type alike. This file also
+-- shows that a tag is ready exactly if writing is not refused.
 -- Assumes nothing.
 use mathlib.Core.Path.{_≡_, refl, sym, ap, _∙_}
 use mathlib.Core.Bool.{false}
@@ -20,27 +20,27 @@ use Rattle.tag.proofs.Checks.{AllPass, fine-all, all-fine, OfReading}
 use Rattle.tag.proofs.Each.{Each}
 use Rattle.tag.proofs.Writes.{Sound}
 
--- a command whose bytes are taken for what it stores, at the front of any list
+-- a command whose bytes are taken for what it stores, also at the front of a list
 pub record Sent (T : TagType) (i : List ℕ) (ss : List Store) : Type 0 where
   pub taken : (T .command) i ((T .encoded) ss) ≡ stores ss
   pub some-bytes : 0 < length ((T .encoded) ss)
   pub whole : (r : List ℕ) → (T .span) i ((T .encoded) ss ++ r) ≡ length ((T .encoded) ss)
 
--- a tag that a list, broken off, may leave: of the same length, protected bytes unchanged, and it reads
+-- a tag that a list may leave when it breaks off: of the same length, with its protected bytes unchanged, and readable
 pub record Near (T : TagType) (i m j : List ℕ) : Type 0 where
   pub same-length : length j ≡ length i
   pub kept : Kept (taskOf T i m ((T .plan) i m)) j
   pub readable : held T j ≡ broken → ⊥
 
 pub record Laws (T : TagType) : Type 0 where
-  -- with the guard shut the tag holds none, and the new image reads as the message
+  -- with the guard block shut the tag holds none, and the new image reads as the message
   pub sound : (i m : List ℕ) → Ready T i m → Sound T i m ((T .plan) i m)
   -- protected bytes fix the plan: what is set, and what a command must look like
   pub still-ready : (i m j : List ℕ) → Ready T i m → Near T i m j → Ready T j m
   pub same-addresses : (i m j : List ℕ) → Ready T i m → Near T i m j → (T .plan) j m .addresses ≡ (T .plan) i m .addresses
   pub same-values : (i m j : List ℕ) → Ready T i m → Near T i m j → (T .plan) j m .values ≡ (T .plan) i m .values
   pub same-command : (i m j : List ℕ) → Ready T i m → Near T i m j → (bytes : List ℕ) → (T .command) j bytes ≡ (T .command) i bytes
-  -- reading's refusals are among 1 to 8
+  -- reading refuses with 1 to 8 only
   pub numbered : (i : List ℕ) (r : ℕ) → (T .reading) i ≡ unreadable r → OfReading r
   -- without a message there are no bytes, and a message that is not interrupted is a part of the image
   pub wordless : (i : List ℕ) (p : Report) → (T .reading) i ≡ reads p → (p .content ≡ message → ⊥) → p .bytes ≡ []
@@ -49,7 +49,7 @@ pub record Laws (T : TagType) : Type 0 where
   -- our commands are taken for what they store
   pub sent : (i m : List ℕ) → Ready T i m → Each (Sent T i) (list ((T .plan) i m) i)
 
--- ---- ready is just what writing does not refuse
+-- ---- a tag is ready exactly if writing is not refused
 
 pub ready-written : (T : TagType) (i m : List ℕ) → Ready T i m → writing T i m ≡ written ((T .plan) i m)
 unfolding writing

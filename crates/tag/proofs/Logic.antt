@@ -1,4 +1,4 @@
--- What the tests say: conjunctions, disjunctions, equal lists, lengths in whole blocks.
+-- What a test's result says: for conjunctions, disjunctions, equal lists, and lengths in whole blocks.
 -- Assumes nothing.
 use mathlib.Core.Path.{_≡_, refl, sym, _∙_}
 use mathlib.Core.Bool.{Bool, true, false, _&&_, _||_, true≢false, false≢true}
@@ -54,6 +54,6 @@ lengths z least most n e =
 pub true-false : {b : Bool} → b ≡ true → b ≡ false → ⊥
 true-false p q = true≢false (sym p ∙ q)
 
--- an impossible case, where `cc` shows two constructors equal: `absurd (nope (cc))`
+-- `absurd (nope (cc))` closes an impossible case, where `cc` finds two different constructors equal
 pub nope : _≡_ {A = ℕ} 0 1 → ⊥
 nope e = omega arith

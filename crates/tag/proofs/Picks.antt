@@ -1,4 +1,4 @@
--- The blocks that a test picks: of two stretches of blocks, of a run on which the test is true, and by tests that agree.
+-- The blocks that a test picks: from two ranges joined, from a run on which the test is true, and by tests that agree.
 -- Assumes nothing.
 use mathlib.Core.Path.{_≡_, refl, ap, _∙_}
 use mathlib.Core.Bool.{Bool, true, false, cond}
@@ -59,7 +59,7 @@ module _ (t : ℕ → Bool) (z : ℕ) (n : List ℕ) where
       go true q = rw (q, picks)
       go false q = rw (q, picks)
 
-  -- one block more, as a loop over rising blocks meets them
+  -- one more block, as a loop over rising blocks meets it
   pub picks-next : (k : ℕ) → picks t z n 0 (k + 1) ≡ picks t z n 0 k ++ picked k
   picks-next k =
       let e : 0 + k ≡ k = omega arith in

@@ -1,5 +1,5 @@
--- The cutting of a list's bytes: pieces that tell their own length, laid end to end, are cut apart again; no byte is lost
--- where every span is at least 1; and then the fuel does not matter, so that a piece is cut off as a reader expects.
+-- How a list's bytes are cut into pieces. Pieces that tell their own length, laid end to end, are cut apart again. If every span is
+-- at least 1, no byte is lost, and more fuel than needed changes nothing.
 -- Assumes nothing.
 use mathlib.Core.Path.{_≡_, refl, sym, ap, _∙_}
 use mathlib.Core.List.{List, [], _∷_, _++_}
@@ -23,7 +23,7 @@ module _ (span : List ℕ → ℕ) where
   cut-none zero = refl
   cut-none (suc k) = refl
 
-  -- one step of the cutting, with its fuel
+  -- one step of the cutting, which takes one unit of fuel
   cut-step : (k : ℕ) (bytes : List ℕ) → 0 < length bytes
       → splitList span (suc k) bytes ≡ take (span bytes) bytes ∷ splitList span k (drop (span bytes) bytes)
   unfolding splitList

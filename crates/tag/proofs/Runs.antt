@@ -1,4 +1,4 @@
--- Runs of numbers: how long they are, one more at the end, and parts of them; the bytes of a list by their places; and what an
+-- Runs of numbers: their length, one more at the end, and parts of them. Also the bytes of a list at a run of places, and what an
 -- overlay over a run sets.
 -- Assumes nothing.
 use mathlib.Core.Path.{_≡_, refl, ap, _∙_}
@@ -65,7 +65,7 @@ map-drop f zero xs = refl
 map-drop f (suc n) [] = refl
 map-drop f (suc n) (x ∷ xs) = map-drop f n xs
 
--- of what is made of a run, w past the first d
+-- of the values of f on a run, the w after the first d
 pub run-part : {B : Type 0} (f : ℕ → B) (s k d w : ℕ) → take w (drop d (map f (run s k))) ≡ map f (run (s + d) (min w (k - d)))
 run-part f s k d w =
     rw (map-drop f d (run s k), map-take f w (drop d (run s k)), drop-of-run k d s) (ap (map f) (take-of-run (k - d) w (s + d)))

@@ -1,4 +1,4 @@
--- Two lists of bytes compared: of other lengths, and in two parts.
+-- Two lists of bytes compared: lists of different lengths differ, and a list may be compared in two parts.
 -- Assumes nothing.
 use mathlib.Core.Path.{_≡_, refl, sym, ap}
 use mathlib.Core.Bool.{false, _&&_, and-false, and-assoc}

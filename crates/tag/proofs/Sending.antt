@@ -1,5 +1,5 @@
--- The commands of a list can be sent: each stores whole blocks, of numbers that its type may name, rising, and no more of them
--- than a command may store. From this a type shows that its commands are well formed.
+-- The commands of a list can be sent. Each stores whole blocks with numbers that a command of its type may list, in rising order,
+-- and no more of them than a command may store. From this a type shows that its commands are well formed.
 -- Assumes nothing.
 use mathlib.Core.Path.{_≡_, refl}
 use mathlib.Core.Bool.{Bool, true, false, not, false≢true}
@@ -23,7 +23,7 @@ use Rattle.tag.proofs.Blocks.{Blockwise, chunk-each, block-length}
 
 -- ---- whole blocks
 
--- the number of the block that a store of whole blocks of z bytes stores
+-- the number of the block that a store of one block stores, with blocks of z bytes
 abbrev pub blockNumber : ℕ → Store → ℕ
 blockNumber z s = s .at / z
 
@@ -33,7 +33,7 @@ pub record Whole (z : ℕ) (s : Store) : Type 0 where
   pub at-block : s .at ≡ z * block
   pub full : length (s .bytes) ≡ z
 
--- and its number has a property
+-- and Q holds of the block's number
 pub record Named (z : ℕ) (Q : ℕ → Type 0) (s : Store) : Type 0 where
   pub whole : Whole z s
   pub good : Q (whole .block)
@@ -116,7 +116,7 @@ touch-bounds z hi x (y ∷ us) (v ∷ vs) b h e =
     ⊎-elim (λ q. (y, h .0, above-hi hi y us (h .1), q)) (λ q. touch-bounds z hi x us vs b (above-less hi x y us (omega (arith, h .0)) (h .1)) q)
     (or-cases (inBlock z b y) (touches z us vs b) e)
 
--- what a type shows of its plan, for its commands to be sent: Q is what a block's number must have to be named
+-- what a type shows of its plan so that its commands can be sent; Q is what must hold of a block's number for a command to list it
 pub record Nameable (p : Plan) (i : List ℕ) (Q : ℕ → Type 0) : Type 0 where
   pub guard-good : Q (p .guard)
   pub touched-good : (b : ℕ) → b < length i / p .block-size → (b ≡ p .guard → ⊥) → touches (p .block-size) (p .addresses) (p .values) b ≡ true → Q b
@@ -133,7 +133,7 @@ module _ (p : Plan) (i : List ℕ) (w : Blockwise p i) (Q : ℕ → Type 0) (n :
         (omega arith, omega (arith, w .some-width), rw d (w .inside)),
       )
 
-  -- each command of the list stores whole blocks that may be named, one to w of them, rising
+  -- each command of the list stores whole blocks that may be listed, rising, and from one up to as many as a command may store
   pub list-good : Each Good (list p i)
   list-good = (
     guard-command (p .closed) (w .closed-length),

@@ -1,5 +1,5 @@
--- What reading answers, the gathering buffer and the part shown, put together: the part shown is the message, so that a tag
--- can be compared by its answer and that part.
+-- The part shown is the message, whether it lies in the image or in the gathering buffer. The answer of reading and that part
+-- therefore determine what the tag holds.
 -- Assumes nothing.
 use mathlib.Core.Path.{_≡_, refl, sym, ap, _∙_}
 use mathlib.Core.Bool.{Bool, true, false, cond, and-false}
@@ -16,13 +16,13 @@ use Rattle.tag.specs.Answers.{heldBy, oldHeld, isMessage}
 use Rattle.tag.proofs.Logic.{nope}
 use Rattle.tag.proofs.Laws.{Laws}
 
--- the front of a buffer that was written over
+-- the front of a buffer is what was written over it
 part-front : (bytes buffer : List ℕ) → length bytes ≤ length buffer → part 0 (length bytes) (overwrite bytes buffer) ≡ bytes
 part-front bytes buffer l =
     let k : 0 + length bytes ≤ length (overwrite bytes buffer) = rw length-append (omega arith) in
     rw (le-leb (0 + length bytes) (length (overwrite bytes buffer)) k) (take-append-seam bytes (drop (length bytes) buffer))
 
--- a buffer that every message fits is never too short
+-- a buffer as long as the message is not too short
 pub roomy : (buffer : List ℕ) (p : Report) → length (p .bytes) ≤ length buffer → tooShort (length buffer) p ≡ false
 roomy buffer p l = rw (le-ltb (length buffer) (length (p .bytes)) l) (and-false (p .interrupted))
 

@@ -1,4 +1,4 @@
--- Bytes stored one after the other: one byte more, and bytes laid end to end at a buffer's front.
+-- Bytes stored one after the other: one more byte, and bytes stored at a buffer's front.
 -- Assumes nothing.
 use mathlib.Core.Path.{_≡_, sym, ap, _∙_}
 use mathlib.Core.List.{List, [], _∷_, _++_, append-nil}

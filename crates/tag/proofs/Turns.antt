@@ -1,5 +1,5 @@
--- The judge along the bytes of a list, command by command, for every type of tag: a command's fault by the tests that were made of
--- the tag that it leaves, and the judge from the next command on.
+-- The judge along the bytes of a list, command by command, for every type of tag. The tests of the tag that a command leaves give
+-- its fault, and the fault decides whether the judge goes on to the next command.
 -- Assumes nothing.
 use mathlib.Core.Path.{_≡_, refl, sym, ap, _∙_}
 use mathlib.Core.Bool.{Bool, true, false, not}
@@ -76,7 +76,7 @@ module _ (T : TagType) (i list : List ℕ) where
       ap (λ r. map ((T .command) i) (splitList ((T .span) i) (length list) r)) (drop-of-length-le list h)
       ∙ ap (map ((T .command) i)) (cut-none ((T .span) i) (length list))
 
-  -- no command is left: the verdict is by what the tag holds
+  -- no command is left: what the tag holds decides the verdict
   module _ (at : ℕ) (h : length list ≤ at) (m : List ℕ) (n : ℕ) (j : List ℕ) where
     pub turn-good : holdsAs (held T j) m ≡ true → judge (task T i m) n j (from at) ≡ accepted n
     turn-good e = ap (judge (task T i m) n j) (from-end at h) ∙ judge-good (task T i m) n j e
@@ -84,7 +84,7 @@ module _ (T : TagType) (i list : List ℕ) where
     pub turn-bad : holdsAs (held T j) m ≡ false → judge (task T i m) n j (from at) ≡ refused unfinished n
     turn-bad e = ap (judge (task T i m) n j) (from-end at h) ∙ judge-bad (task T i m) n j e
 
-  -- the command there, by its bytes
+  -- the command at `at` has the bytes `piece`
   module _ (some : (bytes : List ℕ) → 0 < (T .span) i bytes) (at size : ℕ) (h : at < length list) (p : Piece T i list at size)
       (piece : List ℕ) (is : piece ≡ take size (drop at list)) where
     from-next : from at ≡ (T .command) i piece ∷ from (at + size)

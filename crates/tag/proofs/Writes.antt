@@ -26,7 +26,7 @@ use Rattle.tag.proofs.Blocks.{Blockwise, block-parts}
 pub record Sound (T : TagType) (i m : List ℕ) (p : Plan) : Type 0 where
   pub blockwise : Blockwise p i
   pub closed-kept : Kept (taskOf T i m p) (p .closed)
-  -- with the guard shut the tag holds none
+  -- with the guard block shut the tag holds none
   pub quiet : (j : List ℕ) → Between (inBlock (p .block-size) (p .guard)) i (p .closed) (newImage p i) j → held T j ≡ nothing
   -- the new image reads as the message
   pub new-reads : held T (newImage p i) ≡ holds m
@@ -54,13 +54,13 @@ module _ (T : TagType) (i m : List ℕ) (p : Plan) (s : Sound T i m p) where
     reads = s .new-reads;
   }
 
-  -- a choice of the blocks between the guard's two commands that leaves out only what is there already
+  -- a choice of the blocks between the guard block's two commands; it leaves out only blocks that have their new bytes already
   pub record Choice (pick : ℕ → Bool) : Type 0 where
     pub others : (b : ℕ) → pick b ≡ true → b ≡ p .guard → ⊥
     pub complete : (a b : ℕ) → a < length i → inBlock (p .block-size) b a ≡ true
         → (pick b ≡ true) ⊎ ((b ≡ p .guard) ⊎ (byte i a ≡ byte (newImage p i) a))
 
-  -- the commands from the first of the chosen blocks on
+  -- the commands after the first one
   abbrev rest : (ℕ → Bool) → List Command
   rest pick =
       ending (taskOf T i m p) guard (blockOf (p .block-size) (newImage p i) (p .guard))
@@ -81,7 +81,7 @@ module _ (T : TagType) (i m : List ℕ) (p : Plan) (s : Sound T i m p) where
     chosen-ends : cut (suc (length (rest pick))) i (stores (blockOf (p .block-size) (p .closed) (p .guard) ∷ []) ∷ rest pick) ≡ newImage p i
     chosen-ends = last-cut (taskOf T i m p) guard _ _ _ (parts .0) (parts .1)
 
-  -- every block that holds a byte to set
+  -- the choice of every block that holds a byte to set
   all-touched : Choice (between p)
   all-touched = record {
     others = λ b q e. true-false (eq-eqb b (p .guard) e) (not-true (eqb b (p .guard)) (and-l _ (touches (p .block-size) (p .addresses) (p .values) b) q));

@@ -1,5 +1,5 @@
--- The code's answers as the requirements have them: each case of an enum with its number, its position and its values. The contracts
--- of the public functions go through these.
+-- The code's answers as the requirements give them: for each case of an enum, its number, its position and its values. The
+-- contracts of the public functions use these definitions.
 -- Assumes nothing.
 use mathlib.Core.Bool.{Bool, true, false, cond}
 use mathlib.Core.List.{List}
@@ -35,7 +35,7 @@ pub data Returned (A : Type 0) : Type 0 where
   refuses : Refusal → Returned A
   gives : A → Returned A
 
--- a call that takes one command at most: the position of its 20 is 0
+-- a call that takes at most one command: the position of its 20 is 0
 abbrev pub refusesOne : {A : Type 0} → ℕ → Returned A
 refusesOne r = refuses (refusalAt r 0)
 
@@ -62,7 +62,7 @@ abbrev pub modelAs : ModelAnswer → Returned (Unit {0})
 modelAs (modelled.Refused r) = refusesOne r
 modelAs modelled.Stored = gives tt
 
--- ---- a tag by what was answered of it and the part that was shown
+-- ---- what a tag holds, from the answer about it and the part shown
 
 abbrev pub heldBy : Answer → List ℕ → Held
 heldBy (refusal r) part = broken

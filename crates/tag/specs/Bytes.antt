@@ -1,5 +1,5 @@
--- A tag's memory image is the list of its bytes. An address is a place in that list, counted from 0.
--- Numbers are not bounded here: that a byte is below 256 is a fact about the code's values, and no rule needs it.
+-- A tag's memory image, as the list of its bytes. An address is a place in that list, counted from 0.
+-- Bytes are plain numbers here. That a byte is below 256 is a fact about the code's values, and no rule needs it.
 -- Assumes nothing.
 use mathlib.Core.Bool.{Bool, true, false, _&&_, _||_}
 use mathlib.Core.List.{List, [], _∷_, _++_}
@@ -34,7 +34,7 @@ consecutive [] = true
 consecutive (a ∷ []) = true
 consecutive (a ∷ b ∷ us) = eqb (suc a) b && consecutive (b ∷ us)
 
--- the image with the values vs at the addresses us, as far as both go
+-- the image with the values vs at the addresses us; the longer of the two lists is cut off
 abbrev pub overlay : List ℕ → List ℕ → List ℕ → List ℕ
 overlay [] vs i = i
 overlay (a ∷ us) [] i = i
@@ -46,6 +46,6 @@ isSet [] vs a = false
 isSet (x ∷ us) [] a = false
 isSet (x ∷ us) (v ∷ vs) a = eqb x a || isSet us vs a
 
--- a buffer after bytes were written to its front: it keeps its bytes past what is written
+-- a buffer after bytes are written to its front: it keeps its bytes past what is written
 abbrev pub overwrite : List ℕ → List ℕ → List ℕ
 overwrite front buffer = front ++ drop (length front) buffer

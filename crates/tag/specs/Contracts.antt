@@ -1,5 +1,5 @@
--- The contracts of the public functions as relations between what is handed in and what comes back, for every type of tag. The
--- public functions of each type ensure these, and demands 2 and 3 of the code speak of whatever stands in them.
+-- The contracts of the public functions, for every type of tag, as relations between a call's arguments and its results. The public
+-- functions of each type ensure these relations, and demands 2 and 3 of the code are about any calls that satisfy them.
 -- Assumes nothing.
 use mathlib.Core.Path.{_≡_}
 use mathlib.Core.List.{List}
@@ -15,19 +15,19 @@ use Rattle.tag.specs.Judge.{judged}
 use Rattle.tag.specs.Model.{model, imageAfter}
 use Rattle.tag.specs.Answers.{readAs, countOf, countAs, verdictAs, storingOf, modelAs}
 
--- a call that answers for a reading, given a gathering buffer, answers r and leaves the buffer as out
+-- a call that reports a reading, given a gathering buffer, answers r and leaves the buffer as out
 abbrev pub ReadOf : Reading → List ℕ → ReadAnswer → List ℕ → Type 0
 ReadOf v buffer r out = (readAs r ≡ answerOf (length buffer) v) × (out ≡ gatheredInto buffer v)
 
--- `read`, given a tag and a gathering buffer, answers r and leaves the buffer as out; how the type reads is the first argument
+-- `read`, given a tag and a gathering buffer, answers r and leaves the buffer as out; the first argument is how the type reads
 abbrev pub Read : (List ℕ → Reading) → List ℕ → List ℕ → ReadAnswer → List ℕ → Type 0
 Read reading i buffer r out = ReadOf (reading i) buffer r out
 
--- `shown`, given a tag, the gathered copy and an answer of `read`, hands back the part
+-- `shown`, given a tag, the gathered copy and an answer of `read`, returns the part
 abbrev pub Showed : List ℕ → List ℕ → ReadAnswer → List ℕ → Type 0
 Showed i gathered r part = part ≡ shown i gathered (readAs r)
 
--- a call that puts out what o says for so much room, given a buffer, answers r and leaves the buffer as out
+-- a call that writes to a buffer the output that o gives for its length answers r and leaves the buffer as out
 abbrev pub PutOut : (ℕ → Output) → List ℕ → CountAnswer → List ℕ → Type 0
 PutOut o buffer r out = (countAs r ≡ countOf (o (length buffer))) × (out ≡ outputInto buffer (o (length buffer)))
 

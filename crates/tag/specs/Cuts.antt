@@ -1,5 +1,5 @@
--- What demand 3 says of a list of commands at its cuts, as statements. The judge tests the same by computing; that the two
--- agree is proved, and nothing here is used by a definition that computes.
+-- What demand 3 says of a list of commands at its cuts, as statements. The judge decides the same by computing, and it is proved
+-- that the two agree. No definition that computes uses anything here.
 -- Assumes nothing.
 use mathlib.Core.Path.{_≡_}
 use mathlib.Core.Bool.{true}
@@ -21,7 +21,7 @@ pub record Ready (T : TagType) (i m : List ℕ) : Type 0 where
   pub some-bytes : length m ≡ 0 → ⊥
   pub room : (T .fits) i (length m) ≡ true
 
--- the tag reads as none, as the new message, or as the old one: the one that the tag handed in reads as, if any
+-- the tag reads as none, as the new message, or as the old one, which is what the tag handed in reads as, if any
 pub data Safe (t : Task) (j : List ℕ) : Type 0 where
   as-none : (t .held) j ≡ nothing → Safe t j
   as-new : (t .held) j ≡ holds (t .wanted) → Safe t j
@@ -31,15 +31,15 @@ pub data Safe (t : Task) (j : List ℕ) : Type 0 where
 abbrev pub Kept : Task → List ℕ → Type 0
 Kept t j = (a : ℕ) → a < length (t .start) → (t .kept) a ≡ true → byte j a ≡ byte (t .start) a
 
--- the three things: every command is well formed; every cut 0 to c is safe, with the protected bytes unchanged; and the last
--- cut reads as the new message
+-- every command is well formed; every cut 0 to c is safe, with the protected bytes unchanged; and the last cut reads as the new
+-- message
 pub record SafeList (t : Task) (cs : List Command) : Type 0 where
   pub formed : (k : ℕ) → k < length cs → getD cs k malformed ≡ malformed → ⊥
   pub safe : (k : ℕ) → k ≤ length cs → Safe t (cut k (t .start) cs)
   pub kept : (k : ℕ) → k ≤ length cs → Kept t (cut k (t .start) cs)
   pub ends : (t .held) (cut (length cs) (t .start) cs) ≡ holds (t .wanted)
 
--- a tag that a command given to the tag j may leave behind: one, with the whole command stored
+-- a tag that a command given to the tag j may leave behind; there is only one, with the whole command stored
 abbrev pub Left : List ℕ → Command → List ℕ → Type 0
 Left j c x = x ≡ tagAfter j c
 
@@ -49,7 +49,7 @@ KeptBy t j c = (x : List ℕ) → Left j c x → Kept t x
 abbrev pub SafeBy : Task → List ℕ → Command → Type 0
 SafeBy t j c = (x : List ℕ) → Left j c x → Safe t x
 
--- what is wrong with a command that is given to the tag j, tested in this order; 0 where nothing is
+-- what is wrong with a command that is given to the tag j, tested in the order 20, 21, 22; 0 if nothing is
 pub data Fault (t : Task) (j : List ℕ) (c : Command) : ℕ → Type 0 where
   none : (c ≡ malformed → ⊥) → KeptBy t j c → SafeBy t j c → Fault t j c 0
   form : c ≡ malformed → Fault t j c malformed-command
@@ -60,7 +60,7 @@ pub data Fault (t : Task) (j : List ℕ) (c : Command) : ℕ → Type 0 where
 abbrev pub Faultless : Task → List Command → ℕ → Type 0
 Faultless t cs k = (l : ℕ) → l < k → Fault t (cut l (t .start) cs) (getD cs l malformed) 0
 
--- the first fault of a list: a command's, at its position, or 23 with the number of commands
+-- the first fault of a list: that of a command, at its position, or 23 with the number of commands
 pub data FirstFault (t : Task) (cs : List Command) (r p : ℕ) : Type 0 where
   of-command : p < length cs → Faultless t cs p → Fault t (cut p (t .start) cs) (getD cs p malformed) r → (r ≡ 0 → ⊥) → FirstFault t cs r p
   of-list : p ≡ length cs → r ≡ unfinished → Faultless t cs p → ((t .held) (cut p (t .start) cs) ≡ holds (t .wanted) → ⊥) → FirstFault t cs r p

@@ -1,5 +1,5 @@
--- The judge of command lists made by anyone, for every type of tag. Of each command it tests 20, 21 and 22, in this
--- order; the first command at fault is reported, and 23 where the list ends otherwise than as the message.
+-- The judge of command lists, whoever made them, for every type of tag. It tests each command for 20, 21 and 22, in this order, and
+-- reports the first command at fault. If none is, and the tag does not read as the message when the list ends, it gives 23.
 -- Assumes nothing.
 use mathlib.Core.Bool.{Bool, true, false, not, _&&_, _||_}
 use mathlib.Core.List.{List, [], _∷_}
@@ -18,7 +18,7 @@ pub data Verdict : Type 0 where
   accepted : ℕ → Verdict
   refused : ℕ → ℕ → Verdict
 
--- what a list is judged by: how tags are read, the tag handed in, the new message, the protected addresses
+-- what the judge needs in addition to the list: how tags are read, the tag handed in, the new message, the protected addresses
 pub record Task : Type 0 where
   pub held : List ℕ → Held
   pub start : List ℕ
@@ -62,7 +62,7 @@ fault t j (stores ss) =
       | true ↦ elim (every (λ x. isSafe t ((t .held) x)) (states j ss)) [ false ↦ misread | true ↦ 0 ]
     ]
 
--- the commands from place n on, with the tag j that those before have left
+-- the verdict on the commands from position n on; j is the tag that those before have left
 unfoldable pub judge : Task → ℕ → List ℕ → List Command → Verdict
 judge t n j [] = elim (holdsAs ((t .held) j) (t .wanted)) [ true ↦ accepted n | false ↦ refused unfinished n ]
 judge t n j (c ∷ cs) = elim (fault t j c) [ zero ↦ judge t (suc n) (tagAfter j c) cs | suc r ↦ refused (suc r) n ]
@@ -70,7 +70,7 @@ judge t n j (c ∷ cs) = elim (fault t j c) [ zero ↦ judge t (suc n) (tagAfter
 abbrev pub taskOf : TagType → List ℕ → List ℕ → Plan → Task
 taskOf T i m p = record { held = held T; start = i; wanted = m; kept = protected p }
 
--- protected and well formed go by the tag handed in and the new message
+-- what is protected and what is well formed depend on the tag handed in and the new message
 abbrev pub task : TagType → List ℕ → List ℕ → Task
 task T i m = taskOf T i m ((T .plan) i m)
 

@@ -1,5 +1,5 @@
--- The tag as a model that takes one command a call: reading's refusals but 13, then 20, else it stores the named blocks,
--- protected or not. A refusal leaves the image as it is.
+-- The model: a tag that takes one command a call. It gives reading's refusals except 13, then 20; else it stores the blocks that
+-- the command lists, protected or not. A refusal leaves the image as it is.
 -- Assumes nothing.
 use mathlib.Core.List.{List}
 use Prim.Native.Nat.{ℕ}
@@ -21,7 +21,7 @@ abbrev pub modelBy : List ℕ → Reading → Command → Modelled
 modelBy i (unreadable r) c = refused-storing r
 modelBy i (reads p) c = given i c
 
--- one call, on the bytes of one command
+-- one call, with the bytes of one command
 abbrev pub model : TagType → List ℕ → List ℕ → Modelled
 model T i bytes = modelBy i ((T .reading) i) ((T .command) i bytes)
 

@@ -1,6 +1,6 @@
--- What writing a message to a tag comes to, for every type of tag: which bytes it sets, and the list of commands that sets
--- them. The list shuts a guard block first, so that the tag holds no message; it then writes every other block that holds a
--- byte to set; it opens the guard block last, with all its new bytes.
+-- Which bytes writing a message sets, and the list of commands that sets them, for every type of tag. The list shuts a guard block
+-- first, and while it is shut the tag holds no message. The list then writes every other block that holds a byte to set. It opens
+-- the guard block last, with all its new bytes.
 -- Assumes nothing.
 use mathlib.Core.Bool.{Bool, true, false, not, _&&_, _||_, cond}
 use mathlib.Core.List.{List, [], _∷_, _++_}
@@ -11,7 +11,7 @@ use Rattle.tag.specs.Bytes.{overlay, isSet}
 use Rattle.tag.specs.Stores.{Store}
 
 pub record Plan : Type 0 where
-  -- the addresses of the bytes to set, and their values, as far as both go
+  -- the addresses of the bytes to set, and their values; the longer of the two lists is cut off
   pub addresses : List ℕ
   pub values : List ℕ
   -- how many bytes a block has, and how many blocks a command may store
@@ -43,11 +43,11 @@ touches z [] vs b = false
 touches z (x ∷ us) [] b = false
 touches z (x ∷ us) (v ∷ vs) b = inBlock z b x || touches z us vs b
 
--- is block b written between the guard's two commands
+-- is block b written between the guard block's two commands
 abbrev pub between : Plan → ℕ → Bool
 between p b = not (eqb b (p .guard)) && touches (p .block-size) (p .addresses) (p .values) b
 
--- of k blocks from b on, those of the image n that the test picks, rising
+-- those of the k blocks from b on that the test picks, rising, with their bytes from the image n
 unfoldable pub picks : (ℕ → Bool) → ℕ → List ℕ → ℕ → ℕ → List Store
 picks t z n b zero = []
 picks t z n b (suc k) = elim (t b) [ true ↦ blockOf z n b ∷ picks t z n (suc b) k | false ↦ picks t z n (suc b) k ]
@@ -61,7 +61,7 @@ chunk w (suc c) ss = take w ss ∷ chunk w c (drop w ss)
 abbrev pub chunks : ℕ → List Store → List (List Store)
 chunks w ss = chunk w ((length ss + (w - 1)) / w) ss
 
--- the commands between the guard's two
+-- the commands between the guard block's two
 abbrev pub middle : Plan → List ℕ → List (List Store)
 middle p i = chunks (p .width) (picks (between p) (p .block-size) (newImage p i) 0 (length i / p .block-size))
 

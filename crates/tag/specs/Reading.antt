@@ -1,5 +1,5 @@
--- What reading a tag answers and what a tag holds, for every type of tag. A type gives a `Reading`, which has the message
--- itself; what the caller of `read` gets (its length, and the gathering buffer) is worked out here.
+-- What reading a tag answers and what a tag holds, for every type of tag. A type gives a `Reading`, which has the message itself.
+-- The definitions here turn it into what the caller of `read` gets: the message's length, and the gathering buffer.
 -- Assumes nothing.
 use mathlib.Core.Bool.{Bool, _&&_, cond}
 use mathlib.Core.List.{List, []}
@@ -9,7 +9,7 @@ use lib.ListN.{length, take, drop}
 use Rattle.tag.specs.Bytes.{overwrite}
 use Rattle.tag.specs.Refusals.{short-gathering-buffer}
 
--- which it is
+-- what a tag that reads holds
 pub data Content : Type 0 where
   message empty being-written : Content
 
@@ -32,7 +32,7 @@ abbrev pub refusalNumber : Reading → ℕ
 refusalNumber (unreadable r) = r
 refusalNumber (reads p) = 0
 
--- the answer of `read`: a refusal; or which it is, address, length, interrupted, writable
+-- the answer of `read`: a refusal; or content, address, length, interrupted, writable
 pub data Answer : Type 0 where
   refusal : ℕ → Answer
   answer : Content → ℕ → ℕ → Bool → Bool → Answer
@@ -41,7 +41,7 @@ pub data Answer : Type 0 where
 abbrev pub tooShort : ℕ → Report → Bool
 tooShort room p = p .interrupted && ltb room (length (p .bytes))
 
--- the answer, by the length of the gathering buffer
+-- the answer for a gathering buffer of length `room`
 abbrev pub answerOf : ℕ → Reading → Answer
 answerOf room (unreadable r) = refusal r
 answerOf room (reads p) =
@@ -55,18 +55,18 @@ gatheredInto buffer (reads p) =
     cond (tooShort (length buffer) p) buffer
     (cond (p .interrupted) (overwrite (p .bytes) buffer) buffer)
 
--- n bytes of a slice from a on; the empty part where they do not lie in it
+-- the n bytes of a slice from a on, or the empty part if they do not all lie in the slice
 abbrev pub part : ℕ → ℕ → List ℕ → List ℕ
 part a n s = cond (leb (a + n) (length s)) (take n (drop a s)) []
 
--- the part shown: of the image or, if interrupted, of the gathered copy; empty without a message and after a refusal
+-- the part shown: a part of the image or, if interrupted, of the gathered copy; empty without a message and after a refusal
 abbrev pub shown : List ℕ → List ℕ → Answer → List ℕ
 shown image gathered (refusal r) = []
 shown image gathered (answer message a n interrupted w) = cond interrupted (part 0 n gathered) (part a n image)
 shown image gathered (answer empty a n interrupted w) = []
 shown image gathered (answer being-written a n interrupted w) = []
 
--- what a tag holds, all that demand 3 compares readings by: empty and being written both hold none
+-- what a tag holds. Demand 3 compares readings by this alone: empty and being written both hold none
 pub data Held : Type 0 where
   broken : Held
   nothing : Held

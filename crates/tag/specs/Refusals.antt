@@ -1,22 +1,22 @@
--- The refusals, by name. Their numbers are the table 'Refusal numbers' of the requirements. And what a refusal returns: its
--- number and, from 20 to 23, the position of the command.
+-- The refusals, by name, and what a refusal returns. The numbers are those of the table 'Refusal numbers' of the requirements. A
+-- refusal returns its number and, from 20 to 23, the position of the command.
 -- Assumes nothing.
 use mathlib.Core.Bool.{_&&_, cond}
 use Prim.Native.Nat.{ℕ}
 use lib.Dec.{leb}
 
--- the image has a length that its type does not have
+-- no tag of this type has an image of this length
 abbrev pub image-size : ℕ
 image-size = 1
 
--- Type 2: no NDEF mark E1h. Type 3: the checksum is wrong
+-- Type 2: byte 12 is not the magic number E1h; Type 3: the checksum is wrong
 abbrev pub not-ndef : ℕ
 not-ndef = 2
 
 abbrev pub unknown-version : ℕ
 unknown-version = 3
 
--- an access byte or an attribute has a value that is not defined
+-- Type 2: the access byte has a value that is not defined; Type 3: WriteFlag, RWFlag or Nbr has one
 abbrev pub bad-access : ℕ
 bad-access = 4
 
@@ -45,11 +45,11 @@ not-writable = 10
 abbrev pub message-too-long : ℕ
 message-too-long = 11
 
--- the list, or a command's bytes, do not fit the buffer
+-- the list, or the bytes of a command, do not fit in the buffer
 abbrev pub short-buffer : ℕ
 short-buffer = 12
 
--- an interrupted message does not fit the gathering buffer
+-- an interrupted message does not fit in the gathering buffer
 abbrev pub short-gathering-buffer : ℕ
 short-gathering-buffer = 13
 
@@ -73,6 +73,6 @@ pub data Refusal : Type 0 where
   plain : ℕ → Refusal
   positioned : ℕ → ℕ → Refusal
 
--- refusal r where the command at p is the one looked at: 20 to 23 have a position, the others have none
+-- refusal r about the command at position p: only 20 to 23 return the position
 abbrev pub refusalAt : ℕ → ℕ → Refusal
 refusalAt r p = cond (leb malformed-command r && leb r unfinished) (positioned r p) (plain r)

@@ -1,5 +1,5 @@
--- Commands and what they store. A command stores whole blocks; a store says from which address on, so that nothing here
--- depends on the size of a block: the type of tag turns a block's number into its first address.
+-- Commands and what they store. A command stores whole blocks, but a store has an address, not a block number. The type of tag
+-- turns a block's number into its first address, so nothing here depends on the block size.
 -- Assumes nothing.
 use mathlib.Core.Bool.{Bool, true, false}
 use mathlib.Core.List.{List, [], _∷_}
@@ -21,7 +21,7 @@ abbrev pub formed : Command → Bool
 formed malformed = false
 formed (stores ss) = true
 
--- an image with a store made, with several made in order
+-- an image after one store, and after several in order
 abbrev pub put : List ℕ → Store → List ℕ
 put j s = sets j (s .at) (s .bytes)
 
@@ -34,7 +34,7 @@ abbrev pub tagAfter : List ℕ → Command → List ℕ
 tagAfter j malformed = j
 tagAfter j (stores ss) = puts j ss
 
--- the tags that a command may leave behind: one, with the whole command stored
+-- the tags that a command may leave behind; there is only one, with the whole command stored
 abbrev pub states : List ℕ → List Store → List (List ℕ)
 states j ss = puts j ss ∷ []
 

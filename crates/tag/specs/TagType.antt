@@ -1,5 +1,5 @@
--- What a type of tag fills in, and what follows for all types alike: the order of the refusals of writing, the list's bytes,
--- and the cutting of a list's bytes into commands.
+-- What a type of tag defines, and what follows for all types alike: the order of the refusals of writing, the bytes of a list, and
+-- how they are cut into commands.
 -- Assumes nothing.
 use mathlib.Core.Bool.{Bool, true, false, not, cond}
 use mathlib.Core.List.{List, [], _∷_, _++_, map}
@@ -13,25 +13,25 @@ use Rattle.tag.specs.Reading.{Report, Reading, unreadable, reads, Held, 
 use Rattle.tag.specs.Stores.{Store, Command}
 use Rattle.tag.specs.Plan.{Plan, list}
 
--- What the caller states besides, as the manufacturer number of Type 3, is fixed before a record is made: it is the same in
--- all calls.
+-- What else the caller states, such as the IDm of Type 3, is fixed before a record is made. It is the same in all calls, so no
+-- field takes it as an argument.
 pub record TagType : Type 0 where
   pub reading : List ℕ → Reading
   -- has the tag room for a message of n bytes
   pub fits : List ℕ → ℕ → Bool
   -- what writing the message sets; looked at only where writing is not refused
   pub plan : List ℕ → List ℕ → Plan
-  -- one command's bytes: what the tag handed in takes them for
+  -- the command that the tag handed in takes some bytes for
   pub command : List ℕ → List ℕ → Command
-  -- how many bytes the first command of a list takes, by the tag handed in and the list's bytes
+  -- how many bytes the first command of a list takes, given the tag handed in and the list's bytes
   pub span : List ℕ → List ℕ → ℕ
-  -- the bytes of a command that is well formed
+  -- the bytes of a well-formed command
   pub encoded : List Store → List ℕ
 
 abbrev pub held : TagType → List ℕ → Held
 held T i = heldOf ((T .reading) i)
 
--- writing is refused, with one of 1 to 11, or it has a plan
+-- writing is refused with one of 1 to 11, or it has a plan
 pub data Writing : Type 0 where
   refused-write : ℕ → Writing
   written : Plan → Writing
@@ -78,7 +78,7 @@ abbrev pub outputInto : List ℕ → Output → List ℕ
 outputInto buffer (refused-output r) = buffer
 outputInto buffer (output n bytes) = overwrite bytes buffer
 
--- the answer of `write`, by the length of the list buffer: the number of commands
+-- the output of `write` for a list buffer of length `room`; its number is that of the commands
 abbrev pub writeBy : TagType → ℕ → List ℕ → Writing → Output
 writeBy T room i (refused-write r) = refused-output r
 writeBy T room i (written p) = fitted room (length (list p i)) (listBytes T p i)
@@ -86,7 +86,7 @@ writeBy T room i (written p) = fitted room (length (list p i)) (listBytes T p i)
 abbrev pub write : TagType → ℕ → List ℕ → List ℕ → Output
 write T room i m = writeBy T room i (writing T i m)
 
--- a list's bytes cut into commands from the front, each taking the bytes of its span; a rest too short is the last one
+-- a list's bytes, cut into commands from the front; each takes the bytes of its span, and a rest that is too short is the last one
 unfoldable pub splitList : (List ℕ → ℕ) → ℕ → List ℕ → List (List ℕ)
 splitList span zero bytes = []
 splitList span (suc fuel) bytes =
@@ -95,10 +95,10 @@ splitList span (suc fuel) bytes =
       | false ↦ take (span bytes) bytes ∷ splitList span fuel (drop (span bytes) bytes)
     ]
 
--- a span is at least 1, so that there are at most as many commands as bytes
+-- the fuel suffices: a span is at least 1, so there are at most as many commands as bytes
 abbrev pub pieces : TagType → List ℕ → List ℕ → List (List ℕ)
 pieces T i bytes = splitList ((T .span) i) (length bytes) bytes
 
--- the commands of a list's bytes, by the tag handed in
+-- the commands that the tag handed in takes a list's bytes for
 abbrev pub commands : TagType → List ℕ → List ℕ → List Command
 commands T i bytes = map ((T .command) i) (pieces T i bytes)

@@ -1,4 +1,4 @@
--- Which versions are read.
+-- The version of a tag that the library reads.
 -- Assumes nothing.
 use mathlib.Core.Bool.{Bool}
 use Prim.Native.Nat.{ℕ}

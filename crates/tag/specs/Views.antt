@@ -1,4 +1,4 @@
--- Views of the code that every type of tag shares: what its functions promise each other.
+-- Views of the code that every type of tag shares. They state what its functions promise each other.
 pub mod Blank
 pub mod Judging
 pub mod Numbers

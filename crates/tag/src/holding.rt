@@ -1,4 +1,4 @@
-// What the judge asks of a tag that was read: by the answer of reading and the part shown.
+// What a tag holds, from the answer of `read` and the part shown. The judge asks this of every tag that it reads.
 
 use crate::Content;
 use crate::ReadAnswer;
@@ -49,7 +49,7 @@ pub fn holds(answer: ReadAnswer, shown: &[u8], message: &[u8]) -> bool
     }
 }
 
-// Is a message the new one, or the old one where the tag had one?
+// Is the message shown the new one, or the old one, if the tag had one?
 fn is_either(shown: &[u8], new: &[u8], old: &[u8], present: bool) -> bool
     ensures { λ r. ⌜ r ≡ (same (now (shown .entry)) (now (new .entry)) || holdsAs (oldHeld present (now (old .entry))) (now (shown .entry))) ⌝ }
 {

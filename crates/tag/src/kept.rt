@@ -1,4 +1,4 @@
-// Protected bytes, as the judge tests them. Each type of tag adds to this what it protects inside the range.
+// The judge's test of protected bytes outside a range. Each type of tag adds the test of what it protects inside the range.
 
 use crate::Address;
 use crate::slices;

@@ -1,4 +1,5 @@
-// What every type of tag shares: addresses and blocks, and the answers of the public functions. A refusal is its number.
+// What every type of tag shares: addresses and blocks, and the answers of the public functions. An answer gives a refusal by its
+// number.
 
 pub mod holding;
 pub mod kept;
@@ -10,7 +11,7 @@ pub mod version;
 ghost use mathlib.Core.Path.{_≡_};
 ghost use Prim.Native.Nat.{_*_, _/_, _^_, _<_};
 
-// Byte addresses and block numbers are two kinds of number; no conversion is written but the two methods below.
+// Byte addresses and block numbers are two kinds of number. The two methods below are the only conversions between them.
 
 // The address of a byte in a tag's memory.
 pub struct Address(pub usize);
@@ -19,7 +20,7 @@ pub struct Address(pub usize);
 pub struct Block(pub usize);
 
 impl Address {
-    // The block of `size` bytes that the address lies in.
+    // The block that the address lies in, with blocks of `size` bytes.
     pub fn block(self, size: usize) -> Block
         requires { ⌜ 0 < size ⌝ }
         ensures { λ r. ⌜ r .0 ≡ self .0 / size ⌝ }
@@ -38,7 +39,7 @@ impl Block {
     }
 }
 
-// Which of the three a tag that reads is.
+// What a tag that reads holds: a message, an empty one, or one being written.
 pub enum Content {
     Message,
     Empty,
@@ -60,19 +61,19 @@ pub enum ReadAnswer {
     Reads(Report),
 }
 
-// The answer of writing, the number of commands, and of encoding, the number of bytes.
+// The answer of writing or of encoding. The count is the number of commands for writing, the number of bytes for encoding.
 pub enum CountAnswer {
     Refused(u8),
     Count(usize),
 }
 
-// The answer of judging: a refusal with the position of the command, or the number of commands.
+// The answer of judging: a refusal and the position of the command, or the number of commands.
 pub enum JudgeAnswer {
     Refused(u8, usize),
     Accepted(usize),
 }
 
-// The answer of the tag as a model.
+// The answer of the model of a tag.
 pub enum ModelAnswer {
     Refused(u8),
     Stored,

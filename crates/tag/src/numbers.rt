@@ -6,14 +6,15 @@ ghost use lib.ListN.{length};
 ghost use Rattle.tag.specs.Bytes.{byte};
 ghost use Rattle.tag.specs.Views.Numbers.{sumTo};
 
-// A byte as a number to compute with. Unlike `as usize`, it brings its bound with it, and no caller has to show that the byte fits.
+// A byte as a number to compute with. The contract states the bound, so callers need not show that the byte fits, as they would
+// after `as usize`.
 pub fn wide(x: u8) -> usize
     ensures { λ r. ⌜ (r ≡ x) × (r < 256) ⌝ }
 {
     x as usize
 }
 
-// The number that two bytes give, high byte first.
+// The number that the two bytes from `at` on give, high byte first.
 pub fn word(bytes: &[u8], at: usize) -> usize
     requires { ⌜ at + 1 < length (now bytes) ⌝ }
     ensures is { λ r. ⌜ r ≡ 256 * byte (now (bytes .entry)) at + byte (now (bytes .entry)) (at + 1) ⌝ }
@@ -22,8 +23,8 @@ pub fn word(bytes: &[u8], at: usize) -> usize
     256 * wide(bytes[at]) + wide(bytes[at + 1])
 }
 
-// The sum of the first `n` bytes; of few enough that no caller has to think of overflow. In sixteen bits, of which the compiler
-// does eight at once.
+// The sum of the first `n` bytes. At most sixteen bytes are summed, so it cannot overflow. It has sixteen bits because the compiler
+// then adds eight bytes at once.
 pub fn sum(bytes: &[u8], n: usize) -> u16
     requires { ⌜ (n ≤ length (now bytes)) × (n ≤ 16) ⌝ }
     ensures is { λ r. ⌜ r ≡ sumTo (now (bytes .entry)) n ⌝ }

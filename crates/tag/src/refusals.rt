@@ -1,18 +1,18 @@
-// The refusals, by name. Their numbers are the table 'Refusal numbers' of the requirements; the definitions name them in
-// specs/Refusals.antt.
+// The refusals, by name. Their numbers are those of the table 'Refusal numbers' of the requirements. specs/Refusals.antt has the
+// same names for the definitions.
 
-// Where a function answers a refusal's number alone, this one says that there is none.
+// No refusal, in functions that answer only a refusal's number.
 pub const NONE: u8 = 0;
 
-// The image has a length that its type does not have.
+// No tag of this type has an image of this length.
 pub const IMAGE_SIZE: u8 = 1;
 
-// Type 2: no NDEF mark E1h. Type 3: the checksum is wrong.
+// Type 2: byte 12 is not the magic number E1h. Type 3: the checksum is wrong.
 pub const NOT_NDEF: u8 = 2;
 
 pub const UNKNOWN_VERSION: u8 = 3;
 
-// An access byte or an attribute has a value that is not defined.
+// Type 2: the access byte has a value that is not defined. Type 3: WriteFlag, RWFlag or Nbr has one.
 pub const BAD_ACCESS: u8 = 4;
 
 // The data area reaches past the image.
@@ -33,10 +33,10 @@ pub const NOT_WRITABLE: u8 = 10;
 
 pub const MESSAGE_TOO_LONG: u8 = 11;
 
-// The list, or a command's bytes, do not fit the buffer.
+// The list, or the bytes of a command, do not fit in the buffer.
 pub const SHORT_BUFFER: u8 = 12;
 
-// An interrupted message does not fit the gathering buffer.
+// An interrupted message does not fit in the gathering buffer.
 pub const SHORT_GATHERING_BUFFER: u8 = 13;
 
 // The command is not well formed.

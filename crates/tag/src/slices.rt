@@ -1,4 +1,4 @@
-// Parts of lent slices, whether two slices are equal, and storing one in another.
+// Slices: taking a part, comparing two, and storing one in another.
 
 use crate::Content;
 use crate::ReadAnswer;
@@ -15,7 +15,7 @@ ghost use Rattle.tag.specs.Reading.{part, shown};
 ghost use Rattle.tag.specs.Answers.{readAs};
 ghost use Rattle.tag.specs.Contracts.{Showed};
 
-// `len` bytes of a slice from `start` on; the empty part where they do not lie in it.
+// The `len` bytes of a slice from `start` on, or the empty part if they do not all lie in the slice.
 fn part<'a>(s: &'a [u8], start: usize, len: usize) -> &'a [u8]
     ensures { λ r. ⌜ now r ≡ part start len (now (s .entry)) ⌝ }
 {
@@ -28,7 +28,7 @@ fn part<'a>(s: &'a [u8], start: usize, len: usize) -> &'a [u8]
     &s[start..start + len]
 }
 
-// The part shown of a tag that reads.
+// The part to show of a tag that reads.
 fn shown_of<'a>(image: &'a [u8], gathered: &'a [u8], report: Report) -> &'a [u8]
     ensures { λ r. ⌜ now r ≡ shown (now (image .entry)) (now (gathered .entry)) (readAs (ReadAnswer.Reads report)) ⌝ }
 {
@@ -48,8 +48,8 @@ fn shown_of<'a>(image: &'a [u8], gathered: &'a [u8], report: Report) -> &'a [u8]
     }
 }
 
-// The part shown after `read` answered: of the image or, if the message is interrupted, of the gathered copy; empty without
-// a message, after a refusal, and where the answer's numbers do not fit.
+// The part to show after an answer of `read`. It is a part of the image or, if the message is interrupted, of the gathered copy. It
+// is empty without a message, after a refusal, and where the answer's address and length lie outside the slice.
 pub fn shown<'a>(image: &'a [u8], gathered: &'a [u8], answer: ReadAnswer) -> &'a [u8]
     ensures { λ r. ⌜ Showed (now (image .entry)) (now (gathered .entry)) answer (now r) ⌝ }
 {
@@ -59,7 +59,7 @@ pub fn shown<'a>(image: &'a [u8], gathered: &'a [u8], answer: ReadAnswer) -> &'a
     }
 }
 
-// 1 if two bytes differ, else the flag as it was.
+// 1 if the two bytes differ, else the flag as it was.
 fn flag(raised: u8, x: u8, y: u8) -> u8
     ensures { λ r. ⌜ r ≡ cond (eqb x y) raised 1 ⌝ }
 {
@@ -69,8 +69,8 @@ fn flag(raised: u8, x: u8, y: u8) -> u8
     raised
 }
 
-// 1 if the slices differ in the bytes of the first, else 0. The flag is a byte and the loop has no exit: the compiler then compares
-// many bytes at once.
+// 1 if `b` differs from `a` within the length of `a`, else 0. The flag is a byte and the loop has no early exit because the
+// compiler then compares many bytes at once.
 fn differ(a: &[u8], b: &[u8]) -> u8
     requires { ⌜ length (now a) ≤ length (now b) ⌝ }
     ensures { λ r. ⌜ r ≡ flagTo (λ k. eqb (byte (now (a .entry)) k) (byte (now (b .entry)) k)) (length (now (a .entry))) ⌝ }

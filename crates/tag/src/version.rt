@@ -1,4 +1,4 @@
-// Which versions are read.
+// The version of a tag that the library reads.
 
 ghost use mathlib.Core.Path.{_≡_};
 ghost use Rattle.tag.specs.Version.{knownVersion};

@@ -1,23 +1,23 @@
 // Reads a Type 2 image from tag.bin and a message from message.bin and prints the write list, or the refusal.
 //
 // A file that cannot be opened counts as empty. The buffers are longer than any image or message that is not refused for its
-// length, so that a longer file is refused as it would be whole.
+// length. A file that is longer than its buffer is therefore refused just as the whole file would be.
 
 use tag::CountAnswer;
 use type2::commands;
 use type2::container;
 ghost use Rattle.io.specs.Counts.{Counts};
 
-// One byte more than the longest image has.
+// One byte more than the longest image.
 const IMAGE: usize = container::LONGEST_IMAGE + 1;
 
-// The first `count` commands of a list.
+// Prints how many commands the list has, and the first `count` commands, one a line.
 fn print_list(list: &[u8], count: usize) {
     printing::commands(count);
     let mut at = 0usize;
     let mut left = count;
     while 0 < left {
-        // `write` counts no command that the list does not hold; no contract here says so, and so it is tested
+        // `write` counts only commands that the list holds. No contract here says so, and therefore it is tested.
         if list.len() - at < commands::LENGTH {
             return;
         }
@@ -34,7 +34,7 @@ fn print_answer(image: &[u8], message: &[u8], list: &mut [u8]) {
     }
 }
 
-// How many bytes of the file were read to the front of buf.
+// Reads a file to the front of `buf` and answers how many bytes it has read.
 fn load(path: &[u8], buf: &mut [u8]) -> usize
     ensures { λ r. ⌜ Counts r (now (buf .exit)) ⌝ }
 {

@@ -1,4 +1,4 @@
--- The type of tag that a kind stands for, and what the kind knows of the tag handed in.
+-- The type of tag that a kind stands for, and what the kind says of the tag handed in.
 -- Assumes nothing.
 use mathlib.Core.Path.{_≡_}
 use mathlib.Core.List.{List}
@@ -13,7 +13,7 @@ use Rattle.type3.specs.Type3.{type3}
 use Rattle.kinds.specs.declared.Kind.{Kind}
 use Rattle.kinds.specs.declared.Kind.the-variants as kind
 
--- with the IDm that the caller states
+-- the type of tag, with the IDm that the caller states
 abbrev pub typeOf : Kind → List ℕ → TagType
 typeOf (kind.Type2 e) idm = type2
 typeOf (kind.Type3 nbw nmaxb) idm = type3 idm
@@ -25,12 +25,13 @@ pub record AttributesKnown (i : List ℕ) (nbw nmaxb : ℕ) : Type 0 where
   pub reach : 16 * (1 + nmaxb) ≤ length i
   pub most : length i ≤ 4096
 
--- what the kind says of the tag handed in
+-- what the kind says of the tag handed in, whatever the message
 abbrev pub Attested : Kind → List ℕ → Type 0
 Attested (kind.Type2 e) i = length i ≤ 1024
 Attested (kind.Type3 nbw nmaxb) i = AttributesKnown i nbw nmaxb
 
--- what tells the protected addresses, for a message: where the bytes to set lie by the skip table, or that the message fits
+-- what determines the protected addresses for a message. Type 2: the kind and the skip table say where the bytes to set lie. Type
+-- 3: the message fits
 abbrev pub Protects : Kind → List ℕ → List ℕ → List ℕ → Type 0
 Protects (kind.Type2 e) i m table = Covered i m table e
 Protects (kind.Type3 nbw nmaxb) i m table = length m ≤ 16 * nmaxb

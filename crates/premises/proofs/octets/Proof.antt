@@ -1,4 +1,4 @@
--- `octets` meets its contract: once an element is read, the checker's rule bounds every one. Assumes nothing.
+-- `octets` meets its contract. Once one element is read, the checker's rule bounds every element. Assumes nothing.
 use mathlib.Core.Path.{_≡_}
 use native.Mathlib.Omega.{arith}
 use borrow.Author.Needs.{needs}

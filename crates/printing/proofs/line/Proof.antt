@@ -1,4 +1,4 @@
--- `line` meets its contract. Assumes nothing.
+-- `line` meets its contract. The loop keeps: i is at most the number of bytes. Assumes nothing.
 use Prim.Native.Nat.{_≤_, _-_}
 use lib.ListN.{length}
 use borrow.Author.Needs.{needs}

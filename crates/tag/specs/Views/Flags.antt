@@ -1,5 +1,5 @@
--- The flag that a loop keeps while it compares: 0 as long as every test has passed, then 1. The loop has no exit inside, and the
--- compiler does many bytes at once.
+-- The flag that a loop keeps while it compares: 0 as long as every test has passed, then 1. The loop has no early exit, so the
+-- compiler can compare many bytes at once.
 -- Assumes nothing.
 use mathlib.Core.Bool.{Bool, cond}
 use Prim.Native.Nat.{ℕ, zero, suc}

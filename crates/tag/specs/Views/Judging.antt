@@ -1,5 +1,5 @@
--- What the functions of the judge promise each other, for every type of tag: the next command of a list, the tag that it leaves, its
--- fault, and the verdict on the whole list.
+-- What the functions of the judge promise each other, for every type of tag. It concerns the next command of a list, the tag that
+-- it leaves, its fault, and the verdict on the whole list.
 -- Assumes nothing.
 use mathlib.Core.Path.{_≡_}
 use mathlib.Core.Bool.{Bool}

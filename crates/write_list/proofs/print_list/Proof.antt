@@ -1,4 +1,4 @@
--- `print_list` meets its contract. Assumes nothing.
+-- `print_list` meets its contract. The loop keeps: at is at most the length of the list. Assumes nothing.
 use Prim.Native.Nat.{_≤_}
 use lib.ListN.{length}
 use borrow.Author.Needs.{needs}

@@ -1,5 +1,6 @@
--- `lists::judge_list` meets its contract: what is left of the list, on the tag that the commands so far have left, is judged as the
--- whole list on the tag handed in. Assumes nothing.
+-- `lists::judge_list` meets its contract. The loop keeps: the verdict on the rest of the list, from at on, given the tag that the
+-- commands so far have left, is the verdict on the whole list, given the tag handed in. Also at is at most the length of the list,
+-- count is at most at, and the arrays keep their lengths. Assumes nothing.
 use mathlib.Core.Path.{_≡_, sym, ap, _∙_}
 use Prim.Native.Nat.{_+_, _-_, _≤_}
 use native.Mathlib.Omega.{arith}

@@ -1,4 +1,4 @@
--- `lists::judge_writable` meets its contract: the work array is long enough for an image of any kind. Assumes nothing.
+-- `lists::judge_writable` meets its contract. The work array is long enough for an image of any kind. Assumes nothing.
 use native.Mathlib.Omega.{arith}
 use borrow.Author.Needs.{needs}
 use lib.ListN.{length-take}

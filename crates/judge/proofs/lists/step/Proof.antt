@@ -1,4 +1,4 @@
--- `lists::step` meets its contract: the tests in their order. Assumes nothing.
+-- `lists::step` meets its contract. Its tests run in the order of the definition. Assumes nothing.
 use borrow.Author.Needs.{needs}
 use Rattle.kinds.specs.Views.Types.{typeOf}
 use Rattle.tag.proofs.Turns.{step-malformed, step-change, step-misread, step-none}

@@ -1,4 +1,5 @@
--- `numbers::sum` meets its contract. The loop's invariant: the bytes passed are summed. Assumes nothing.
+-- `numbers::sum` meets its contract. The loop keeps: k is at most n, which is at most 16 and the number of bytes, and the total is
+-- the sum of the first k bytes, at most 255·k. Assumes nothing.
 use mathlib.Core.Path.{_≡_, refl}
 use mathlib.Core.List.{List}
 use Prim.Native.Nat.{ℕ, _+_, _*_, _-_, _≤_}

@@ -1,4 +1,5 @@
--- `slices::differ` meets its contract: the flag is that of the bytes compared so far. Assumes nothing.
+-- `slices::differ` meets its contract. The loop keeps: k is at most the length of a, and the flag is 0 if the first k bytes of a
+-- and b are equal, else 1. Assumes nothing.
 use mathlib.Core.Path.{_≡_, refl, sym, ap, _∙_}
 use mathlib.Core.Bool.{Bool, cond}
 use mathlib.Core.List.{List}

@@ -1,4 +1,5 @@
--- `slices::store` meets its contract: after i turns the first i bytes are stored. Assumes nothing.
+-- `slices::store` meets its contract. The loop keeps: i is at most the length of from, and to is the buffer passed in, of the same
+-- length, with the first i bytes of from stored. Assumes nothing.
 use Prim.Native.Nat.{_+_, _-_, _≤_}
 use mathlib.Core.Path.{_≡_, refl, ap, _∙_}
 use native.Mathlib.Omega.{arith}
