@@ -1,5 +1,5 @@
--- The list between the guard block's two commands and with them: its length, what is answered for it, and its three parts as
--- they are written one after the other.
+-- The whole list, the guard block's two commands and those between them: its length, what is answered for it, and its three parts
+-- as they are written one after the other.
 -- Assumes nothing.
 use mathlib.Core.Path.{_≡_, sym, ap, _∙_}
 use mathlib.Core.List.{List, _++_, append-assoc}
@@ -45,7 +45,7 @@ module _ (front : List ℕ) (z : ℕ) (new marks : List ℕ) (g : ℕ) (shut : L
       → guardedOutput room front z new marks g shut ≡ output (2 + markedCount marks (length new / z)) (guardedBytes front z new marks g shut)
   guarded-fits room l = rw (le-leb (length (guardedBytes front z new marks g shut)) room (omega (arith, length-guarded)))
 
-  -- the guard block shut, the blocks between, the guard block opened: b blocks in all, of which n are between
+  -- the guard block shut, the blocks between, the guard block opened; the tag has b blocks, and n of them are between
   module _ (b n : ℕ) (all : b ≡ length new / z) (few : n ≡ markedCount marks b) where
     pub guarded-count : n + 2 ≡ 2 + markedCount marks (length new / z)
     guarded-count = omega (arith, ap (markedCount marks) all)
@@ -60,7 +60,7 @@ module _ (front : List ℕ) (z : ℕ) (new marks : List ℕ) (g : ℕ) (shut : L
     pub middle-room : (room : ℕ) → commandLength front z * (n + 2) ≤ room → commandLength front z * markedCount marks b + commandLength front z ≤ room
     middle-room room l = omega (arith, ap (λ k. commandLength front z * k) few)
 
-    -- the first two parts: the guard block shut, then the blocks between, in a part that is lent
+    -- the first two parts: the guard block shut, then the blocks between, in a borrowed part
     module _ (list first y : List ℕ) (l : commandLength front z * (n + 2) ≤ length list)
         (p : first ≡ commandBytes front g shut ++ drop (commandLength front (length shut)) list)
         (m : length first ≡ length list)

@@ -1,4 +1,4 @@
--- The bytes of write commands: one, as the code lays it; a block's; and stores laid end to end, a command each.
+-- The bytes of write commands: one command as the code lays it, the command of a block, and stores laid end to end, a command each.
 -- Assumes nothing.
 use mathlib.Core.Path.{_≡_, refl, sym, ap, _∙_}
 use mathlib.Core.Bool.{Bool, true, false, cond}
@@ -49,7 +49,7 @@ module _ (front : List ℕ) where
   pub length-command : (b : ℕ) (bytes : List ℕ) → length (commandBytes front b bytes) ≡ commandLength front (length bytes)
   length-command b bytes = length-append front (b ∷ bytes) ∙ omega arith
 
-  -- laid in three steps: the bytes, in a part that is lent; the front; and the block's number between them
+  -- laid in three steps: the bytes, in a borrowed part; the front; and the block's number between them
   pub command-laid : (out part laid bytes : List ℕ) (b : ℕ) → commandLength front (length bytes) ≤ length out
       → part ≡ take (length bytes) bytes ++ drop (length bytes) (take (length out - (length front + 1)) (drop (length front + 1) out))
       → laid ≡ take (length front) front ++ drop (length front) (putMid (length front + 1) (length out - (length front + 1)) out part)
@@ -78,7 +78,7 @@ module _ (front : List ℕ) where
       ∙ omega (arith, length-command b bytes, length-drop (commandLength front (length bytes)) out)
 
   module _ (z : ℕ) where
-    -- the bytes handed over are the image's, as a part that begins at a
+    -- the bytes passed are the image's, as a part that begins at a
     pub block-laid : (out laid i : List ℕ) (b a : ℕ) → a ≡ z * b → z * b + z ≤ length i
         → laid ≡ commandBytes front b (take (a + z - a) (drop a i)) ++ drop (commandLength front (length (take (a + z - a) (drop a i)))) out
         → laid ≡ blockBytes front z i b ++ drop (commandLength front z) out

@@ -1,5 +1,5 @@
--- A plan whose commands store one block each: what is laid from the new image and the marks is the plan's list, for every type whose
--- command has the frame's bytes.
+-- A plan whose commands store one block each: the list made from the new image and the marks is the plan's, for every type whose
+-- command is the front, the block's number and the block's bytes.
 -- Assumes nothing.
 use mathlib.Core.Path.{_≡_, refl, sym, ap, _∙_}
 use mathlib.Core.Bool.{Bool, true, false, cond}

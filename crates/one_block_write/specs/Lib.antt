@@ -1,2 +1,2 @@
--- The writer of lists whose commands store one block each: what it lays.
+-- The writer of lists whose commands store one block each: what it writes.
 pub mod Views

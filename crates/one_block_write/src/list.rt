@@ -1,6 +1,7 @@
 // The list of write commands: the guard block shut, then each marked block, rising, then the guard block with all its new bytes.
 //
-// A type hands in what is its own. A command is the bytes of `front`, the block's number, and the `size` bytes of the block.
+// A type of tag passes in what is particular to it. A command is the bytes of `front`, the block's number, and the `size` bytes of
+// the block.
 
 use tag::Address;
 use tag::Block;
@@ -23,8 +24,8 @@ fn put_six(front: &[u8], block: Block, held: &[u8], out: &mut [u8])
     bytes::copy(&six, out);
 }
 
-// Writes a command to the front of `out`: the block, and the bytes that it is to hold. Type 2's commands have no loop: with several
-// callers the compiler knows neither length, and two loops for six bytes took a third more time.
+// Writes a command to the front of `out`: the block, and the bytes that it is to hold. Type 2's commands are written without a
+// loop: with several callers the compiler knows neither length, and two loops for six bytes took a third more time.
 fn put_command(front: &[u8], block: Block, held: &[u8], out: &mut [u8])
     requires { ⌜ (block .0 < 256) × (commandLength (now front) (length (now held)) ≤ length (now out)) ⌝ }
     ensures { λ _. ⌜ now (out .exit) ≡ commandBytes (now (front .entry)) (block .0) (now (held .entry)) ++ drop (commandLength (now (front .entry)) (length (now (held .entry)))) (now (out .entry)) ⌝ }
@@ -67,7 +68,7 @@ fn count_marked(marks: &[u8], blocks: usize) -> usize
     count
 }
 
-// Writes the command of a block at `at` if it is marked, and says where the next one goes.
+// Writes the command of a block at `at` if the block is marked, and returns where the next command goes.
 fn put_if_marked(
     front: &[u8],
     size: usize,
@@ -90,7 +91,7 @@ fn put_if_marked(
     at + step
 }
 
-// Writes the commands of the marked ones of the first `blocks` blocks, rising, to the front of `out`.
+// Writes the commands of the marked blocks among the first `blocks`, rising, to the front of `out`.
 fn put_marked(front: &[u8], size: usize, image: &[u8], marks: &[u8], blocks: usize, out: &mut [u8])
     requires { ⌜ (blocks ≤ 256) × (commandLength (now front) size ≤ 256) × (size * blocks ≤ length (now image)) × (blocks ≤ length (now marks)) × (commandLength (now front) size * markedCount (now marks) blocks ≤ length (now out)) × (0 < size) ⌝ }
     ensures { λ _. ⌜ now (out .exit) ≡ markedBytes (now (front .entry)) size (now (image .entry)) (now (marks .entry)) blocks ++ drop (commandLength (now (front .entry)) size * markedCount (now (marks .entry)) blocks) (now (out .entry)) ⌝ }
@@ -103,8 +104,8 @@ fn put_marked(front: &[u8], size: usize, image: &[u8], marks: &[u8], blocks: usi
     }
 }
 
-// Writes the list to the front of `list`: the guard block is shut with the bytes of `shut`, all else is stored from the new image.
-// Where the list is longer than its buffer, refusal 12.
+// Writes the list to the front of `list`. The guard block is shut with the bytes of `shut`; all else is stored from the new image.
+// Refuses with 12 if the list is longer than its buffer.
 pub fn put_list(
     front: &[u8],
     size: usize,

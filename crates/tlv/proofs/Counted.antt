@@ -1,4 +1,4 @@
--- Tables by the areas marked in them: one area more, two runs of areas after each other, and what no area changes.
+-- Skip tables by the areas that they skip: one area more, two runs of areas one after the other, and what no area changes.
 -- Assumes nothing.
 use mathlib.Core.Path.{_≡_, refl, ap, _∙_}
 use mathlib.Core.List.{List}
@@ -63,7 +63,7 @@ module _ (first end : ℕ) where
   added-after zero t u a x l = ap (λ s. byte s x) a
   added-after (suc n) t u a x l = one-after (a .2) x l ∙ added-after n t (a .0) (a .1) x l
 
--- with none declared nothing is skipped
+-- with no area declared nothing is skipped
 pub none-declared : (end : ℕ) (t : List ℕ) → TableOf end 0 t → (a n : ℕ) → a + n ≤ length t → unskipped t a n ≡ run a n
 unfolding Added
 none-declared end t none a n h = ap (λ s. unskipped s a n) none ∙ unskipped-all (length t) a n h

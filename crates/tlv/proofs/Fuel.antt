@@ -1,5 +1,5 @@
--- The walk's fuel does not matter. Each step that passes a TLV takes at least one address, so that as much fuel as there are
--- addresses is enough, and the walk is what its steps make it: what a loop in the code goes by.
+-- The walk's fuel does not matter. Each step that passes a TLV takes at least one address, so as much fuel as there are addresses
+-- is enough. The walk is therefore what its steps make it, and a loop in the code can follow it step by step.
 -- Assumes nothing.
 use mathlib.Core.Path.{_≡_, refl, sym, ap, _∙_}
 use mathlib.Core.Bool.{Bool, true, false}

@@ -83,7 +83,7 @@ module _ (allowed : Area → Bool) where
 -- ---- parts of the walk are local
 
 module _ (hi : ℕ) where
-  -- what lies below them all lies below those that an area leaves
+  -- what lies below all the addresses lies below those that an area leaves
   above-without : (x : ℕ) (r : Area) (us : List ℕ) → Above hi x us → Above hi x (without r us)
   unfolding without
   above-without x r [] h = h
@@ -131,7 +131,7 @@ module _ (hi : ℕ) where
   length-local i [] ws n e = absurd (nope (cc))
   length-local i (a ∷ us) ws n e = after-byte (λ x j. lengthBy x j us) (lengthBy-local (byte i a) i us ws n e)
 
-  -- the addresses after a length lie above what those before it do
+  -- what lies below the addresses from a length on lies below those after it
   pub length-above : (i us ws : List ℕ) (n : ℕ) → lengthOf i us ≡ len n ws → (x : ℕ) → Above hi x us → Above hi x ws
   length-above i us ws n e = length-local i us ws n e .up
 
@@ -188,7 +188,7 @@ module _ (hi : ℕ) where
     step-local i (a ∷ us) ws e =
         after-byte (λ x j. stepAt allowed (kindOf x) j a us) (stepAt-local (kindOf (byte i a)) i a us ws e)
 
-    -- the type byte lies above what lies below all addresses, and the usable addresses after it lie above it
+    -- what lies below all the addresses lies below the type byte, and the usable addresses after it lie above it
     pub find-above : (k : ℕ) (i us : List ℕ) (a x : ℕ) (vs : List ℕ) → find allowed k i us ≡ found a vs
         → Above hi x us → (x < a) × Above hi a vs
     unfolding find
@@ -224,7 +224,7 @@ module _ (hi : ℕ) where
         go (here q) ih = rw (at us q, find)
         go (later ws q f) ih =
             let l : Local (λ j. step allowed j us) (on (more ws)) i us ws = step-local i us ws q in
-            -- what lies below ws lies below the type byte, so that j agrees there
+            -- what lies below ws lies below the type byte, so j agrees there
             let g : (x : ℕ) → Above hi x ws → byte j x ≡ byte i x = λ x b. h x (omega (arith, find-above k i ws a x vs f b .0)) in
             let s : step allowed j us ≡ on (more ws) = l .stays j (above-rising hi o us r) g in
             rw (s, find) (ih ws (l .up o r) f)

@@ -1,4 +1,4 @@
--- A value measured by its n-th address z, which is the walk's end where there is none, and its first address f.
+-- A value measured by its first and its n-th address. The first is f; the n-th is z, which is the walk's end if there are fewer.
 -- Assumes nothing.
 use mathlib.Core.Path.{_≡_, sym, ap, _∙_}
 use mathlib.Core.List.{List}
@@ -56,7 +56,7 @@ module _ (t : List ℕ) (w : Walk) (n z : ℕ) (inside : Within t w) (some : 1 �
         rw (← measured-first, nth, le-leb n (length (ahead t w)) (measured-room there))
         (ap (at (getD (ahead t w) 0 0)) (nth-consecutive (w .end .0) n (ahead t w) (ahead-rising t w (inside .ordered)) some (measured-room there)))
 
--- no value is passed over at once
+-- passing over a value of length 0 changes nothing
 pub passed-none : (us : List ℕ) (n : ℕ) → n ≡ 0 → more us ≡ passValue (len n us)
 unfolding passValue
 passed-none us n z = rw (z, le-leb 0 (length us) (omega arith))

@@ -1,4 +1,4 @@
--- Addresses that rise are consecutive just where the n-th of them is the first plus n - 1.
+-- Addresses that rise are consecutive exactly if the n-th of them is the first plus n - 1.
 -- Assumes nothing.
 use mathlib.Core.Path.{_≡_}
 use mathlib.Core.Bool.{not, _&&_}

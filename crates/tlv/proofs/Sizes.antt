@@ -14,11 +14,11 @@ use Rattle.tag.proofs.Logic.{nope}
 use Rattle.tlv.specs.Walk.{len, longOf, lengthBy, lengthOf}
 use Rattle.tlv.proofs.Locality.{longBy-is}
 
--- u bytes are the length field of n, in its one form or the other, and k more
+-- u bytes are the length field of n, in one form or the other, and k more
 abbrev pub Sized : ℕ → ℕ → ℕ → Type 0
 Sized n u k = ((leb n 254 ≡ true) × (u ≡ 1 + k)) ⊎ ((leb n 254 ≡ false) × (u ≡ 3 + k))
 
--- a number is read in one form only, so that no longer form is taken for a shorter one
+-- a number is read in one form only: no longer form is taken for a shorter one
 pub length-size : (j us ws : List ℕ) (n : ℕ) → lengthOf j us ≡ len n ws → Sized n (length us) (length ws)
 unfolding lengthBy
 length-size j [] ws n e = absurd (nope (cc))

@@ -1,4 +1,4 @@
--- Marking an area in the skip table, one address at a time, and what that leaves usable.
+-- Skipping an area in the skip table, one address at a time, and what that leaves usable.
 -- Assumes nothing.
 use mathlib.Core.Path.{_≡_, refl, sym, _∙_}
 use mathlib.Core.Bool.{Bool, true, false, not, _&&_, and-true, and-false}
@@ -15,7 +15,7 @@ use Rattle.tlv.specs.Views.Table.{unskipped}
 use Rattle.tlv.specs.Views.Areas.{SkipsSet}
 use Rattle.tlv.proofs.Skipping.{skipped-more}
 
--- t has become u: the addresses from first up to a are marked
+-- t has become u: the entries from first up to a are stop, and all other entries are as they were
 pub record SkipsSetTo (t u : List ℕ) (first a stop : ℕ) : Type 0 where
   pub same-length : length u ≡ length t
   pub low : first ≤ a
@@ -58,9 +58,9 @@ skip-done m l = record {
   after = λ x p. m .after x (omega (arith, m .high));
 }
 
--- ---- an area marked
+-- ---- an area skipped
 
--- an area marked from `at` on and up to the end
+-- an area skipped from `at` on and up to the end
 pub area-skipped : (t u : List ℕ) (r : Area) (at end first stop : ℕ) → SkipsSet t u first stop → first ≡ max (r .start) at → stop ≡ min (r .start + r .size) end → at ≤ end
     → unskipped u at (end - at) ≡ without r (unskipped t at (end - at))
 area-skipped t u r at end first stop m from to l = skipped-more t u r at (end - at) (λ x p q. at-each x p q (leb (r .start) x) refl (ltb x (r .start + r .size)) refl)

@@ -1,5 +1,5 @@
--- The skip table against the list of usable addresses: one address passed or taken, how many there are, whether none is
--- skipped, the one after k others, and an area marked.
+-- The skip table against the list of usable addresses: one address passed or taken, how many there are, whether none is skipped,
+-- the one after k others, and an area skipped.
 -- Assumes nothing.
 use mathlib.Core.Path.{_≡_, refl, ap, _∙_}
 use mathlib.Core.Bool.{Bool, true, false, not, _&&_, and-assoc}
@@ -82,7 +82,7 @@ none-end t a n false z = refl
 
 -- ---- the one after k others
 
--- where none up to it is skipped
+-- if none up to it is skipped
 pub unskipped-nth : (t : List ℕ) (a k n d : ℕ) → k < n → noneSkipped t a (suc k) ≡ true → getD (unskipped t a n) k d ≡ a + k
 unfolding unskipped noneSkipped
 unskipped-nth t a k zero d l h = absurd (omega arith)

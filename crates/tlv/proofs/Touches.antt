@@ -19,7 +19,7 @@ touches-any z (x ∷ us) [] (w ∷ ws) b h = absurd (omega arith)
 touches-any z (x ∷ us) (v ∷ vs) [] b h = absurd (omega arith)
 touches-any z (x ∷ us) (v ∷ vs) (w ∷ ws) b h = ap (λ t. inBlock z b x || t) (touches-any z us vs ws b (omega arith))
 
--- the mark of block b: 1 if it holds one of us, as far as the values go, else what it was
+-- the mark of block b: 1 if the block holds one of the addresses us that gets a value of vs, else what it was
 abbrev pub markOf : ℕ → List ℕ → List ℕ → List ℕ → ℕ → ℕ
 markOf z marks us vs b = cond (touches z us vs b) 1 (byte marks b)
 
@@ -31,7 +31,7 @@ pub mark-done : (z : ℕ) (marks us : List ℕ) (b : ℕ) → markOf z marks us 
 mark-done z marks [] b = refl
 mark-done z marks (x ∷ us) b = refl
 
--- the block of a marked, and then those of the addresses after it
+-- first the block of a is marked, and then those of the addresses after it
 pub mark-next : (z a v : ℕ) (marks us vs : List ℕ) (b : ℕ) → 0 < z → a / z < length marks
     → markOf z (set marks (a / z) 1) us vs b ≡ markOf z marks (a ∷ us) (v ∷ vs) b
 mark-next z a v marks us vs b p l = go (ℕ-discrete b (a / z))

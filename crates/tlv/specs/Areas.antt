@@ -1,4 +1,4 @@
--- The areas that control TLVs declare: their addresses are skipped by whatever comes after the TLV.
+-- The areas that control TLVs declare. Whatever comes after the TLV skips their addresses.
 -- Assumes nothing.
 use mathlib.Core.Bool.{Bool, true, false, _&&_, _||_, cond}
 use mathlib.Core.List.{List, [], _∷_}
@@ -13,8 +13,8 @@ pub record Area : Type 0 where
   pub start : ℕ
   pub size : ℕ
 
--- which areas may be declared, by the data area's first address and the image's length. Any may, also one outside the image.
--- A stricter rule goes here: only `allowed` of the code and the specimens look inside.
+-- which areas may be declared, given the data area's first address and the image's length. Any area may, even one outside the
+-- image. A stricter rule goes here: only `allowed` of the code and the specimens look inside.
 unfoldable pub allowedArea : ℕ → ℕ → Area → Bool
 allowedArea first n r = true
 
@@ -26,7 +26,7 @@ unfoldable pub without : Area → List ℕ → List ℕ
 without r [] = []
 without r (a ∷ us) = elim (covers r a) [ true ↦ without r us | false ↦ a ∷ without r us ]
 
--- is a nibble of the value's last byte reserved: the low one 0; for lock control the high one 0 too
+-- is a nibble of the value's last byte reserved: the low one if it is 0; for lock control the high one too if it is 0
 abbrev pub reserved : Control → ℕ → Bool
 reserved lock b2 = eqb (b2 % 16) 0 || eqb (b2 / 16) 0
 reserved memory b2 = eqb (b2 % 16) 0

@@ -1,6 +1,6 @@
--- The walk over the TLVs of a data area. Its state, the place reached, is the list of the usable addresses still to come:
--- taking a byte takes the first of them, a control TLV takes out those that its area covers, and a TLV that is passed over
--- takes away those of its length and value. So an area counts from the byte after its TLV, in the middle of a length too.
+-- The walk over the TLVs of a data area. Its state, the place reached, is the list of the usable addresses still to come: taking a
+-- byte takes the first of them, a control TLV takes out those that its area covers, and a TLV that is passed over takes away those
+-- of its length and value. So an area counts from the byte after its TLV on, even in the middle of a length.
 -- Assumes nothing.
 use mathlib.Core.Bool.{Bool, cond}
 use mathlib.Core.List.{List, [], _∷_}
@@ -20,7 +20,7 @@ abbrev pub takeByte : List ℕ → List ℕ → Taken
 takeByte i [] = none
 takeByte i (a ∷ us) = took (byte i a) a us
 
--- what a byte decides, and what is answered where none is left
+-- what a byte decides, and what is answered if none is left
 abbrev pub onByte : {A : Type 0} → Taken → A → (ℕ → ℕ → List ℕ → A) → A
 onByte none x f = x
 onByte (took b a us) x f = f b a us
@@ -76,7 +76,7 @@ pub data Found : Type 0 where
   lost : ℕ → Found
   found : ℕ → List ℕ → Found
 
--- over the rule by which areas are allowed
+-- allowed is the rule that says which areas may be declared
 module _ (allowed : Area → Bool) where
   -- a control TLV's value, once its three bytes are taken
   unfoldable pub areaBy : Control → ℕ → ℕ → ℕ → List ℕ → Passed
@@ -97,7 +97,7 @@ module _ (allowed : Area → Bool) where
   abbrev pub passControl : Control → List ℕ → List ℕ → Passed
   passControl c i us = onByte (takeByte i us) (stop bad-length) (λ n _ vs. controlBy n c i vs)
 
-  -- a TLV whose type byte, of this kind, stands at a
+  -- a TLV of this kind whose type byte is at a
   abbrev pub stepAt : Kind → List ℕ → ℕ → List ℕ → Step
   stepAt null i a us = on (more us)
   stepAt (control c) i a us = on (passControl c i us)
@@ -108,7 +108,7 @@ module _ (allowed : Area → Bool) where
   abbrev pub step : List ℕ → List ℕ → Step
   step i us = onByte (takeByte i us) (on (stop no-message-tlv)) (λ t a vs. stepAt (kindOf t) i a vs)
 
-  -- the walk; each step takes a byte, so that as much fuel as there are usable addresses is enough
+  -- the walk. Each step takes a byte, so as much fuel as there are usable addresses is enough.
   unfoldable pub find : ℕ → List ℕ → List ℕ → Found
   find zero i us = lost no-message-tlv
   find (suc fuel) i us =

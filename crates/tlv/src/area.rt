@@ -12,13 +12,14 @@ pub enum Control {
     Memory,
 }
 
-// An area, by its first address, which may lie far outside the image, and its size in bytes.
+// An area: its first address, which may lie far outside the image, and its size in bytes.
 pub struct Area {
     pub start: Address,
     pub size: usize,
 }
 
-// Whether an area may be declared, by the data area's first address and the image's length. Any may, also one outside the image.
+// Whether an area may be declared, given the data area's first address and the image's length. Any area may, even one outside the
+// image.
 pub(crate) fn allowed(first: Address, len: usize, area: Area) -> bool
     ensures { λ r. ⌜ r ≡ allowedArea (first .0) len (areaAs area) ⌝ }
 {
@@ -56,7 +57,7 @@ fn area_size(kind: Control, size: u8) -> usize
     }
 }
 
-// The area of a value's three bytes.
+// The area that a control TLV's three value bytes declare.
 pub(crate) fn area_of(kind: Control, place: u8, size: u8, last: u8) -> Area
     ensures is { λ r. ⌜ areaAs r ≡ areaOf (controlAs kind) place size last ⌝ }
     ensures small { λ r. ⌜ SmallArea r ⌝ }

@@ -32,8 +32,8 @@ fn earlier(a: Address, b: Address) -> Address
 }
 
 impl Walk {
-    // An area declared: its addresses that are still to come are skipped from here on, and the walk counts one area more. What
-    // the area has past the data area's end is cut off first, so that its end goes into the table.
+    // Skips, from here on, the area's addresses that are still to come, and counts one area more. The part past the data area's end
+    // is cut off first, so the end fits into a table entry.
     pub(crate) fn skip_area(self, area: Area, table: &mut [u16]) -> Walk
         requires { ⌜ Skips (now table) self area ⌝ }
         ensures is { λ r. ⌜ ahead (now (table .exit)) r ≡ without (areaAs area) (ahead (now (table .entry)) self) ⌝ }
@@ -50,7 +50,7 @@ impl Walk {
         Walk { at, end, areas }
     }
 
-    // The last of a control TLV's three value bytes, with the area that they declare.
+    // Takes the last of a control TLV's three value bytes, and skips the area that they declare.
     fn pass_last(
         self,
         first: Address,
@@ -79,7 +79,7 @@ impl Walk {
         }
     }
 
-    // A control TLV's value.
+    // Passes a control TLV's value.
     fn pass_control_value(
         self,
         first: Address,
@@ -100,7 +100,7 @@ impl Walk {
         }
     }
 
-    // A control TLV, after its type byte.
+    // Passes a control TLV, after its type byte.
     pub(crate) fn pass_control(
         self,
         first: Address,

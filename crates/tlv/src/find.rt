@@ -36,7 +36,7 @@ fn step_of(passed: Passed) -> Stepped
 }
 
 impl Walk {
-    // A TLV whose type byte `byte`, just taken, stands at `place`.
+    // Passes the TLV whose type byte `byte` was just taken from `place`, unless it is the message TLV.
     fn pass_by_type(
         self,
         first: Address,
@@ -67,7 +67,7 @@ impl Walk {
         step_of(self.pass_other(image, table))
     }
 
-    // The next TLV passed, unless it is the message TLV.
+    // Passes the next TLV, unless it is the message TLV.
     pub(crate) fn pass_tlv(self, first: Address, image: &[u8], table: &mut [u16]) -> Stepped
         requires { ⌜ Placed (now image) (now table) self ⌝ }
         ensures is { λ r. ⌜ steppedAs (now (table .exit)) r ≡ step (ruleOf (now (image .entry)) first) (now (image .entry)) (ahead (now (table .entry)) self) ⌝ }
@@ -79,9 +79,8 @@ impl Walk {
         }
     }
 
-    // The walk to the message TLV.
-    // `first`, the data area's first address, is for the rule by which areas are allowed. It is an argument: as a field of `Walk`
-    // every step would hand it back, and that took a third more time on a tag of NULL TLVs.
+    // The walk to the message TLV. `first`, the data area's first address, is for the rule that says which areas are allowed. It is
+    // an argument, not a field of `Walk`: every step would return the field, and that took a third more time on a tag of NULL TLVs.
     pub fn find_message(self, first: Address, image: &[u8], table: &mut [u16]) -> Found
         requires { ⌜ Placed (now image) (now table) self ⌝ }
         ensures is { λ r. ⌜ foundAs (now (table .exit)) r ≡ find (ruleOf (now (image .entry)) first) (self .end .0 - self .at .0) (now (image .entry)) (ahead (now (table .entry)) self) ⌝ }

@@ -65,7 +65,7 @@ impl Walk {
         }
     }
 
-    // The next `n` usable bytes passed over.
+    // Passes over the next `n` usable bytes.
     pub(crate) fn pass_value(self, n: usize, table: &[u16]) -> Passed
         requires { ⌜ Within (now table) self ⌝ }
         ensures is { λ r. ⌜ passedAs (now (table .entry)) r ≡ passValue (len n (ahead (now (table .entry)) self)) ⌝ }
@@ -85,7 +85,7 @@ impl Walk {
         Passed::More(Walk { at, end, areas })
     }
 
-    // A TLV of another type, after its type byte: length and value are passed over.
+    // Passes a TLV of another type, after its type byte: its length and its value.
     pub fn pass_other(self, image: &[u8], table: &[u16]) -> Passed
         requires { ⌜ Placed (now image) (now table) self ⌝ }
         ensures is { λ r. ⌜ passedAs (now (table .entry)) r ≡ passValue (lengthOf (now (image .entry)) (ahead (now (table .entry)) self)) ⌝ }

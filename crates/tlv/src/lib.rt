@@ -1,7 +1,7 @@
 // The TLV area of a tag: the walk to the message TLV, and reading and setting what lies behind it.
 //
-// The place reached is a small value, `walk::Walk`, that each step hands back moved on. The addresses that control TLVs take
-// out are kept in a skip table that the caller lends, one number an address.
+// The place reached is a small value, `walk::Walk`, that each step hands back moved on. The addresses that control TLVs take out
+// are recorded in the caller's skip table, which has one entry for each address.
 pub mod area;
 pub mod control;
 pub mod find;

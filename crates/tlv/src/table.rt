@@ -1,4 +1,5 @@
-// The skip table: at each address 0, or the end of a declared area that covers the address, cut off at the data area's end.
+// The skip table. A skipped address has as its entry the end of an area that covers it, or the end of the data area if that comes
+// first. Any other address has 0.
 
 use tag::Address;
 ghost use mathlib.Core.Path.{_≡_};
@@ -25,8 +26,8 @@ pub fn next_usable(table: &[u16], at: Address, end: Address) -> Address
     Address(a)
 }
 
-// How many of the addresses from `at` up to `end` are usable. Here and in `none_skipped` each turn does the same to one number
-// of 16 bits, so that a compiler can do many addresses at once.
+// How many of the addresses from `at` up to `end` are usable. Here and in `none_skipped` every turn does the same to one 16-bit
+// number, so a compiler can treat many addresses at once.
 pub(crate) fn count_usable(table: &[u16], at: Address, end: Address) -> usize
     requires { ⌜ (at .0 ≤ end .0) × (end .0 ≤ length (now table)) × (end .0 ≤ 1024) ⌝ }
     ensures is { λ r. ⌜ r ≡ length (unskipped (now (table .entry)) (at .0) (end .0 - at .0)) ⌝ }
@@ -57,7 +58,7 @@ pub fn none_skipped(table: &[u16], at: Address, end: Address) -> bool
     any == 0
 }
 
-// The addresses from `first` up to `stop` marked: an area that ends at `stop` covers them.
+// Skips the addresses from `first` up to `stop`, because an area that ends at `stop` covers them.
 pub(crate) fn skip(table: &mut [u16], first: Address, stop: Address)
     requires { ⌜ (stop .0 ≤ length (now table)) × (stop .0 < 65536) ⌝ }
     ensures { λ r. ⌜ SkipsSet (now (table .entry)) (now (table .exit)) (first .0) (stop .0) ⌝ }

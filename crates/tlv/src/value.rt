@@ -1,6 +1,6 @@
-// The bytes at the usable addresses from a walk's place on: how many there are, and reading, setting and marking them.
+// The bytes at the usable addresses from a walk's place on: how many there are, reading and setting them, and marking their blocks.
 //
-// Every loop here stands at a usable address or at the end, and goes to the next one.
+// Every loop here is at a usable address or at the end, and each turn moves on to the next usable address.
 
 use crate::table;
 use crate::walk::Walk;
@@ -13,13 +13,14 @@ ghost use Rattle.tag.specs.Bytes.{byte, overlay, overwrite};
 ghost use Rattle.tlv.specs.Views.Walks.{ahead, Placed, Within, Along};
 ghost use Rattle.tlv.specs.Views.Values.{measured, valueAs, ValueRoom, BlocksMarked};
 
-// A value of so many bytes: fewer usable ones are left; or the address of the first, and whether skipped ones lie in between.
+// A value of a given length: `Short` if too few usable bytes are left, else the address of its first byte and whether it is
+// interrupted.
 pub enum Value {
     Short,
     At(Address, bool),
 }
 
-// How many usable bytes there are.
+// How many usable bytes are still to come.
 pub fn count(w: Walk, table: &[u16]) -> usize
     requires { ⌜ Within (now table) w ⌝ }
     ensures is { λ r. ⌜ r ≡ length (ahead (now (table .entry)) w) ⌝ }
@@ -28,8 +29,8 @@ pub fn count(w: Walk, table: &[u16]) -> usize
     table::count_usable(table, w.at, w.end)
 }
 
-// The usable address that comes after `k` others, or the end where there are no more than `k`. Mostly nothing is skipped on the
-// way there, so that is asked first: one sweep is quicker than going from one to the next.
+// The usable address that comes after `k` others, or the end if there are at most `k`. Mostly nothing is skipped on the way there,
+// so the code tests that first: one sweep is quicker than going from each usable address to the next.
 pub fn nth(w: Walk, k: usize, table: &[u16]) -> Address
     requires { ⌜ Within (now table) w ⌝ }
     ensures is { λ r. ⌜ r .0 ≡ getD (ahead (now (table .entry)) w) k (w .end .0) ⌝ }
@@ -58,8 +59,8 @@ pub fn nth(w: Walk, k: usize, table: &[u16]) -> Address
     end
 }
 
-// The next `n` usable bytes as a value. Their addresses rise, so they are consecutive just where the last one is the first
-// plus `n - 1`.
+// The next `n` usable bytes as a value. Their addresses rise, so they are consecutive exactly if the first and the last are `n - 1`
+// apart.
 pub fn measure(w: Walk, n: usize, table: &[u16]) -> Value
     requires { ⌜ (1 ≤ n) × Within (now table) w ⌝ }
     ensures is { λ r. ⌜ valueAs r ≡ measured n (ahead (now (table .entry)) w) ⌝ }
@@ -76,7 +77,7 @@ pub fn measure(w: Walk, n: usize, table: &[u16]) -> Value
     Value::At(first, a + (n - 1) < z)
 }
 
-// The next `n` usable bytes, or as many as there are, to the front of `out`.
+// Copies the next `n` usable bytes, or as many as there are, to the front of `out`.
 pub fn gather(w: Walk, n: usize, image: &[u8], table: &[u16], out: &mut [u8])
     requires { ⌜ Placed (now image) (now table) w × (n ≤ length (now out)) ⌝ }
     ensures { λ _. ⌜ now (out .exit) ≡ overwrite (map (byte (now (image .entry))) (take n (ahead (now (table .entry)) w))) (now (out .entry)) ⌝ }
@@ -97,7 +98,7 @@ pub fn gather(w: Walk, n: usize, image: &[u8], table: &[u16], out: &mut [u8])
     }
 }
 
-// Sets the next usable bytes to `bytes`, as far as both go, and hands back the walk past them.
+// Sets the next usable bytes to `bytes` until either runs out, and returns the walk past them.
 pub fn set_bytes(w: Walk, bytes: &[u8], table: &[u16], image: &mut [u8]) -> Walk
     requires { ⌜ Placed (now image) (now table) w ⌝ }
     ensures sets { λ _. ⌜ now (image .exit) ≡ overlay (ahead (now (table .entry)) w) (now (bytes .entry)) (now (image .entry)) ⌝ }

@@ -1,5 +1,5 @@
--- The length field as writing sets it: what is set at rising addresses with room reads back as the length and the message; and
--- where a length reads back with as many bytes after it, `fitsIn` says that there is room.
+-- The length field as writing sets it. What is set at rising addresses with room reads back as the length and the message. If a
+-- length reads back with as many bytes after it, `fitsIn` says that there is room.
 -- Assumes nothing.
 use mathlib.Core.Path.{_≡_, refl, _∙_}
 use mathlib.Core.Bool.{Bool, true, false}

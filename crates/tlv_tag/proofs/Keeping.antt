@@ -30,7 +30,7 @@ set-below t w h n k z f e vs a l =
     set-usable t (w .at .0) (w .end .0 - w .at .0) (w .end .0) (omega (arith, h .ordered)) vs a
     ∙ ap (λ s. usableIn t (w .at .0) s a) (ap (λ x. getD (ahead t w) x (w .end .0)) (l ∙ sym f) ∙ sym e)
 
--- none skipped says so of each
+-- if none is skipped, each is usable
 none-each : (t : List ℕ) (a n : ℕ) → noneSkipped t a n ≡ true → (x : ℕ) → a ≤ x → x < a + n → eqb (byte t x) 0 ≡ true
 unfolding noneSkipped
 none-each t a zero h x l u = absurd (omega arith)

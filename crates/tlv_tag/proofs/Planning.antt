@@ -1,4 +1,4 @@
--- Writing is refused as the space for its message is, and else its plan is the one over that space.
+-- Writing is refused exactly as the space for its message is; otherwise its plan is the one for that space.
 -- Assumes nothing.
 use mathlib.Core.Path.{_≡_, refl, ap, _∙_}
 use mathlib.Core.Bool.{Bool, true, false, not, cond}
@@ -16,7 +16,7 @@ use Rattle.tlv_tag.specs.Tag.{tagOf}
 use Rattle.tlv_tag.specs.Views.Space.{Space, no-space, space, spaceOf}
 use Rattle.tlv_tag.proofs.Writes.{report-writable}
 
--- what the space is for writing
+-- what writing answers, given the space
 abbrev pub writingIn : ℕ → List ℕ → List ℕ → Space → Writing
 writingIn z i m (no-space r) = refused-write r
 writingIn z i m (space us) = written (planBy z us i m)

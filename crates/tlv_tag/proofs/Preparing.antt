@@ -1,5 +1,5 @@
--- What is prepared for a list, against the plan: the address handed back is that of the first length byte, and the marks are the
--- blocks between the guard block's two commands.
+-- What is prepared for a list, against the plan: the address returned is that of the first length byte, and the marked blocks are
+-- those between the guard block's two commands.
 -- Assumes nothing.
 use mathlib.Core.Path.{_≡_, refl, sym, ap, _∙_}
 use mathlib.Core.Bool.{not, _&&_, cond}

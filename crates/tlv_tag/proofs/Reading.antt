@@ -100,7 +100,7 @@ module _ (w : Bool) (i us : List ℕ) where
   pub field-is : (n : ℕ) (vs : List ℕ) → len n vs ≡ lengthOf i us → readingOf w i (tlvLocated i us) ≡ valueReading w i n vs
   field-is n vs e = ap (λ l. readingOf w i (locateBy us l)) (sym e) ∙ value-is w i us vs n
 
--- a refusal by passing the TLV over
+-- the refusal of passing the TLV over, or 0
 abbrev passRefusal : Passed → ℕ
 passRefusal (more us) = 0
 passRefusal (stop r) = r
@@ -134,7 +134,7 @@ module _ (i t u : List ℕ) (first end : ℕ) (w : Walk) (f : code-found.Found) 
   pub area-at : (a : Address) (v : Walk) → f ≡ code-at.At a v → areaLocated i first end ≡ tlvLocated i (ahead u v)
   area-at a v e = area-is ∙ ap (λ g. locateFrom i (foundAs u g)) e
 
--- ---- a tag by its own tests
+-- ---- a tag by the tests of its type
 
 pub reading-fault : (T : TlvTag) (i : List ℕ) (r : ℕ) → fault r ≡ firstOf ((T .checks) i) → reading T i ≡ unreadable r
 unfolding reading locate

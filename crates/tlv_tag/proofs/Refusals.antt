@@ -1,4 +1,4 @@
--- A tag that has a TLV area is refused with one of 1 to 8; so 0 can stand for none.
+-- A tag that has a TLV area is refused with one of 1 to 8, so 0 can mean none.
 -- Assumes nothing.
 use mathlib.Core.Path.{_≡_, refl, subst}
 use mathlib.Core.Bool.{Bool, true, false, cond}

@@ -1,7 +1,7 @@
--- What writing sets on a tag with a TLV area holds the message, a first length byte 00h holds none, and a message that does
--- not fit is held by no image that agrees up to the message TLV's type byte. So it is for every type of tag that shows the
--- laws `TlvLaws` of itself: reading looks up to that byte and then at the usable addresses after it, and an image that agrees
--- up to there is read by its length field alone.
+-- What an image holds on a tag with a TLV area. An image that a message was written to holds that message; one with a first length
+-- byte 00h holds none; and no image that agrees up to the message TLV's type byte holds a message that does not fit. This is so for
+-- every type of tag that meets the laws `TlvLaws`: reading looks at the image up to that byte and then at the usable addresses
+-- after it, so an image that agrees up to there is read by its length field alone.
 -- Assumes nothing.
 use mathlib.Core.Path.{_≡_, refl, sym, ap, _∙_}
 use mathlib.Core.Bool.{Bool, true, false, not}
@@ -30,7 +30,7 @@ use Rattle.tlv_tag.proofs.Field.{Written, written, fits-less, fits-of, 
 
 -- ---- a message TLV by its length field
 
--- a view by a length is of the same addresses, and its message is the first of those after the length
+-- what is located by a length has the same addresses, and its message lies at the first of those after the length
 pub locateBy-is : (us ms vs : List ℕ) (l : Length) → locateBy us l ≡ located vs ms
     → (us ≡ vs) × (n : ℕ) × (ws : List ℕ) × (l ≡ len n ws) × (take n ws ≡ ms)
 unfolding locateBy
@@ -80,7 +80,7 @@ module _ (w : Bool) where
               let k : n ≡ length m = sym (length-take-le n ws l) ∙ by-bytes (take n ws) e′ in
               rw (← k) (fits-of n (length us) (length ws) (length-size j us ws n q) l)
 
--- ---- what a type shows of itself, and what is known of a tag
+-- ---- what a type has to show, and what is known of a tag
 
 pub record TlvLaws (T : TlvTag) : Type 0 where
   pub block-pos : 0 < T .block-size
@@ -92,7 +92,7 @@ pub record TlvLaws (T : TlvTag) : Type 0 where
       → (length i ≡ T .block-size * (length i / T .block-size)) × (length i ≤ 65534) × (before + (T .layout .size) i < length i)
   -- the refusals of the checks are among 1 to 8
   pub numbered : (i : List ℕ) → Each (λ c. OfReading (c .refusal)) ((T .checks) i)
-  -- what reading goes by before the walk lies before the data area
+  -- what reading depends on before the walk lies before the data area
   pub local : (i j : List ℕ) → length j ≡ length i → ((x : ℕ) → x ≤ before → byte j x ≡ byte i x)
       → ((T .checks) j ≡ (T .checks) i) × ((T .layout .size) j ≡ (T .layout .size) i) × ((T .writable) j ≡ (T .writable) i)
 
@@ -120,7 +120,7 @@ module _ (T : TlvTag) where
           let e′ : locateBy vs (lengthOf i vs) ≡ located us ms = rw (p, q) at e in
           record { at = a; sound = p; tlv-at = q ∙ ap (found a) (locateBy-is vs ms us (lengthOf i vs) e′ .0) }
 
-  -- a tag that reads has a view
+  -- a tag that reads has its message located
   pub reads-located : (i : List ℕ) → (heldOf (reading T i) ≡ broken → ⊥)
       → (us : List ℕ) × (ms : List ℕ) × (locate T i ≡ located us ms) × TlvPlaced i us
   unfolding reading
@@ -130,7 +130,7 @@ module _ (T : TlvTag) where
       go (refuse r) q = absurd (h (rw q))
       go (located us ms) q = (us, ms, q, located-placed i us ms q)
 
-  -- and its report is made of that
+  -- and its report is made from that
   pub by-report : (i : List ℕ) (p : Report) → reading T i ≡ reads p
       → (us : List ℕ) × (ms : List ℕ) × (locate T i ≡ located us ms) × (reportOf ((T .writable) i) i ms ≡ p)
   unfolding reading
@@ -160,7 +160,8 @@ module _ (T : TlvTag) (laws : TlvLaws T) where
         → Above hi (laws .before) (run (T .layout .first) ((T .layout .size) i))
     started hi l = rw (laws .first-is) (above-run ((T .layout .size) i) (laws .before) hi l)
 
-    -- the type byte lies in the data area, and so do the usable addresses after it, rising: take for hi the data area's end
+    -- the type byte lies in the data area, and so do the usable addresses after it, rising below hi, which is the data area's end
+    -- or more
     pub within : (hi : ℕ) → laws .before + (T .layout .size) i < hi → (laws .before < p .at) × Above hi (p .at) us
     within hi l =
         find-above hi ((T .layout .allowed) (length i)) ((T .layout .size) i) i (run (T .layout .first) ((T .layout .size) i))
@@ -206,7 +207,7 @@ module _ (T : TlvTag) (laws : TlvLaws T) where
       pub held-fits : (m : List ℕ) → heldOf (reading T j) ≡ holds m → fitsIn (length m) (length us) ≡ true
       held-fits m e = located-fits ((T .writable) j) us j m (sym same-held ∙ e)
 
-      -- so that it holds no message that does not fit
+      -- so it holds no message that does not fit
       pub too-long : (m : List ℕ) → fitsIn (length m) (length us) ≡ false → heldOf (reading T j) ≡ holds m → ⊥
       too-long m f e = true-false (held-fits m e) f
 

@@ -1,4 +1,4 @@
--- Tags with a TLV area as types of tag: whatever their commands look like, the plan is sound, and protected bytes fix it.
+-- Tags with a TLV area as types of tag: whatever their commands look like, the plan is sound, and the protected bytes determine it.
 -- Assumes nothing.
 use mathlib.Core.Path.{_≡_, refl, sym, ap, _∙_}
 use mathlib.Core.Bool.{Bool, true≢false}

@@ -1,4 +1,4 @@
--- Tags with a TLV area: what reading and writing a message there come to, then views of the code. Read them in this order.
+-- Tags with a TLV area: reading and writing a message there, then views of the code. Read the files in this order.
 pub mod Message
 pub mod Update
 pub mod Tag

@@ -7,8 +7,8 @@ use Rattle.tag.specs.TagType.{TagType}
 use Rattle.tlv_tag.specs.Message.{TlvTag, reading}
 use Rattle.tlv_tag.specs.Update.{fits, plan}
 
--- by its TLV area and its commands: what the tag handed in takes a command's bytes for, how many bytes of a list one takes, and a
--- command's bytes
+-- given its TLV area and its commands: what command the tag handed in takes bytes for, how many bytes of a list one command takes,
+-- and the bytes of a command
 abbrev pub tagOf : TlvTag → (List ℕ → List ℕ → Command) → (List ℕ → List ℕ → ℕ) → (List Store → List ℕ) → TagType
 tagOf K command span encoded = record {
   reading = reading K;

@@ -13,7 +13,7 @@ abbrev pub usable : Located → List ℕ
 usable (refuse r) = []
 usable (located us ms) = us
 
--- u usable bytes have room for a message of n, with its length
+-- u usable bytes have room for a message of n bytes, with its length
 unfoldable pub fitsIn : ℕ → ℕ → Bool
 fitsIn n u = cond (leb n 254) (leb (1 + n) u) (leb (3 + n) u)
 
@@ -29,7 +29,7 @@ tlvBytes m = lengthField (length m) ++ (m ++ 0xFE ∷ [])
 abbrev pub lengthAt : List ℕ → ℕ
 lengthAt us = getD us 0 0
 
--- the guard block, the requirements' A, is that of the first length byte, shut with that byte 00h
+-- the guard block, 01's A, is the block of the first length byte; it is shut with that byte 00h
 abbrev pub planBy : ℕ → List ℕ → List ℕ → List ℕ → Plan
 planBy z us i m = record {
   addresses = us;

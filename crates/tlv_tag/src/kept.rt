@@ -1,4 +1,4 @@
-// Where the bytes lie that writing a message sets, on a tag with a TLV area, and whether a tag keeps the others.
+// Where the bytes to set lie on a tag with a TLV area, and whether a tag keeps the others.
 
 use crate::update;
 use tag::Address;
@@ -26,7 +26,7 @@ pub struct Extent {
     pub skips: bool,
 }
 
-// Where they lie for a message of `n` bytes that goes to the walk's place.
+// The extent of the bytes to set for a message of `n` bytes that goes to the walk's place.
 pub fn extent_of(w: Walk, n: usize, table: &[u16]) -> Extent
     requires { ⌜ Within (now table) w × (n ≤ 65534) ⌝ }
     ensures extends { λ r. ⌜ Extends (now (table .entry)) (ahead (now (table .entry)) w) n r ⌝ }
@@ -50,7 +50,7 @@ fn flag(raised: u8, entry: u16, x: u8, y: u8) -> u8
     1
 }
 
-// 1 if one of the skipped bytes from `first` up to `stop` has changed, else 0. The loop has no exit, as in `tag::slices`.
+// 1 if one of the skipped bytes from `first` up to `stop` has changed, else 0. The loop has no early exit, as in `tag::slices`.
 fn skipped_changed(image: &[u8], work: &[u8], table: &[u16], first: usize, stop: usize) -> u8
     requires { ⌜ (first ≤ stop) × (stop ≤ length (now image)) × (stop ≤ length (now work)) × (stop ≤ length (now table)) ⌝ }
     ensures { λ r. ⌜ r ≡ flagTo (λ k. eqb (byte (now (table .entry)) (first + k)) 0 || eqb (byte (now (work .entry)) (first + k)) (byte (now (image .entry)) (first + k))) (stop - first) ⌝ }
@@ -64,7 +64,7 @@ fn skipped_changed(image: &[u8], work: &[u8], table: &[u16], first: usize, stop:
     changed
 }
 
-// Does the tag `work` have the bytes of `image` but for those to set?
+// Whether the tag `work` has the bytes of `image`, apart from those to set.
 pub fn is_kept(image: &[u8], work: &[u8], table: &[u16], e: Extent) -> bool
     requires { ⌜ Bounded (now table) (length (now image)) e × (length (now work) ≡ length (now image)) ⌝ }
     ensures { λ r. ⌜ r ≡ equalAt (λ a. not (usableIn (now (table .entry)) (e .first .0) (e .stop .0) a)) (now (image .entry)) (now (work .entry)) (run 0 (length (now (image .entry)))) ⌝ }

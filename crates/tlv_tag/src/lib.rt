@@ -1,5 +1,5 @@
-// Tags that have a TLV area, whatever else their type: reading the message, where a message goes, what writing sets, and what a
-// list is laid from.
+// Tags that have a TLV area, whatever their type: reading the message, where a message goes, what writing sets, and what a list is
+// made from.
 
 pub mod kept;
 pub mod prepare;

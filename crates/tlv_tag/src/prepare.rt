@@ -1,5 +1,5 @@
-// What a list of commands is laid from, on a tag that has a TLV area: the new image, marks of the blocks to write, and the address
-// of the first length byte. So a writer needs no walk.
+// What a list is made from, on a tag that has a TLV area: the new image, a mark for each block, and the address of the first length
+// byte. So a writer needs no walk.
 
 use crate::space;
 use crate::space::Space;
@@ -30,8 +30,8 @@ fn copy_image(image: &[u8], new: &mut [u8])
     bytes::copy(image, new);
 }
 
-// With the space found: makes the new image, marks the blocks of `size` bytes that are written between the guard block's two
-// commands, and hands back the address of the first length byte, whose block is the guard block.
+// Prepares the list for the space found: makes the new image, marks the blocks of `size` bytes that the list writes between the
+// guard block's two commands, and returns the address of the first length byte. The block of that byte is the guard block.
 fn prepare_at(
     w: Walk,
     size: usize,
@@ -54,7 +54,7 @@ fn prepare_at(
     first
 }
 
-// Refusals 6 to 11, or all that, for the data area from `first` up to `end`.
+// Finds the space in the data area from `first` up to `end`, with refusals 6 to 11, and prepares the list for it.
 pub fn prepare(
     image: &[u8],
     message: &[u8],

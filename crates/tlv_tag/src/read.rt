@@ -1,4 +1,4 @@
-// Reading the message of a tag that has a TLV area, once the tag's own tests have passed.
+// Reading the message of a tag that has a TLV area, once the tests of its type have passed.
 
 use tag::Address;
 use tag::Content;
@@ -22,8 +22,7 @@ ghost use Rattle.tlv_tag.specs.Message.{readingOf};
 ghost use Rattle.tlv_tag.specs.Views.BlankArea.{BlankArea};
 ghost use Rattle.tlv_tag.specs.Views.Reading.{areaLocated, tlvLocated, valueReading, refusalOf, reportAs};
 
-// The answer for a message that is there, from the walk before its first byte: gathered if it is interrupted, unless the
-// buffer is shorter.
+// Answers with the message that starts at the walk's place. An interrupted message is gathered, unless the buffer is too short.
 fn deliver(image: &[u8], gathered: &mut [u8], table: &[u16], w: Walk, report: Report) -> ReadAnswer
     requires { ⌜ Placed (now image) (now table) w × (report .length ≤ length (ahead (now table) w)) ⌝ }
     ensures read { λ r. ⌜ ReadOf (reads (reportAs (now (image .entry)) (ahead (now (table .entry)) w) report)) (now (gathered .entry)) r (now (gathered .exit)) ⌝ }
@@ -40,7 +39,7 @@ fn deliver(image: &[u8], gathered: &mut [u8], table: &[u16], w: Walk, report: Re
     ReadAnswer::Reads(report)
 }
 
-// A value of `n` bytes, from the walk before its first byte. No bytes are no message.
+// Reads a value of `n` bytes from the walk's place on. A value of length 0 reads as empty.
 fn read_value(
     image: &[u8],
     gathered: &mut [u8],
@@ -76,7 +75,7 @@ fn read_value(
     }
 }
 
-// The message TLV, from the walk past its type byte.
+// Reads the message TLV whose type byte the walk has just passed.
 fn read_message(
     image: &[u8],
     gathered: &mut [u8],
@@ -93,7 +92,7 @@ fn read_message(
     }
 }
 
-// The data area from `first` up to `end`, with a table of zeros to mark skipped addresses in.
+// Reads the data area from `first` up to `end`. The skip table passed in is all zeros.
 pub fn read_area(
     image: &[u8],
     gathered: &mut [u8],
@@ -113,7 +112,8 @@ pub fn read_area(
     }
 }
 
-// The refusal of the message TLV, or 0, from the walk past its type byte: it is refused just where it could not be passed over.
+// The refusal of the message TLV whose type byte the walk has just passed, or 0. The TLV is refused exactly if it could not be
+// passed over.
 pub(crate) fn message_refusal(image: &[u8], table: &[u16], w: Walk) -> u8
     requires { ⌜ Placed (now image) (now table) w ⌝ }
     ensures { λ r. ⌜ r ≡ refusalOf (tlvLocated (now (image .entry)) (ahead (now (table .entry)) w)) ⌝ }
@@ -124,7 +124,7 @@ pub(crate) fn message_refusal(image: &[u8], table: &[u16], w: Walk) -> u8
     }
 }
 
-// The refusal of the data area from `first` up to `end`, or 0, with a table of zeros to mark skipped addresses in.
+// The refusal of the data area from `first` up to `end`, or 0. The skip table passed in is all zeros.
 pub fn area_refusal(image: &[u8], table: &mut [u16], first: Address, end: Address) -> u8
     requires { ⌜ BlankArea (now image) (now table) (first .0) (end .0) ⌝ }
     ensures is { λ r. ⌜ r ≡ refusalOf (areaLocated (now (image .entry)) (first .0) (end .0)) ⌝ }

@@ -55,7 +55,7 @@ fn space_at(w: Walk, n: usize, image: &[u8], table: &[u16], writable: bool) -> S
     Space::At(w)
 }
 
-// The message TLV whose type byte the walk has just passed: its own refusal comes first.
+// The space after the message TLV's type byte, which the walk has just passed. The TLV's own refusal comes first.
 fn space_after(w: Walk, n: usize, image: &[u8], table: &[u16], writable: bool) -> Space
     requires { ⌜ Placed (now image) (now table) w ⌝ }
     ensures is { λ r. ⌜ spaceAs (now (table .entry)) r ≡ spaceOf writable n (tlvLocated (now (image .entry)) (ahead (now (table .entry)) w)) ⌝ }

@@ -12,7 +12,7 @@ ghost use Rattle.tlv.specs.Views.Values.{BlocksMarked};
 ghost use Rattle.tlv_tag.specs.Update.{lengthField, tlvBytes};
 ghost use Rattle.tlv_tag.specs.Views.Update.{tlvBytesLength};
 
-// Sets the length in its shortest form, and hands back the walk past it.
+// Sets the length in its shortest form, and returns the walk past it.
 fn set_length(w: Walk, n: usize, table: &[u16], image: &mut [u8]) -> Walk
     requires { ⌜ Placed (now image) (now table) w × (n ≤ 65534) ⌝ }
     ensures sets { λ _. ⌜ now (image .exit) ≡ overlay (ahead (now (table .entry)) w) (lengthField n) (now (image .entry)) ⌝ }
@@ -38,7 +38,7 @@ pub(crate) fn set_tlv_bytes(w: Walk, message: &[u8], table: &[u16], image: &mut 
     value::set_bytes(after_message, &terminator, table, image);
 }
 
-// How many bytes that is for a message of `n` bytes, where there is room for all.
+// How many bytes there are to set for a message of `n` bytes, if there is room for FEh too.
 pub(crate) fn tlv_bytes_length(n: usize) -> usize
     requires { ⌜ n ≤ 65534 ⌝ }
     ensures { λ r. ⌜ r ≡ tlvBytesLength n ⌝ }

@@ -1,4 +1,4 @@
--- Which refusal writing gives, or which plan it has, by what the code found: the capability container, then the space for the
+-- Which refusal writing gives, or which plan it has, given what the code found: the capability container, then the space for the
 -- message.
 -- Assumes nothing.
 use mathlib.Core.Path.{_≡_, sym, ap, _∙_}

@@ -1,4 +1,4 @@
--- What the code of Type 2's codec goes by: the bounds behind its tests, and four bytes taken one by one.
+-- What the code of Type 2's codec relies on: the bounds behind its tests, and four bytes taken one by one.
 -- Assumes nothing.
 use mathlib.Core.Path.{_≡_, refl, _∙_}
 use mathlib.Core.Bool.{true, false}

@@ -1,4 +1,4 @@
--- What a Type 2 tag holds, by what reading it answers and shows: the gathering buffer is long enough for every message.
+-- What a Type 2 tag holds is what reading it answers and shows, because the gathering buffer is long enough for every message.
 -- Assumes nothing.
 use mathlib.Core.Path.{_≡_}
 use mathlib.Core.List.{List}

@@ -1,5 +1,5 @@
--- Type 2's memory has the laws of a tag with a TLV area: all that the checks and the data area's size go by lies in bytes 12
--- to 15, before the data area.
+-- Type 2's memory has the laws of a tag with a TLV area. The bytes that the checks and the data area's size depend on are 12 to 15,
+-- before the data area.
 -- Assumes nothing.
 use mathlib.Core.Path.{_≡_, refl}
 use mathlib.Core.Bool.{true}

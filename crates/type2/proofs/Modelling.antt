@@ -29,7 +29,7 @@ pub command-formed : (i bs : List ℕ) → wellFormed (length i / 4) bs ≡ true
     → (type2 .command) i bs ≡ stores (record { at = 4 * byte bs 1; bytes = drop 2 bs } ∷ [])
 command-formed i bs e = ap commandOf (decode-formed (length i / 4) bs e)
 
--- by a tag of the same length as the one handed in
+-- a command taken by a tag of the same length as the one handed in
 pub applied : (i j bs : List ℕ) → length j ≡ length i → (r : Bool) (after : List ℕ)
     → r ≡ wellFormed (length j / 4) bs → after ≡ tagAfter j ((type2 .command) j bs) → Applied type2 i j bs r after
 applied i j bs size r after e f = (

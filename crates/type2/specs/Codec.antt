@@ -1,4 +1,4 @@
--- Type 2's write command as bytes: A2h, the block number, four bytes. The codec is told how many blocks the tag has.
+-- Type 2's write command as bytes: A2h, the block number, four bytes. The codec takes the number of blocks of the tag.
 -- Assumes nothing.
 use mathlib.Core.Bool.{Bool, _&&_, cond}
 use mathlib.Core.List.{List, [], _∷_}
@@ -10,7 +10,7 @@ use Rattle.tag.specs.Refusals.{Refusal, positioned, malformed-command}
 use Rattle.tag.specs.Stores.{Store, Command, malformed, stores}
 use Rattle.tag.specs.TagType.{Output, refused-output, fitted}
 
--- may a command name the block: at least 4, inside the image, and a byte
+-- may a command name the block: it is at least 4, inside the image, and fits a byte
 abbrev pub nameable : ℕ → ℕ → Bool
 nameable blocks b = leb 4 b && ltb b blocks && leb b 255
 

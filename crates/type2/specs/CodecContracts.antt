@@ -16,7 +16,7 @@ use Rattle.type2.specs.Codec.{encode, Decoded, undecoded, decoded, decod
 abbrev pub decodedAs : code.Decoded → Decoded
 decodedAs d = cond (eqb (d .refusal) 0) (decoded (d .command .block .0) (d .command .bytes)) (undecoded (refusalAt (d .refusal) 0))
 
--- the command that was read; beside a refusal it is all zeros
+-- the command that was read; with a refusal it is all zeros
 abbrev pub commandAs : Decoded → Command
 commandAs (undecoded r) = record { block = record { 0 = 0 }; bytes = 0 ∷ 0 ∷ 0 ∷ 0 ∷ [] }
 commandAs (decoded b bytes) = record { block = record { 0 = b }; bytes = bytes }

@@ -1,4 +1,4 @@
--- The definitions of Type 2 tags. Read them in this order.
+-- The definitions of Type 2 tags. Read the files in this order.
 pub mod Memory
 pub mod Codec
 pub mod Type2

@@ -1,5 +1,5 @@
--- The memory of a Type 2 tag: blocks of 4 bytes; bytes 12 to 15 are the capability container (mark, version, size, access);
--- the data area is addresses 16 to 15 + 8·size. Lock bits are not consulted.
+-- The memory of a Type 2 tag, in blocks of 4 bytes. Bytes 12 to 15 are the capability container: magic number, version, size,
+-- access. The data area is addresses 16 to 15 + 8·size. Lock bits are not consulted.
 -- Assumes nothing.
 use mathlib.Core.Bool.{Bool, _&&_, _||_}
 use mathlib.Core.List.{List, [], _∷_}
@@ -18,7 +18,7 @@ use Rattle.tlv_tag.specs.Message.{TlvTag}
 abbrev pub imageLength : ℕ → Bool
 imageLength n = eqb (n % 4) 0 && leb 64 n && leb n 1024
 
--- refusals 1 to 5, by the image's length and the bytes of the capability container
+-- refusals 1 to 5, given the image's length and the bytes of the capability container
 abbrev pub containerChecks : ℕ → ℕ → ℕ → ℕ → ℕ → List Check
 containerChecks n magic version size access =
     check (imageLength n) image-size
@@ -28,7 +28,7 @@ containerChecks n magic version size access =
     ∷ check (leb (16 + 8 * size) n) bad-data-area
     ∷ []
 
--- areas are allowed by the rule for a data area from 16 on
+-- the areas allowed are those of a data area from 16 on
 abbrev pub layout : Layout
 layout = record { first = 16; size = λ i. 8 * byte i 14; allowed = allowedArea 16 }
 

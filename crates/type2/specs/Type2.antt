@@ -9,7 +9,7 @@ use Rattle.tlv_tag.specs.Tag.{tagOf}
 use Rattle.type2.specs.Memory.{memory}
 use Rattle.type2.specs.Codec.{decode, commandOf, encoded}
 
--- a command goes by the blocks of the tag handed in
+-- a command is decoded with the number of blocks of the tag handed in
 abbrev pub command : List ℕ → List ℕ → Command
 command i bs = commandOf (decode (length i / 4) bs)
 

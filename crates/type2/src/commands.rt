@@ -1,4 +1,4 @@
-// The codec of Type 2's write command: A2h, the block number, four bytes. It is told how many blocks the tag has.
+// The codec of Type 2's write command: A2h, the block number, four bytes. It takes the number of blocks of the tag.
 
 use crate::Command;
 use crate::container;
@@ -14,10 +14,10 @@ ghost use Rattle.tag.specs.Bytes.{byte};
 ghost use Rattle.type2.specs.Codec.{nameable, commandBytes, wellFormed, decoded};
 ghost use Rattle.type2.specs.CodecContracts.{commandAs, EncodedTo, DecodedTo};
 
-// Where a command has its four bytes.
+// Where the four bytes of a command begin.
 pub(crate) const DATA: usize = 2;
 
-// The bytes of a command.
+// How many bytes a command has.
 pub const LENGTH: usize = DATA + container::BLOCK_SIZE;
 
 // The first block that a command may name: the data area begins there.
@@ -56,7 +56,8 @@ fn command_bytes(block: u8, blockdata: [u8; container::BLOCK_SIZE]) -> [u8; LENG
     ]
 }
 
-// Writes the command's bytes to the front of `bytes`: 20 if its block may not be named, 12 if they do not fit.
+// Writes the command's bytes to the front of `bytes`. Refuses with 20 if its block may not be named, and with 12 if they do not
+// fit.
 pub fn encode(command: Command, blocks: usize, bytes: &mut [u8]) -> CountAnswer
     ensures { λ r. ⌜ EncodedTo blocks command (now (bytes .entry)) r (now (bytes .exit)) ⌝ }
 {
@@ -107,7 +108,7 @@ fn carried(bytes: &[u8]) -> Command
     }
 }
 
-// Reads a command: 20 if the bytes are not well formed.
+// Reads a command. Refuses with 20 if the bytes are not well formed.
 pub fn decode(bytes: &[u8], blocks: usize) -> Decoded
     ensures { λ r. ⌜ DecodedTo blocks (now (bytes .entry)) r ⌝ }
 {

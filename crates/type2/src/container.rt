@@ -10,16 +10,16 @@ ghost use Rattle.tag.specs.Checks.{firstOf};
 ghost use Rattle.type2.specs.Memory.{memory};
 ghost use Rattle.type2.specs.Views.Container.{checkedAs, Known};
 
-// The bytes of a block.
+// How many bytes a block has.
 pub const BLOCK_SIZE: usize = 4;
 
-// An image has so many bytes at least.
+// How many bytes an image has at least.
 pub const SHORTEST_IMAGE: usize = 64;
 
-// And so many at most.
+// How many bytes an image has at most.
 pub const LONGEST_IMAGE: usize = 1024;
 
-// The blocks of the longest image.
+// How many blocks the longest image has.
 pub const MOST_BLOCKS: usize = LONGEST_IMAGE / BLOCK_SIZE;
 
 // The addresses of the container's four bytes, from here to ACCESS.
@@ -54,7 +54,7 @@ fn area(image: &[u8], writable: bool) -> DataArea
     DataArea::Inside(Address(end), writable)
 }
 
-// Refusals 1 to 5, in this order.
+// Refusals 1 to 5, in this order, or the data area.
 pub fn data_area(image: &[u8]) -> DataArea
     ensures is { λ r. ⌜ checkedAs r ≡ firstOf ((memory .checks) (now (image .entry))) ⌝ }
     ensures known { λ r. ⌜ Known (now (image .entry)) ((memory .writable) (now (image .entry))) r ⌝ }

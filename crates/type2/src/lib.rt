@@ -1,4 +1,4 @@
-// Type 2 tags: the capability container, reading, the commands and the model. Writing and judging are crates of their own.
+// Type 2 tags: the capability container, reading, the commands and the model. Writing and judging have their own crates.
 
 pub mod commands;
 pub mod container;

@@ -29,7 +29,7 @@ fn store_block(image: &mut [u8], command: &[u8])
     slices::store(&command[commands::DATA..], at, image);
 }
 
-// Stores what the command says, and answers whether it is well formed; nothing is stored if it is not.
+// Stores what the command says if it is well formed, else nothing, and answers whether it is well formed.
 pub fn take_command(image: &mut [u8], command: &[u8]) -> bool
     ensures is { λ r. ⌜ r ≡ wellFormed (length (now (image .entry)) / 4) (now (command .entry)) ⌝ }
     ensures stored { λ _. ⌜ now (image .exit) ≡ tagAfter (now (image .entry)) ((type2 .command) (now (image .entry)) (now (command .entry))) ⌝ }
@@ -41,7 +41,7 @@ pub fn take_command(image: &mut [u8], command: &[u8]) -> bool
     false
 }
 
-// Reading's refusals but 13, then 20; else the block that the command names is stored, protected or not.
+// Takes one command. Gives reading's refusals but 13, then 20; else stores the block that the command names, protected or not.
 pub fn model(image: &mut [u8], command: &[u8]) -> ModelAnswer
     ensures { λ r. ⌜ Took type2 (now (image .entry)) (now (command .entry)) r (now (image .exit)) ⌝ }
 {

@@ -1,6 +1,6 @@
 // Reading a Type 2 tag: the answer, the part shown, and the refusal by itself.
 //
-// The skip table is an array of the public function's frame, zeros at the start of each call.
+// The skip table is an array in the public function's frame. It is all zeros at the start of each call.
 
 use crate::container;
 use crate::container::DataArea;
@@ -13,7 +13,7 @@ ghost use Rattle.tag.specs.Contracts.{Read, Showed};
 ghost use Rattle.type2.specs.Type2.{type2};
 ghost use Rattle.tag.specs.Views.Blank.{Blank};
 
-// Reading, with the skip table lent.
+// Reading, with the caller's skip table.
 fn read_with(image: &[u8], gathered: &mut [u8], table: &mut [u16]) -> ReadAnswer
     requires { ⌜ Blank 1024 (now table) ⌝ }
     ensures { λ r. ⌜ Read (type2 .reading) (now (image .entry)) (now (gathered .entry)) r (now (gathered .exit)) ⌝ }
@@ -41,15 +41,15 @@ pub fn read(image: &[u8], gathered: &mut [u8]) -> ReadAnswer
     read_with(image, gathered, &mut table)
 }
 
-// The part shown after `read` answered: of the image or, if the message is interrupted, of the gathered copy; empty without
-// a message, after a refusal, and where the answer's numbers do not fit.
+// The part shown after `read` has answered: a part of the image or, if the message is interrupted, of the gathered copy. It is
+// empty without a message, after a refusal, and if the answer's numbers do not fit.
 pub fn shown<'a>(image: &'a [u8], gathered: &'a [u8], answer: ReadAnswer) -> &'a [u8]
     ensures { λ r. ⌜ Showed (now (image .entry)) (now (gathered .entry)) answer (now r) ⌝ }
 {
     slices::shown(image, gathered, answer)
 }
 
-// Reading's refusal, with the skip table lent.
+// Reading's refusal, with the caller's skip table.
 fn refusal_with(image: &[u8], table: &mut [u16]) -> u8
     requires { ⌜ Blank 1024 (now table) ⌝ }
     ensures { λ r. ⌜ r ≡ refusalNumber ((type2 .reading) (now (image .entry))) ⌝ }

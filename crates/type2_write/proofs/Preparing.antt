@@ -1,4 +1,5 @@
--- What was prepared for a tag, by the answer: a refusal is that of writing, and else there is a list over it, which is the plan's.
+-- What was prepared for a tag, by the answer: a refusal is the one that writing gives; otherwise the list made from what was
+-- prepared is the plan's.
 -- Assumes nothing.
 use mathlib.Core.Path.{_≡_, refl, sym, ap, _∙_, subst}
 use mathlib.Core.Bool.{Bool}

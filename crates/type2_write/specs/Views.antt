@@ -1,3 +1,3 @@
--- Views of the writer of Type 2 tags: what it lays, and what its functions hand to each other.
+-- Views of the writer of Type 2 tags: what it writes, and what its functions pass to each other.
 pub mod Listing
 pub mod Writing

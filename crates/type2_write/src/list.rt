@@ -1,5 +1,5 @@
-// What is Type 2's own in the list of write commands: the byte before a block's number, and the four bytes that shut the guard
-// block, which is that of the first length byte.
+// What is particular to Type 2 in the list of write commands: the byte before a block's number, and the four bytes that shut the
+// guard block. The guard block is the block of the first length byte.
 
 use tag::Address;
 use tag::CountAnswer;
@@ -11,7 +11,7 @@ ghost use Rattle.tag.specs.Contracts.{PutOut};
 ghost use Rattle.one_block_write.specs.Views.Listing.{guardedOutput, Listed};
 ghost use Rattle.type2_write.specs.Views.Listing.{front, shutBytes};
 
-// The bytes of the block of `first`, with the byte there 00h.
+// The bytes of the block that holds the address `first`, with the byte there 00h.
 fn shut_bytes(image: &[u8], first: Address) -> [u8; container::BLOCK_SIZE]
     requires { ⌜ (4 * (first .0 / 4) + 4 ≤ length (now image)) × (first .0 < 1024) ⌝ }
     ensures { λ r. ⌜ r ≡ shutBytes (now (image .entry)) (first .0) ⌝ }
@@ -25,8 +25,8 @@ fn shut_bytes(image: &[u8], first: Address) -> [u8; container::BLOCK_SIZE]
     shut
 }
 
-// Writes the list that turns `image` into `new`: `first` is the address of the first length byte, and the blocks besides its
-// own that hold a byte to set are marked. Where the list is longer than its buffer, refusal 12.
+// Writes the list that turns `image` into `new`. The first length byte is at `first`, and every block but its own that holds a byte
+// to set is marked. Refuses with 12 if the list is longer than its buffer.
 pub(crate) fn put_list(
     image: &[u8],
     new: &[u8],

@@ -44,8 +44,8 @@ fn write_inside(
     }
 }
 
-// Refusals 1 to 12, or the list, with work arrays that are lent: a skip table and block marks that are all 0, and room for the
-// new image.
+// Refusals 1 to 12, or the list. The work arrays are passed in: a skip table and block marks that are all 0, and room for the new
+// image.
 fn write_on(
     image: &[u8],
     message: &[u8],
@@ -73,8 +73,8 @@ fn write_on(
     }
 }
 
-// Writes the list of commands that puts the message on the tag to the front of `list`, and answers the number of commands; or a
-// refusal, which changes no byte of `list`.
+// Writes the list of commands that puts the message on the tag to the front of `list`, and answers the number of commands. A
+// refusal changes no byte of `list`.
 pub fn write(image: &[u8], message: &[u8], list: &mut [u8]) -> CountAnswer
     ensures { λ r. ⌜ Wrote type2 (now (image .entry)) (now (message .entry)) (now (list .entry)) r (now (list .exit)) ⌝ }
 {

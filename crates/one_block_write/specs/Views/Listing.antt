@@ -1,6 +1,6 @@
--- What the code writes as a list, by what a type hands in: the bytes of a command before the block's number (front), the bytes of a
--- block (z), the new image, the marks of the blocks between the guard block's two commands, the guard block (g), and the bytes
--- that it is shut with.
+-- What the code writes as a list. A type of tag passes in the bytes of a command before the block's number (front), the block size
+-- (z), the new image, the marks of the blocks between the guard block's two commands, the guard block (g), and the bytes that it is
+-- shut with.
 -- Assumes nothing.
 use mathlib.Core.Path.{_≡_}
 use mathlib.Core.Bool.{Bool}

@@ -1,4 +1,4 @@
--- Areas of the code as the definitions have them, and what marking one does to the skip table.
+-- The code's areas as the definitions have them, and what skipping one does to the skip table.
 -- Assumes nothing.
 use mathlib.Core.Path.{_≡_}
 use mathlib.Core.List.{List}
@@ -17,12 +17,12 @@ controlAs kind.Memory = memory
 abbrev pub areaAs : code-area.Area → Area
 areaAs r = record { start = r .start .0; size = r .size }
 
--- starts reach 15·2^15 + 15
+-- a start is at most 15·2^15 + 15
 pub record SmallArea (r : code-area.Area) : Type 0 where
   pub start : r .start .0 ≤ 491535
   pub size : r .size ≤ 256
 
--- the addresses from first up to stop hold stop, and the others what they held
+-- the entries of the addresses from first up to stop are stop, and all other entries are as they were
 pub record SkipsSet (t u : List ℕ) (first stop : ℕ) : Type 0 where
   pub same-length : length u ≡ length t
   pub inside : (x : ℕ) → first ≤ x → x < stop → byte u x ≡ stop

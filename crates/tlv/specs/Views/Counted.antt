@@ -1,4 +1,4 @@
--- The areas declared so far, as the skip table shows them: how many were marked in it, one after the other.
+-- The areas declared so far, as the skip table shows them: how many areas it was made to skip, one after the other.
 -- Assumes nothing.
 use mathlib.Core.Path.{_≡_}
 use mathlib.Core.List.{List}
@@ -6,7 +6,7 @@ use Prim.Native.Nat.{ℕ, zero, suc, _≤_}
 use lib.ListN.{length, replicate}
 use Rattle.tlv.specs.Views.Areas.{SkipsSet}
 
--- u is t with one more area marked, as far as it lies from first up to end
+-- u is t with one more area skipped, inside the addresses from first up to end
 pub record OneMore (first end : ℕ) (t u : List ℕ) : Type 0 where
   pub from : ℕ
   pub to : ℕ
@@ -14,15 +14,15 @@ pub record OneMore (first end : ℕ) (t u : List ℕ) : Type 0 where
   pub inside : to ≤ end
   pub skips : SkipsSet t u from to
 
--- u is t with n more areas marked
+-- u is t with n more areas skipped
 unfoldable pub Added : ℕ → ℕ → ℕ → List ℕ → List ℕ → Type 0
 Added first end zero t u = u ≡ t
 Added first end (suc n) t u = (s : List ℕ) × Added first end n t s × OneMore first end s u
 
--- u is t with some areas marked, those that were declared until the walk ended: which and how many is left free here
+-- u is t with the areas skipped that were declared until the walk ended. Which and how many these are is left free here.
 abbrev pub Declared : ℕ → ℕ → List ℕ → List ℕ → Type 0
 Declared first end t u = (n : ℕ) × Added first end n t u
 
--- the table of n areas: it was all zeros before the first
+-- the table of n areas, which was all zeros before the first
 abbrev pub TableOf : ℕ → ℕ → List ℕ → Type 0
 TableOf end n table = Added 0 end n (replicate (length table) 0) table

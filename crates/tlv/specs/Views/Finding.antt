@@ -1,4 +1,5 @@
--- The answers of the walk to the message TLV as the definitions have them, and the numbers that callers go by.
+-- The answers of the walk to the message TLV as the definitions have them, and what callers rely on: how far the walk is, and how
+-- the skip table has changed.
 -- Assumes nothing.
 use mathlib.Core.Path.{_≡_}
 use mathlib.Core.List.{List}

@@ -1,4 +1,5 @@
--- The answers of the walk's steps as the definitions have them, and the numbers that callers go by.
+-- The answers of the walk's steps as the definitions have them, and what callers rely on: how far the walk is, and how the skip
+-- table has changed.
 -- Assumes nothing.
 use mathlib.Core.Path.{_≡_}
 use mathlib.Core.Bool.{Bool}
@@ -57,7 +58,7 @@ pub record Skips (table : List ℕ) (w : Walk) (r : code-area.Area) : Type 0 whe
   pub within : Within table w
   pub small : SmallArea r
 
--- the walk stays where it is and counts one area more, and that area is marked
+-- the walk stays where it is and counts one area more, and the table skips that area
 pub record Skipped (t u : List ℕ) (v w : Walk) : Type 0 where
   pub one-more : OneMore (v .at .0) (v .end .0) t u
   pub counted : w .areas ≡ suc (v .areas)

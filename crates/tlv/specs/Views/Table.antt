@@ -1,5 +1,6 @@
--- The skip table of the code: at each address 0, or the end of a declared area that covers the address, cut off at the data
--- area's end. The usable addresses still to come are those whose entry is 0.
+-- The code's skip table, and the addresses that it leaves usable. A skipped address has as its entry the end of an area that covers
+-- it, or the end of the data area if that comes first. Any other address has 0: the usable addresses still to come are those whose
+-- entry is 0.
 -- Assumes nothing.
 use mathlib.Core.Bool.{Bool, true, false, _&&_}
 use mathlib.Core.List.{List, [], _∷_}

@@ -11,7 +11,7 @@ use Rattle.tag.specs.Plan.{touches}
 use Rattle.tlv.specs.declared.value.Value as code
 use Rattle.tlv.specs.declared.value.Value.the-variants as value
 
--- a value of n bytes, n at least 1: fewer are left; or its first address, and whether it is interrupted
+-- a value of n bytes, n at least 1: short if fewer usable bytes are left, else its first address and whether it is interrupted
 pub data Value : Type 0 where
   short : Value
   at : ℕ → Bool → Value
@@ -28,7 +28,7 @@ abbrev pub ValueRoom : ℕ → List ℕ → code.Value → Type 0
 ValueRoom n us value.Short = length us < n
 ValueRoom n us (value.At a b) = n ≤ length us
 
--- the mark 1 is set for the blocks of z bytes that hold one of the first k of us, and all other marks stay
+-- the blocks of z bytes that hold one of the first k of us have the mark 1, and all other marks are as they were
 abbrev pub BlocksMarked : ℕ → ℕ → List ℕ → List ℕ → List ℕ → Type 0
 BlocksMarked z k us before after =
     (vs : List ℕ) (b : ℕ) → length vs ≡ k → b < length before

@@ -22,12 +22,12 @@ ahead table w = unskipped table (w .at .0) (w .end .0 - w .at .0)
 abbrev pub ruleOf : List ℕ → Address → Area → Bool
 ruleOf image first = allowedArea (first .0) (length image)
 
--- the walk lies inside the table, which is that of as many areas as the walk counts
+-- the walk lies inside the table, and the table is that of as many areas as the walk counts
 pub record Within (table : List ℕ) (w : Walk) : Type 0 where
   pub ordered : w .at .0 ≤ w .end .0
   pub in-table : w .end .0 ≤ length table
   pub short : length table ≤ 1024
-  -- declaring one takes bytes
+  -- declaring an area takes bytes
   pub few : w .areas ≤ w .at .0
   pub declared : TableOf (w .end .0) (w .areas) table
 
@@ -36,7 +36,7 @@ pub record Placed (image table : List ℕ) (w : Walk) : Type 0 where
   pub within : Within table w
   pub in-image : w .end .0 ≤ length image
 
--- the walk has moved on from v, n areas were declared on the way, and t has become u by them; it lies inside image and table
+-- the walk has moved on from v and lies inside image and table; n areas were declared on the way, and they turned t into u
 pub record Onward (image t u : List ℕ) (n : ℕ) (v w : Walk) : Type 0 where
   pub placed : Placed image u w
   pub farther : v .at .0 ≤ w .at .0
@@ -48,7 +48,7 @@ pub record Onward (image t u : List ℕ) (n : ℕ) (v w : Walk) : Type 0 where
 abbrev pub Along : List ℕ → List ℕ → Walk → Walk → Type 0
 Along image table v w = Onward image table table 0 v w
 
--- some were, as many as the walk has counted
+-- some areas were declared on the way, as many as the walk has counted
 abbrev pub Walked : List ℕ → List ℕ → List ℕ → Walk → Walk → Type 0
 Walked image t u v w = (n : ℕ) × Onward image t u n v w
 

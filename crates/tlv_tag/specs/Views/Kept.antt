@@ -1,4 +1,4 @@
--- Where the bytes lie that writing sets, as the code knows it.
+-- Where the bytes to set lie, as the code knows it.
 -- Assumes nothing.
 use mathlib.Core.Path.{_≡_}
 use mathlib.Core.Bool.{not}
@@ -17,6 +17,6 @@ pub record Bounded (table : List ℕ) (end : ℕ) (e : Extent) : Type 0 where
   pub in-table : e .stop .0 ≤ length table
   pub skips-is : e .skips ≡ not (noneSkipped table (e .first .0) (e .stop .0 - e .first .0))
 
--- its usable addresses are just those of us that a message of n bytes sets
+-- its usable addresses are exactly those of us that a message of n bytes sets
 abbrev pub Extends : List ℕ → List ℕ → ℕ → Extent → Type 0
 Extends table us n e = (vs : List ℕ) (a : ℕ) → length vs ≡ tlvBytesLength n → isSet us vs a ≡ usableIn table (e .first .0) (e .stop .0) a

@@ -1,5 +1,5 @@
--- Reading the message of a tag that has a TLV area, from three places: the data area's start, the message TLV's type byte, and
--- its value; and the numbers that the code goes by.
+-- Reading the message of a tag that has a TLV area, from three places: the data area's start, the message TLV's type byte, and its
+-- value. Also the code's refusals and reports.
 -- Assumes nothing.
 use mathlib.Core.Bool.{Bool, cond}
 use mathlib.Core.List.{List, map}

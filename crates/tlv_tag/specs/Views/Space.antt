@@ -1,5 +1,5 @@
--- Where a message goes: what writing and judging have worked out before they look at the message's bytes or at a list, and the code's
--- answer about it, with the numbers that callers go by.
+-- Where a message goes: what writing and judging work out before they look at the message's bytes or at a list. Also the code's
+-- answer about it, and what callers rely on.
 -- Assumes nothing.
 use mathlib.Core.Path.{_≡_}
 use mathlib.Core.Bool.{Bool, cond}
@@ -20,7 +20,7 @@ pub data Space : Type 0 where
   no-space : ℕ → Space
   space : List ℕ → Space
 
--- for a message of n bytes, by the view of the tag and whether it is writable: reading's refusals, then 9, 10, 11
+-- for a message of n bytes, given what was located and whether the tag is writable: reading's refusals, then 9, 10, 11
 abbrev pub spaceOf : Bool → ℕ → Located → Space
 spaceOf w n (refuse r) = no-space r
 spaceOf w n (located us ms) =
@@ -34,13 +34,13 @@ abbrev pub spaceAs : List ℕ → code.Space → Space
 spaceAs table (answer.Refused r) = no-space r
 spaceAs table (answer.At w) = space (ahead table w)
 
--- a walk from whose place on there is room for a message of n bytes
+-- a walk with room for a message of n bytes from its place on
 pub record Room (image table : List ℕ) (n : ℕ) (w : Walk) : Type 0 where
   pub placed : Placed image table w
   pub enough : n < length (ahead table w)
   pub few : length (ahead table w) ≤ 1024
 
--- the space is the walk's own
+-- the space begins at the walk's place
 abbrev pub SpaceHere : List ℕ → List ℕ → ℕ → Walk → code.Space → Type 0
 SpaceHere image table n v (answer.Refused r) = Unit {0}
 SpaceHere image table n v (answer.At w) = Room image table n w × (w .at .0 ≡ v .at .0) × (w .end .0 ≡ v .end .0)

@@ -1,5 +1,5 @@
--- What the code hands on of an update: how many bytes it sets, and what it prepares for the list, which is the new image, marks of
--- blocks and the address of the first length byte.
+-- What the writer prepares for an update: the new image, a mark for each block, and the address of the first length byte. Also how
+-- many bytes it sets.
 -- Assumes nothing.
 use mathlib.Core.Path.{_≡_}
 use mathlib.Core.Bool.{cond}
@@ -17,15 +17,15 @@ use Rattle.tlv_tag.specs.Views.Space.{Space, no-space, space}
 abbrev pub tlvBytesLength : ℕ → ℕ
 tlvBytesLength n = length (lengthField n) + (n + 1)
 
--- room for the new image, and for each block of z bytes a mark, none of them set
+-- room for the new image, and a mark for each block of z bytes, all of them 0
 pub record Spare (z : ℕ) (i new marks : List ℕ) : Type 0 where
   pub some-size : 0 < z
   pub as-long : length new ≡ length i
   pub each-marked : length i ≤ z * length marks
   pub zeros : marks ≡ replicate (length marks) 0
 
--- the new image, the marks, which are 1 for the blocks between the guard block's two commands and 0 else, and the address of the
--- first length byte
+-- the new image; the marks, 1 for the blocks written between the guard block's two commands and 0 for all others; and the address
+-- of the first length byte
 pub record Prepared (z : ℕ) (us i m new marks : List ℕ) (first : ℕ) : Type 0 where
   pub new-is : new ≡ newImage (planBy z us i m) i
   pub marks-are : (b : ℕ) → b < length marks → byte marks b ≡ cond (between (planBy z us i m) b) 1 0

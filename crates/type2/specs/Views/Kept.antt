@@ -1,4 +1,4 @@
--- Where the bytes lie that writing a message to a Type 2 tag sets, as the code knows it.
+-- Where the bytes to set lie on a Type 2 tag, as the code knows it.
 -- Assumes nothing.
 use mathlib.Core.Path.{_≡_}
 use mathlib.Core.List.{List}
@@ -10,7 +10,7 @@ use Rattle.tlv_tag.specs.declared.kept.Extent.{Extent}
 use Rattle.tlv_tag.specs.Views.Kept.{Bounded}
 use Rattle.type2.specs.Type2.{type2}
 
--- the usable addresses of the extent are just those that the plan sets
+-- the usable addresses of the extent are exactly those that the plan sets
 pub record Covered (i m table : List ℕ) (e : Extent) : Type 0 where
   pub bounded : Bounded table (length i) e
   pub sets-are : (a : ℕ) → isSet ((type2 .plan) i m .addresses) ((type2 .plan) i m .values) a ≡ usableIn table (e .first .0) (e .stop .0) a

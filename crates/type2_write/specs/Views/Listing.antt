@@ -1,4 +1,4 @@
--- What is Type 2's own in the list that the code writes.
+-- What is particular to Type 2 in the list that the code writes.
 -- Assumes nothing.
 use mathlib.Core.List.{List, [], _∷_}
 use Prim.Native.Nat.{ℕ, _*_, _/_}

@@ -1,4 +1,4 @@
--- What the writer's parts hand to each other.
+-- What the writer's functions pass to each other.
 -- Assumes nothing.
 use mathlib.Core.List.{List}
 use Prim.Native.Nat.{ℕ}

@@ -1,4 +1,4 @@
--- `list::count_marked` meets its contract. Assumes nothing.
+-- `list::count_marked` meets its contract. The loop keeps: `count` is the number of marked blocks below b. Assumes nothing.
 use mathlib.Core.Path.{_≡_, refl, sym, ap, _∙_}
 use mathlib.Core.Logic.{⊎-elim}
 use Prim.Native.Nat.{_+_, _-_, _≤_}

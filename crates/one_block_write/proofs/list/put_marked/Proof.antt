@@ -1,4 +1,6 @@
--- `list::put_marked` meets its contract: the commands of the marked blocks below b are written. Assumes nothing.
+-- `list::put_marked` meets its contract. The loop keeps: the commands of the marked blocks below b are at the front of `out`, the
+-- next one goes to `at`, right behind them, and the rest of `out` is as it was.
+-- Assumes nothing.
 use mathlib.Core.Path.{_≡_, refl, sym, ap, _∙_}
 use mathlib.Core.Bool.{cond}
 use mathlib.Core.List.{_++_}

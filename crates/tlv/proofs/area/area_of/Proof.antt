@@ -1,4 +1,4 @@
--- `area::area_of` meets its contract: the shift loses no bit. Assumes nothing.
+-- `area::area_of` meets its contract. The shift loses no bit. Assumes nothing.
 use mathlib.Core.Path.{_≡_}
 use Prim.Native.Nat.{ℕ, _*_, _/_, _%_, _^_, _<_, _≤_}
 use native.Mathlib.Nat.{le-trans, mul-le-mul-left, mul-le-mul-right}

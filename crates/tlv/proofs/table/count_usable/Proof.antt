@@ -1,4 +1,6 @@
--- `table::count_usable` meets its contract: what is counted and what is left make up all. Assumes nothing.
+-- `table::count_usable` meets its contract. The loop keeps: what is counted and what is left make up all, and no more are counted
+-- than were passed.
+-- Assumes nothing.
 use mathlib.Core.Path.{_≡_, ap}
 use Prim.Native.Nat.{_+_, _-_, _≤_}
 use native.Mathlib.Omega.{arith}

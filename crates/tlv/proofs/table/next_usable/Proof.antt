@@ -1,4 +1,6 @@
--- `table::next_usable` meets its contract: what it passed over is skipped. Assumes nothing.
+-- `table::next_usable` meets its contract. The loop keeps: the usable addresses from a on are those from the start on. What the
+-- loop passes over is skipped.
+-- Assumes nothing.
 use Prim.Native.Nat.{_+_, _-_, _≤_}
 use mathlib.Core.Path.{_≡_, _∙_, ap}
 use native.Mathlib.Omega.{arith}

@@ -1,4 +1,6 @@
--- `table::none_skipped` meets its contract. Assumes nothing.
+-- `table::none_skipped` meets its contract. The loop keeps: nothing from the start on is skipped exactly if `any` is 0 and nothing
+-- from a on is skipped.
+-- Assumes nothing.
 use mathlib.Core.Path.{_≡_, refl, _∙_}
 use mathlib.Core.Bool.{_&&_}
 use Prim.Native.Nat.{_-_, _≤_}

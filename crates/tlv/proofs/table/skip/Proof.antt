@@ -1,4 +1,6 @@
--- `table::skip` meets its contract. Assumes nothing.
+-- `table::skip` meets its contract. The loop keeps: the entries from the first address up to a are set, and all others are as they
+-- were.
+-- Assumes nothing.
 use Prim.Native.Nat.{_-_, _≤_}
 use native.Mathlib.Omega.{arith}
 use borrow.Author.Needs.{needs}

@@ -1,4 +1,6 @@
--- `value::gather` meets its contract. Assumes nothing.
+-- `value::gather` meets its contract. The loop keeps: a is a usable address or the end, and k bytes are gathered; gathering the
+-- rest of the n from a on behind them gives the buffer that the contract asks for.
+-- Assumes nothing.
 use mathlib.Core.Path.{_≡_, refl, sym, ap, _∙_}
 use mathlib.Core.List.{[], _∷_, _++_, map}
 use Prim.Native.Nat.{_-_, _≤_}

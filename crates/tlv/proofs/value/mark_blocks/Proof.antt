@@ -1,4 +1,6 @@
--- `value::mark_blocks` meets its contract. Assumes nothing.
+-- `value::mark_blocks` meets its contract. The loop keeps: a is a usable address or the end, and marking the blocks of the next
+-- `left` usable addresses from a on gives the marks that the contract asks for.
+-- Assumes nothing.
 use mathlib.Core.Path.{_≡_, refl, sym, ap, _∙_}
 use mathlib.Core.Bool.{cond}
 use mathlib.Core.List.{List, [], _∷_}

@@ -1,4 +1,4 @@
--- `value::measure` meets its contract: the addresses rise, so the first and the last say whether they are consecutive.
+-- `value::measure` meets its contract. The addresses rise, so the first and the last say whether they are consecutive.
 -- Assumes nothing.
 use native.Mathlib.Omega.{arith}
 use borrow.Author.Needs.{needs}

@@ -1,4 +1,6 @@
--- `value::nth` meets its contract. Assumes nothing.
+-- `value::nth` meets its contract. The loop keeps: a is a usable address or the end, and the address after `left` others from a on
+-- is the address after k others from the first on.
+-- Assumes nothing.
 use mathlib.Core.Path.{_≡_, refl, sym, ap, _∙_}
 use mathlib.Core.Bool.{true}
 use mathlib.Core.List.{[], _∷_}

@@ -1,4 +1,7 @@
--- `value::set_bytes` meets its contract. Assumes nothing.
+-- `value::set_bytes` meets its contract. The loop keeps: a is a usable address or the end; setting the bytes from k on at the
+-- usable addresses from a on gives the image that the contract asks for; and these addresses without those of the bytes still to
+-- set are the ones past all the bytes.
+-- Assumes nothing.
 use mathlib.Core.Path.{_≡_, refl, sym, ap, _∙_}
 use mathlib.Core.List.{[], _∷_}
 use Prim.Native.Nat.{_+_, _-_, _≤_}

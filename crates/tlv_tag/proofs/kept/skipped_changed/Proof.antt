@@ -1,4 +1,4 @@
--- `kept::skipped_changed` meets its contract: the flag is that of the addresses looked at so far. Assumes nothing.
+-- `kept::skipped_changed` meets its contract. The loop keeps: the flag is that of the addresses looked at so far. Assumes nothing.
 use mathlib.Core.Path.{_≡_, refl, sym, ap, _∙_}
 use mathlib.Core.Bool.{Bool, _||_, cond}
 use mathlib.Core.List.{List}
@@ -12,7 +12,7 @@ use Rattle.tag.proofs.Flags.{flag-more}
 use Rattle.tlv_tag.proofs.kept.skipped_changed.Statement.{statement}
 use Rattle.tlv_tag.proofs.kept.skipped_changed.Tie as tie
 
--- is the address, k past the first, usable, or its byte as it was
+-- whether the address k past the first is usable or its byte is as it was
 abbrev kept : List ℕ → List ℕ → List ℕ → ℕ → ℕ → Bool
 kept image work table first k = eqb (byte table (first + k)) 0 || eqb (byte work (first + k)) (byte image (first + k))
 

@@ -12,7 +12,7 @@ use Rattle.tlv_tag.proofs.Preparing.{first-usable, marked-between}
 use Rattle.tlv_tag.proofs.prepare.prepare_at.Statement.{statement}
 use Rattle.tlv_tag.proofs.prepare.prepare_at.Tie as tie
 
--- the address handed back is that of the first length byte
+-- the address returned is that of the first length byte
 found : (c : tie.After-block) →
     let at-next-usable = c .before in
     let at-mark-tlv-bytes = at-next-usable .before .before .before in

@@ -1,4 +1,4 @@
--- `update::set_tlv_bytes` meets its contract: three parts set in turn, each at the addresses that the one before it left.
+-- `update::set_tlv_bytes` meets its contract. Three parts are set in turn, each at the addresses that the one before it left.
 -- Assumes nothing.
 use mathlib.Core.List.{[], _∷_}
 use borrow.Author.Needs.{needs}

@@ -41,7 +41,7 @@ cast-command-bytes c =
     let n = at-nameable .nameable in
     omega (arith, name-bounds (a .blocks) (a .command .block .0) (sym (n .ensures) ∙ not-false (n .result) (at-if1 .if1 .left)))
 
--- long paths: `search` and `omega` read at most 128 records in reach, and with points named the proof is not found
+-- the paths are long because `search` and `omega` read at most 128 records in reach: with points named they do not find the proof
 returns-3 : tie.Need-returns-3
 returns-3 c =
     let a = c .before .before .before .before .before .before .before .before .before .before .before .args in

@@ -1,4 +1,4 @@
--- `container::data_area` meets its contract: the tests that led to each answer pick its case. Assumes nothing.
+-- `container::data_area` meets its contract. The tests that led to each answer pick its case. Assumes nothing.
 use mathlib.Core.Path.{sym, _∙_}
 use borrow.Author.Needs.{needs}
 use borrow.Author.Tests.{eq-eqb, ne-eqb, not-true, not-false}

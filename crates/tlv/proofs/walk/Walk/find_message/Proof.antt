@@ -1,4 +1,7 @@
--- `Walk::find_message` meets its contract: each turn is a step of the walk, and moves on. Assumes nothing.
+-- `Walk::find_message` meets its contract. The loop keeps: the walk from the place reached finds what the walk from the start
+-- finds, and the skip table is as long as at the start and skips also the areas declared on the way. Each turn is a step of the
+-- walk and moves on.
+-- Assumes nothing.
 use mathlib.Core.Path.{_≡_, refl, sym, ap, _∙_, subst}
 use Prim.Native.Nat.{_-_}
 use native.Mathlib.Omega.{arith}

@@ -1,4 +1,4 @@
--- `Walk::pass_last` meets its contract: the reserved nibbles are tested before the area is. Assumes nothing.
+-- `Walk::pass_last` meets its contract. The reserved nibbles are tested before the area is. Assumes nothing.
 use mathlib.Core.Path.{refl, ap, _∙_}
 use native.Mathlib.Omega.{arith}
 use borrow.Author.Needs.{needs}

@@ -1,4 +1,4 @@
--- `Walk::pass_value` meets its contract: past the value is past its last byte. Assumes nothing.
+-- `Walk::pass_value` meets its contract. Past the value is past its last byte. Assumes nothing.
 use native.Mathlib.Omega.{arith}
 use borrow.Author.Needs.{needs}
 use Rattle.tlv.specs.Views.Walks.{ahead}

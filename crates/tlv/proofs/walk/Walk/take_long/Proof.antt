@@ -17,7 +17,7 @@ returns-2 : tie.Need-returns-2
 unfolding longBy
 returns-2 c = (search (cases, on-took) depth 20, tt)
 
--- few points are named: `search` and `omega` read at most 128 records in reach, and with more the proof is not found
+-- few points have names: `search` and `omega` read at most 128 records in reach, and with more they do not find the proof
 returns-5 : tie.Need-returns-5
 unfolding longBy
 returns-5 c =
