@@ -42,20 +42,20 @@ stored-is storing.Stored e = refl
 
 -- ---- refusals are equal if their numbers are
 
-idm : Refusal → ℕ
-idm (plain r) = r
-idm (positioned r p) = r
+refusalNumber : Refusal → ℕ
+refusalNumber (plain r) = r
+refusalNumber (positioned r p) = r
 
-number-of : (r : ℕ) → idm (refusalAt r 0) ≡ r
-unfolding idm
+number-of : (r : ℕ) → refusalNumber (refusalAt r 0) ≡ r
+unfolding refusalNumber
 number-of r = go (leb malformed-command r && leb r unfinished) refl
   where
-    go : (b : Bool) → leb malformed-command r && leb r unfinished ≡ b → idm (refusalAt r 0) ≡ r
+    go : (b : Bool) → leb malformed-command r && leb r unfinished ≡ b → refusalNumber (refusalAt r 0) ≡ r
     go true q = rw q
     go false q = rw q
 
 pub same-refusal : {A : Type 0} (r s : ℕ) → refusesOne {A = A} r ≡ refusesOne s → r ≡ s
-same-refusal r s e = let q : refusalAt r 0 ≡ refusalAt s 0 = cc in sym (number-of r) ∙ ap idm q ∙ number-of s
+same-refusal r s e = let q : refusalAt r 0 ≡ refusalAt s 0 = cc in sym (number-of r) ∙ ap refusalNumber q ∙ number-of s
 
 -- ---- writing and encoding
 

@@ -3,7 +3,7 @@
 use crate::print;
 use tag::slices;
 
-const NUMBER: [u8; 8] = [1, 2, 3, 4, 5, 6, 7, 8];
+const IDM: [u8; 8] = [1, 2, 3, 4, 5, 6, 7, 8];
 
 fn lay(attributes: &[u8], image: &mut [u8]) {
     if image.len() < attributes.len() {
@@ -17,12 +17,12 @@ pub fn write(name: &[u8], attributes: &[u8], message: &[u8]) {
     lay(attributes, &mut image);
     print::name(name);
     let mut list = [0u8; 1024];
-    print::count(type3_write::write::write(&image, message, &NUMBER, &mut list));
+    print::count(type3_write::write::write(&image, message, &IDM, &mut list));
 }
 
 pub fn judge(name: &[u8], attributes: &[u8], message: &[u8], list: &[u8]) {
     let mut image = [0u8; 224];
     lay(attributes, &mut image);
     print::name(name);
-    print::verdict(judge::type3_lists::judge(&image, message, &NUMBER, list));
+    print::verdict(judge::type3_lists::judge(&image, message, &IDM, list));
 }
