@@ -65,11 +65,6 @@ map-drop f zero xs = refl
 map-drop f (suc n) [] = refl
 map-drop f (suc n) (x ∷ xs) = map-drop f n xs
 
--- of the values of f on a run, the w after the first d
-pub run-part : {B : Type 0} (f : ℕ → B) (s k d w : ℕ) → take w (drop d (map f (run s k))) ≡ map f (run (s + d) (min w (k - d)))
-run-part f s k d w =
-    rw (map-drop f d (run s k), map-take f w (drop d (run s k)), drop-of-run k d s) (ap (map f) (take-of-run (k - d) w (s + d)))
-
 -- ---- an overlay over a run
 
 -- a run of addresses sets each of them, and nothing else

@@ -3,7 +3,6 @@
 
 use crate::blocks;
 use tag::numbers;
-use tag::slices;
 use type3::read;
 use type3_commands::block_list;
 use type3_commands::commands;

@@ -25,8 +25,8 @@ abbrev μ-loop : tie.MeasureT-loop
 
 loop-holds : tie.Need-loop-holds Inv-loop μ-loop
 loop-holds c =
-    let at-shared-slice-known4 = c .before .before .before in
-    let at-start = at-shared-slice-known4 .before .before .before .before in
+    let at-slices = c .before .before .before in
+    let at-start = at-slices .before .before .before .before in
     let a = at-start .args in
     let T = typeOf (a .kind) (a .idm .now) in (
       search needs,
@@ -40,8 +40,8 @@ step-requires : tie.Need-step-requires Inv-loop μ-loop
 step-requires c κs =
     let at-piece-size = c .before .before .before in
     let at-loop = at-piece-size .before .before in
-    let at-shared-slice-known4 = at-loop .before .before .before .before in
-    let at-start = at-shared-slice-known4 .before .before .before .before in
+    let at-slices = at-loop .before .before .before .before in
+    let at-start = at-slices .before .before .before .before in
     (at-start .pre .0, at-loop .loop .inv .2, at-loop .loop .inv .3)
 
 same-length : tie.Need-same-length Inv-loop μ-loop
@@ -49,8 +49,8 @@ same-length c =
     let at-work = c .before .before .before .before in
     let at-step-arg2 = at-work .before .before .before in
     let at-loop = at-step-arg2 .before .before .before .before in
-    let at-shared-slice-known4 = at-loop .before .before .before .before in
-    let at-start = at-shared-slice-known4 .before .before .before .before in
+    let at-slices = at-loop .before .before .before .before in
+    let at-start = at-slices .before .before .before .before in
     omega (arith, ap length (at-start .pre .1))
 
 same-length-2 : tie.Need-same-length-2 Inv-loop μ-loop
@@ -58,8 +58,8 @@ same-length-2 c =
     let at-work = c .before .before .before .before in
     let at-step-arg2 = at-work .before .before .before in
     let at-loop = at-step-arg2 .before .before .before .before in
-    let at-shared-slice-known4 = at-loop .before .before .before .before in
-    let at-start = at-shared-slice-known4 .before .before .before .before in
+    let at-slices = at-loop .before .before .before .before in
+    let at-start = at-slices .before .before .before .before in
     omega (arith, at-start .pre .2, at-loop .loop .inv .3)
 
 returns : tie.Need-returns Inv-loop μ-loop
@@ -68,8 +68,8 @@ returns c =
     let at-step = at-gathered .before .before .before in
     let at-piece-size = at-step .before .before .before .before in
     let at-loop = at-piece-size .before .before in
-    let at-shared-slice-known4 = at-loop .before .before .before .before in
-    let at-start = at-shared-slice-known4 .before .before .before .before in
+    let at-slices = at-loop .before .before .before .before in
+    let at-start = at-slices .before .before .before .before in
     let a = at-start .args in
     let l = at-loop .loop in
     let p = at-piece-size .piece-size in
@@ -85,8 +85,8 @@ loop-again c =
     let at-step = at-gathered .before .before .before in
     let at-piece-size = at-step .before .before .before .before in
     let at-loop = at-piece-size .before .before in
-    let at-shared-slice-known4 = at-loop .before .before .before .before in
-    let at-start = at-shared-slice-known4 .before .before .before .before in
+    let at-slices = at-loop .before .before .before .before in
+    let at-start = at-slices .before .before .before .before in
     let a = at-start .args in
     let l = at-loop .loop in
     let p = at-piece-size .piece-size in
@@ -105,8 +105,8 @@ returns-2 : tie.Need-returns-2 Inv-loop μ-loop
 returns-2 c =
     let at-holds = c .before .before .before in
     let at-loop = at-holds .before .before .before .before in
-    let at-shared-slice-known4 = at-loop .before .before .before .before in
-    let at-start = at-shared-slice-known4 .before .before .before .before in
+    let at-slices = at-loop .before .before .before .before in
+    let at-start = at-slices .before .before .before .before in
     let a = at-start .args in
     let l = at-loop .loop in
     sym (l .inv .4 ∙ turn-good (typeOf (a .kind) (a .idm .now)) (a .image .now) (a .list .now) (l .at) (omega arith) (a .message .now) (l .count) (l .work) (sym (at-holds .holds .ensures) ∙ c .if2 .taken))
@@ -115,8 +115,8 @@ returns-3 : tie.Need-returns-3 Inv-loop μ-loop
 returns-3 c =
     let at-holds = c .before .before .before in
     let at-loop = at-holds .before .before .before .before in
-    let at-shared-slice-known4 = at-loop .before .before .before .before in
-    let at-start = at-shared-slice-known4 .before .before .before .before in
+    let at-slices = at-loop .before .before .before .before in
+    let at-start = at-slices .before .before .before .before in
     let a = at-start .args in
     let l = at-loop .loop in
     sym (l .inv .4 ∙ turn-bad (typeOf (a .kind) (a .idm .now)) (a .image .now) (a .list .now) (l .at) (omega arith) (a .message .now) (l .count) (l .work) (sym (at-holds .holds .ensures) ∙ c .if2 .left))
@@ -125,16 +125,16 @@ same-length-3 : tie.Need-same-length-3 Inv-loop μ-loop
 same-length-3 c =
     let at-holds = c .before .before .before in
     let at-loop = at-holds .before .before .before .before in
-    let at-shared-slice-known4 = at-loop .before .before .before .before in
-    let at-start = at-shared-slice-known4 .before .before .before .before in
+    let at-slices = at-loop .before .before .before .before in
+    let at-start = at-slices .before .before .before .before in
     omega (arith, ap length (at-start .pre .1))
 
 same-length-5 : tie.Need-same-length-5 Inv-loop μ-loop
 same-length-5 c =
     let at-holds = c .before .before .before in
     let at-loop = at-holds .before .before .before .before in
-    let at-shared-slice-known4 = at-loop .before .before .before .before in
-    let at-start = at-shared-slice-known4 .before .before .before .before in
+    let at-slices = at-loop .before .before .before .before in
+    let at-start = at-slices .before .before .before .before in
     omega (arith, ap length (at-start .pre .1))
 
 pub judge-list-spec : {M : Type 1} → statement M

@@ -13,14 +13,14 @@ array-borrow-prefix-work c =
 
 slice-aggregate-judge-on : tie.Need-slice-aggregate-judge-on
 slice-aggregate-judge-on c =
-    let at-shared-slice-known4 = c .before in
-    let at-start = at-shared-slice-known4 .before .before .before .before in
+    let at-slices = c .before in
+    let at-start = at-slices .before .before .before .before in
     simp length-take (omega (arith, short-enough (at-start .args .kind) (at-start .args .image .now) (at-start .pre .attested)))
 
 judge-on-requires : tie.Need-judge-on-requires
 judge-on-requires c κs =
-    let at-shared-slice-known4 = c .before .before .before in
-    let at-start = at-shared-slice-known4 .before .before .before .before in (
+    let at-slices = c .before .before .before in
+    let at-start = at-slices .before .before .before .before in (
       at-start .pre,
       simp length-take (omega (
         arith,

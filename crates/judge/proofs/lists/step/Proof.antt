@@ -9,8 +9,8 @@ returns : tie.Need-returns
 returns c =
     let at-take-command = c .before .before .before in
     let at-take-command-arg = at-take-command .before in
-    let at-shared-slice-known4 = at-take-command-arg .before .before .before .before in
-    let at-start = at-shared-slice-known4 .before .before .before .before in
+    let at-slices = at-take-command-arg .before .before .before .before in
+    let at-start = at-slices .before .before .before .before in
     let a = at-start .args in
     step-malformed (typeOf (a .kind) (a .idm .now)) (a .image .now) (a .message .now) (a .work .now) (a .command .now) _ _
     (at-take-command .take-command .ensures) (c .if1 .taken)
@@ -21,8 +21,8 @@ returns-2 c =
     let at-if1 = at-is-kept .before .before in
     let at-take-command = at-if1 .before .before .before in
     let at-take-command-arg = at-take-command .before in
-    let at-shared-slice-known4 = at-take-command-arg .before .before .before .before in
-    let at-start = at-shared-slice-known4 .before .before .before .before in
+    let at-slices = at-take-command-arg .before .before .before .before in
+    let at-start = at-slices .before .before .before .before in
     let a = at-start .args in
     step-change (typeOf (a .kind) (a .idm .now)) (a .image .now) (a .message .now) (a .work .now) (a .command .now) _ _ (at-take-command .take-command .ensures)
     (a .old .now) (a .present) (at-start .pre .0 .old-is) (at-if1 .if1 .left) _ (at-is-kept .is-kept .ensures) (c .if2 .taken)
@@ -35,8 +35,8 @@ returns-3 c =
     let at-if1 = at-is-kept .before .before in
     let at-take-command = at-if1 .before .before .before in
     let at-take-command-arg = at-take-command .before in
-    let at-shared-slice-known4 = at-take-command-arg .before .before .before .before in
-    let at-start = at-shared-slice-known4 .before .before .before .before in
+    let at-slices = at-take-command-arg .before .before .before .before in
+    let at-start = at-slices .before .before .before .before in
     let a = at-start .args in
     step-misread (typeOf (a .kind) (a .idm .now)) (a .image .now) (a .message .now) (a .work .now) (a .command .now) _ _
     (at-take-command .take-command .ensures)
@@ -51,8 +51,8 @@ returns-4 c =
     let at-if1 = at-is-kept .before .before in
     let at-take-command = at-if1 .before .before .before in
     let at-take-command-arg = at-take-command .before in
-    let at-shared-slice-known4 = at-take-command-arg .before .before .before .before in
-    let at-start = at-shared-slice-known4 .before .before .before .before in
+    let at-slices = at-take-command-arg .before .before .before .before in
+    let at-start = at-slices .before .before .before .before in
     let a = at-start .args in
     step-none (typeOf (a .kind) (a .idm .now)) (a .image .now) (a .message .now) (a .work .now) (a .command .now) _ _ (at-take-command .take-command .ensures)
     (a .old .now) (a .present) (at-start .pre .0 .old-is) (at-if1 .if1 .left) _ (at-is-kept .is-kept .ensures) (at-if2 .if2 .left) _ (at-is-safe .is-safe .ensures)

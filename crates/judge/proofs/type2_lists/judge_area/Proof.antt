@@ -13,8 +13,8 @@ use Rattle.judge.proofs.type2_lists.judge_area.Tie as tie
 
 find-space-requires : tie.Need-find-space-requires
 find-space-requires c κs =
-    let at-slice-known = c .before in
-    let at-start = at-slice-known .before .before .before .before in
+    let at-slices = c .before in
+    let at-start = at-slices .before .before .before .before in
     blank (at-start .args .image .now) (at-start .args .table .now) (at-start .args .end .0) (at-start .args .writable) (at-start .pre .1 .area)
     (at-start .pre .0)
 
@@ -22,8 +22,8 @@ judge-space-requires : tie.Need-judge-space-requires
 judge-space-requires c κs =
     let at-w = c .before .before in
     let at-find-space = at-w .before .before .before .before in
-    let at-slice-known = at-find-space .before .before in
-    let at-start = at-slice-known .before .before .before .before in
+    let at-slices = at-find-space .before .before in
+    let at-start = at-slices .before .before .before .before in
     let a = at-start .args in
     let f = at-find-space .find-space in
     let g = at-w .w .given in
@@ -38,8 +38,8 @@ returns : tie.Need-returns
 returns c =
     let at-r = c .before in
     let at-find-space = at-r .before .before .before .before in
-    let at-slice-known = at-find-space .before .before in
-    let at-start = at-slice-known .before .before .before .before in
+    let at-slices = at-find-space .before .before in
+    let at-start = at-slices .before .before .before .before in
     let a = at-start .args in
     let f = at-find-space .find-space in
     let g = at-r .r .given in
@@ -51,8 +51,8 @@ returns-2 : tie.Need-returns-2
 returns-2 c =
     let at-w = c .before .before .before in
     let at-find-space = at-w .before .before .before .before in
-    let at-slice-known = at-find-space .before .before in
-    let at-start = at-slice-known .before .before .before .before in
+    let at-slices = at-find-space .before .before in
+    let at-start = at-slices .before .before .before .before in
     let a = at-start .args in
     let f = at-find-space .find-space in
     let g = at-w .w .given in

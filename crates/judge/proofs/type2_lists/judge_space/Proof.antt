@@ -9,8 +9,8 @@ use Rattle.judge.proofs.type2_lists.judge_space.Tie as tie
 judge-writable-requires : tie.Need-judge-writable-requires
 judge-writable-requires c κs =
     let at-extent-of = c .before in
-    let at-shared-slice-known4 = at-extent-of .before in
-    let at-start = at-shared-slice-known4 .before .before .before .before in
+    let at-slices = at-extent-of .before in
+    let at-start = at-slices .before .before .before .before in
     let a = at-start .args in
     let i = a .image .now in
     let m = a .message .now in

@@ -13,8 +13,8 @@ judge-area-requires : tie.Need-judge-area-requires
 judge-area-requires c κs =
     let at-end = c .before .before in
     let at-data-area = at-end .before .before in
-    let at-slice-known = at-data-area .before in
-    let at-start = at-slice-known .before .before .before .before in
+    let at-slices = at-data-area .before in
+    let at-start = at-slices .before .before .before .before in
     let a = at-start .args in
     let d = at-data-area .data-area in
     let g = at-end .end .given in
@@ -24,8 +24,8 @@ returns : tie.Need-returns
 returns c =
     let at-r = c .before in
     let at-data-area = at-r .before .before in
-    let at-slice-known = at-data-area .before in
-    let at-start = at-slice-known .before .before .before .before in
+    let at-slices = at-data-area .before in
+    let at-start = at-slices .before .before .before .before in
     let a = at-start .args in
     let d = at-data-area .data-area in
     let g = at-r .r .given in

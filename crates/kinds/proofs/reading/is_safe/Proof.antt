@@ -11,8 +11,8 @@ returns : tie.Need-returns
 returns c =
     let at-shown = c .before in
     let at-read = at-shown .before .before .before .before in
-    let at-slice-known = at-read .before .before in
-    let at-start = at-slice-known .before .before .before .before in
+    let at-slices = at-read .before .before in
+    let at-start = at-slices .before .before .before .before in
     let a = at-start .args in
     let r = at-read .read in
     let shown = at-shown .shown in

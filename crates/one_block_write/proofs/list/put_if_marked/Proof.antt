@@ -15,8 +15,8 @@ use Rattle.one_block_write.proofs.list.put_if_marked.Tie as tie
 
 returns : tie.Need-returns
 returns c =
-    let at-slice-known = c .before .before in
-    let at-start = at-slice-known .before .before .before .before in
+    let at-slices = c .before .before in
+    let at-start = at-slices .before .before .before .before in
     let a = at-start .args in
     let q : marked (a .marks .now) (a .block .0) ≡ false = ne-eqb _ _ (c .if1 .taken) in
     let e : a .at ≡ a .at + 0 = omega arith in
@@ -25,8 +25,8 @@ returns c =
 put-block-requires : tie.Need-put-block-requires
 put-block-requires c κs =
     let at-if1 = c .before in
-    let at-slice-known = at-if1 .before .before in
-    let at-start = at-slice-known .before .before .before .before in
+    let at-slices = at-if1 .before .before in
+    let at-start = at-slices .before .before .before .before in
     let a = at-start .args in
     let q : marked (a .marks .now) (a .block .0) ≡ true = eq-eqb _ _ (at-if1 .if1 .left) in
     let room = room-yes _ (a .at) (commandLength (a .front .now) (a .size)) (length (a .out .now)) q (at-start .pre .4) in
@@ -36,8 +36,8 @@ returns-2 : tie.Need-returns-2
 returns-2 c =
     let at-put-block = c .before .before in
     let at-if1 = at-put-block .before .before in
-    let at-slice-known = at-if1 .before .before in
-    let at-start = at-slice-known .before .before .before .before in
+    let at-slices = at-if1 .before .before in
+    let at-start = at-slices .before .before .before .before in
     let a = at-start .args in
     let step = commandLength (a .front .now) (a .size) in
     let q : marked (a .marks .now) (a .block .0) ≡ true = eq-eqb _ _ (at-if1 .if1 .left) in

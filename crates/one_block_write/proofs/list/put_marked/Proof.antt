@@ -33,8 +33,8 @@ put-if-marked-requires : tie.Need-put-if-marked-requires Inv-loop μ-loop
 put-if-marked-requires c κs =
     let at-loop-test = c .before in
     let at-loop = at-loop-test .before in
-    let at-slice-known = at-loop .before in
-    let at-start = at-slice-known .before .before .before .before in
+    let at-slices = at-loop .before in
+    let at-start = at-slices .before .before .before .before in
     let a = at-start .args in
     let b = at-loop .loop .b in
     let l = at-loop .loop .inv in
@@ -53,8 +53,8 @@ loop-again c =
     let at-put-if-marked = c .before .before in
     let at-loop-test = at-put-if-marked .before .before in
     let at-loop = at-loop-test .before in
-    let at-slice-known = at-loop .before in
-    let at-start = at-slice-known .before .before .before .before in
+    let at-slices = at-loop .before in
+    let at-start = at-slices .before .before .before .before in
     let a = at-start .args in
     let pos = at-start .pre .5 in
     let l = at-loop .loop in
@@ -74,8 +74,8 @@ loop-again c =
 returns : tie.Need-returns Inv-loop μ-loop
 returns c =
     let at-loop = c .before in
-    let at-slice-known = at-loop .before in
-    let at-start = at-slice-known .before .before .before .before in
+    let at-slices = at-loop .before in
+    let at-start = at-slices .before .before .before .before in
     let l = at-loop .loop in
     let e : l .b ≡ at-start .args .blocks = omega arith in
     rw e at (l .inv .3)

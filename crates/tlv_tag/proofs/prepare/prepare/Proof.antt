@@ -11,8 +11,8 @@ prepare-at-requires : tie.Need-prepare-at-requires
 prepare-at-requires c κs =
     let at-w = c .before .before .before .before in
     let at-find-space = at-w .before .before .before .before in
-    let at-slice-known2 = at-find-space .before .before .before in
-    let at-start = at-slice-known2 .before .before .before .before in
+    let at-slices = at-find-space .before .before .before in
+    let at-start = at-slices .before .before .before .before in
     (space-room (at-start .args .first .0) (at-start .args .end .0) (at-find-space .find-space .ensures .1 .0) (at-w .w .given .1), at-start .pre .1)
 
 returns : tie.Need-returns

@@ -18,8 +18,8 @@ found : (c : tie.After-block) →
     let at-mark-tlv-bytes = at-next-usable .before .before .before in
     let at-set-tlv-bytes = at-mark-tlv-bytes .before .before .before .before in
     let at-copy-image = at-set-tlv-bytes .before .before .before .before in
-    let at-slice-known = at-copy-image .before .before .before in
-    let at-start = at-slice-known .before .before .before .before in
+    let at-slices = at-copy-image .before .before .before in
+    let at-start = at-slices .before .before .before .before in
     (at-next-usable .next-usable .result .0 ≡ lengthAt (ahead (at-start .args .table .now) (at-start .args .w)))
     × (at-next-usable .next-usable .result .0 < at-start .args .w .end .0)
 found c =
@@ -27,8 +27,8 @@ found c =
     let at-mark-tlv-bytes = at-next-usable .before .before .before in
     let at-set-tlv-bytes = at-mark-tlv-bytes .before .before .before .before in
     let at-copy-image = at-set-tlv-bytes .before .before .before .before in
-    let at-slice-known = at-copy-image .before .before .before in
-    let at-start = at-slice-known .before .before .before .before in
+    let at-slices = at-copy-image .before .before .before in
+    let at-start = at-slices .before .before .before .before in
     let n = at-next-usable .next-usable in
     first-usable (at-start .args .table .now) (at-start .args .w) (n .result .0)
     (record { within = n .ensures .0 .1; in-table = at-start .pre .0 .placed .within .in-table; free = n .ensures .1 .1 }) (n .ensures .1 .0)
@@ -40,8 +40,8 @@ slice-write-marks c =
     let at-mark-tlv-bytes = at-next-usable .before .before .before in
     let at-set-tlv-bytes = at-mark-tlv-bytes .before .before .before .before in
     let at-copy-image = at-set-tlv-bytes .before .before .before .before in
-    let at-slice-known = at-copy-image .before .before .before in
-    let at-start = at-slice-known .before .before .before .before in
+    let at-slices = at-copy-image .before .before .before in
+    let at-start = at-slices .before .before .before .before in
     let a = at-start .args in
     let inside : at-next-usable .next-usable .result .0 / a .size < length (a .marks .now)
     = div-lt-iff-lt-mul (at-start .pre .1 .some-size) .1 (omega (arith, found c .1, at-start .pre .0 .placed .in-image, at-start .pre .1 .each-marked)) in
@@ -52,8 +52,8 @@ returns c =
     let at-mark-tlv-bytes = c .before .before .before .before in
     let at-set-tlv-bytes = at-mark-tlv-bytes .before .before .before .before in
     let at-copy-image = at-set-tlv-bytes .before .before .before .before in
-    let at-slice-known = at-copy-image .before .before .before in
-    let at-start = at-slice-known .before .before .before .before in
+    let at-slices = at-copy-image .before .before .before in
+    let at-start = at-slices .before .before .before .before in
     let a = at-start .args in
     let us = ahead (a .table .now) (a .w) in
     let k = at-mark-tlv-bytes .mark-tlv-bytes in

@@ -14,8 +14,8 @@ cast-t6 c = omega (arith, c .shared-slice-known .given 1)
 
 returns : tie.Need-returns
 returns c =
-    let at-shared-slice-known4 = c .before in
-    let at-start = at-shared-slice-known4 .before .before .before .before in
+    let at-slices = c .before in
+    let at-start = at-slices .before .before .before .before in
     let bs = at-start .args .bytes .now in
     ap (λ r. commandAs (decoded (byte bs 1) r)) (sym (carried bs (at-start .pre)))
 

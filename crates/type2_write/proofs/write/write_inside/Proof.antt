@@ -13,8 +13,8 @@ use Rattle.type2_write.proofs.write.write_inside.Tie as tie
 prepare-requires : tie.Need-prepare-requires
 prepare-requires c κs =
     let at-prepare-arg2 = c .before in
-    let at-slice-known2 = at-prepare-arg2 .before .before .before .before in
-    let at-start = at-slice-known2 .before .before .before .before in
+    let at-slices = at-prepare-arg2 .before .before .before .before in
+    let at-start = at-slices .before .before .before .before in
     let a = at-start .args in (
       blank (a .image .now) (a .table .now) (a .end .0) (a .writable) (at-start .pre .0 .area) (at-start .pre .1 .blank-table),
       spare (a .image .now) (a .message .now) (a .end .0) (a .writable) (at-start .pre .0) (a .new .now) (a .marks .now) (at-start .pre .2)

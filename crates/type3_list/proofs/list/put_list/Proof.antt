@@ -17,11 +17,11 @@ idm-length c = search needs
 
 returns : tie.Need-returns
 returns c =
-    let at-put-attributes2 = c .before .before in
-    let at-put-commands = at-put-attributes2 .before .before .before .before in
+    let at-put-attribute-command2 = c .before .before in
+    let at-put-commands = at-put-attribute-command2 .before .before .before .before in
     let at-put-attribute-command = at-put-commands .before .before .before .before in
-    let at-slice-known = at-put-attribute-command .before .before in
-    let at-start = at-slice-known .before .before .before .before in
+    let at-slices = at-put-attribute-command .before .before in
+    let at-start = at-slices .before .before .before .before in
     let a = at-start .args in
     let i = a .image .now in
     let m = a .message .now in
@@ -43,7 +43,7 @@ returns c =
     let still = ap length two ∙ length-append (closed ++ body) (drop (31 + (13 * a .turns + 18 * k)) (a .list .now)) in
     lay-part _ (closed ++ body) (a .list .now) last (rw place at two) long (attributeCommand n i 0x00 (length m)) _ _ 31
     (omega (arith, still, long, length-drop (31 + (13 * a .turns + 18 * k)) (a .list .now), at-start .pre .fits)) (omega arith)
-    (at-put-attributes2 .put-attributes2 .ensures)
+    (at-put-attribute-command2 .put-attribute-command2 .ensures)
     ∙ rw all
 
 pub put-list-spec : {M : Type 1} → statement M

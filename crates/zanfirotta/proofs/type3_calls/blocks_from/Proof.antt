@@ -8,8 +8,8 @@ use Rattle.zanfirotta.proofs.type3_calls.blocks_from.Tie as tie
 
 returns : tie.Need-returns
 returns c =
-    let at-shared-slice-known4 = c .before .before .before .before in
-    let at-start = at-shared-slice-known4 .before .before .before .before in
+    let at-slices = c .before .before .before .before in
+    let at-start = at-slices .before .before .before .before in
     ap blocksOf (bytes-of (at-start .args .numbers .now) 8 (at-start .pre))
 
 pub blocks-from-spec : {M : Type 1} → statement M

@@ -11,28 +11,28 @@ use Rattle.zanfirotta.proofs.type3_calls.store_used.Tie as tie
 
 slice-aggregate-store : tie.Need-slice-aggregate-store
 slice-aggregate-store c =
-    let at-slice-known2 = c .before in
-    let at-start = at-slice-known2 .before .before .before .before in
+    let at-slices = c .before in
+    let at-start = at-slices .before .before .before .before in
     sym (length-take-le (at-start .args .count) (at-start .args .listed .now) (omega arith))
 
 store-requires : tie.Need-store-requires
 store-requires c κs =
-    let at-slice-known2 = c .before .before in
-    let at-start = at-slice-known2 .before .before .before .before in
+    let at-slices = c .before .before in
+    let at-start = at-slices .before .before .before .before in
     omega (arith, length-take-le (at-start .args .count) (at-start .args .listed .now) (omega arith))
 
 slice-aggregate-store-2 : tie.Need-slice-aggregate-store-2
 slice-aggregate-store-2 c =
     let at-store = c .before .before .before in
-    let at-slice-known2 = at-store .before .before .before in
-    let at-start = at-slice-known2 .before .before .before .before in
+    let at-slices = at-store .before .before .before in
+    let at-start = at-slices .before .before .before .before in
     sym (length-take-le (16 * at-start .args .count) (at-start .args .carried .now) (omega arith))
 
 store-requires-2 : tie.Need-store-requires-2
 store-requires-2 c κs =
     let at-store = c .before .before .before .before in
-    let at-slice-known2 = at-store .before .before .before in
-    let at-start = at-slice-known2 .before .before .before .before in
+    let at-slices = at-store .before .before .before in
+    let at-start = at-slices .before .before .before .before in
     omega (arith, length-take-le (16 * at-start .args .count) (at-start .args .carried .now) (omega arith))
 
 returns : tie.Need-returns
@@ -40,8 +40,8 @@ returns c =
     let at-store2 = c .before .before in
     let at-blocks2 = at-store2 .before .before .before .before in
     let at-store = at-blocks2 .before in
-    let at-slice-known2 = at-store .before .before .before in
-    let at-start = at-slice-known2 .before .before .before .before in
+    let at-slices = at-store .before .before .before in
+    let at-start = at-slices .before .before .before .before in
     let a = at-start .args in
     let n = length-take-le (a .count) (a .listed .now) (omega arith) in
     let m = length-take-le (16 * a .count) (a .carried .now) (omega arith) in (
