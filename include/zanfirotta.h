@@ -96,7 +96,7 @@ typedef struct zan_report {
 
 /*
  * Reads a Type 2 tag and fills in *report. An interrupted message is copied to the front of
- * gathered; any other is the part of the image that *report names, and gathered is not touched.
+ * gathered; any other is the part of the image that *report gives, and gathered is not touched.
  * Returns 0, or refusal 1 to 8 or 13.
  */
 uint64_t zan_type2_read(const uint8_t *image, size_t image_len, uint8_t *gathered,
@@ -124,15 +124,15 @@ uint64_t zan_type2_model(uint8_t *image, size_t image_len, const uint8_t *comman
                          size_t command_len);
 
 /*
- * Writes the command that stores data in a block, on a tag of so many blocks, to the front of bytes.
- * Returns the number of bytes as its count, or refusal 12 or 20.
+ * Writes the command that stores data in a block to the front of bytes; blocks is the number of
+ * blocks of the tag. Returns the number of bytes as its count, or refusal 12 or 20.
  */
 uint64_t zan_type2_encode(uint64_t block, const uint8_t data[4], uint64_t blocks, uint8_t *bytes,
                           size_t bytes_len);
 
 /*
- * Takes one command, for a tag of so many blocks, apart into *block and data. Returns 0, or refusal
- * 20.
+ * Takes one command apart into *block and data; blocks is the number of blocks of the tag. Returns
+ * 0, or refusal 20.
  */
 uint64_t zan_type2_decode(const uint8_t *bytes, size_t bytes_len, uint64_t blocks,
                           uint64_t *block, uint8_t data[4]);

@@ -1,7 +1,7 @@
 /*
- * Writes a message on a tag that is held in memory, first a Type 2 and then a Type 3 one: asks
- * for the list, has it judged (Type 2), hands it to the tag command by command and reads the tag
- * after each. See README.md for how to compile.
+ * Writes a message on a tag in memory, first on a Type 2 tag, then on a Type 3 tag. Asks for the
+ * list, has it judged (Type 2 only), gives it to the tag command by command, and reads the tag
+ * after each command. See README.md for how to compile.
  */
 #include <inttypes.h>
 #include <stdio.h>

@@ -1,4 +1,4 @@
-//! How long the verified library takes beside the reference, on the same inputs.
+//! How long the verified library takes, compared with the reference on the same inputs.
 //!
 //! `cargo bench --bench speed`. Both are built for release. A run clears the buffers that are
 //! written to, then times a number of calls; the table shows the median of all runs.
@@ -15,8 +15,9 @@ use std::time::Instant;
 
 use zanfirotta::{type2, type3};
 
-/// Bytes before the library's code in this program, from the environment variable PADDING. Where in a
-/// cache line a loop lies changes some rows by a third, and the linker decides that.
+/// How many bytes lie before the library's code in this program, from the environment variable
+/// PADDING. Where a loop lies in a cache line changes some rows by a third, and the linker decides
+/// that.
 const PADDING: usize = match option_env!("PADDING") {
     Some(digits) => number(digits.as_bytes()),
     None => 0,
@@ -38,7 +39,7 @@ const fn number(digits: &[u8]) -> usize {
 }
 
 const RUNS: usize = 301;
-/// A run is to take about this long.
+/// A run should take about this long.
 const NANOSECONDS: f64 = 50_000.0;
 
 const IDM: [u8; 8] = [0x01, 0x2E, 0x45, 0x76, 0xBA, 0x12, 0x34, 0x56];
@@ -242,7 +243,7 @@ fn image2(len: usize, data: &[u8]) -> Vec<u8> {
     image
 }
 
-/// A Type 3 image with as many blocks for the message as there are, full of it.
+/// A Type 3 image whose message fills all blocks after block 0.
 fn image3(blocks: usize, nbw: u8) -> Vec<u8> {
     let mut image = vec![0x5A; 16 * blocks];
     let [high, low] = ((blocks - 1) as u16).to_be_bytes();
@@ -255,7 +256,7 @@ fn image3(blocks: usize, nbw: u8) -> Vec<u8> {
 }
 
 fn main() {
-    // The linker leaves out what nobody names.
+    // The linker leaves out what nothing refers to.
     black_box(padding as unsafe extern "C" fn());
     println!("| tag                          | call   | library ns   | reference ns |  ratio |");
     println!("|------------------------------|--------|--------------|--------------|--------|");

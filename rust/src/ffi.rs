@@ -1,6 +1,6 @@
-//! The C interface, and all that is unsafe in this crate. The C functions ask for pointers that are
-//! not null, for lengths that are right, and that a buffer which is written to overlaps no other
-//! argument. Slices and references give all three.
+//! The C interface, and all the unsafe code of this crate. The C functions require three things: no
+//! pointer is null, every length is right, and a buffer that is written to overlaps no other
+//! argument. Slices and references guarantee all three.
 
 mod c {
     unsafe extern "C" {
@@ -97,9 +97,9 @@ mod c {
     }
 }
 
-/// The numbers that a call has just written, each by a load of its own. Left to itself the compiler
-/// fetches address and length together, and such a load, of what two stores wrote, waits for both to
-/// reach the cache: four nanoseconds, a quarter of a call that reads a Type 3 tag.
+/// The numbers that a call has just written, each loaded separately. Left to itself, the compiler
+/// loads address and length together. A load of what two stores wrote waits until both have reached
+/// the cache: four nanoseconds, a quarter of a call that reads a Type 3 tag.
 #[inline]
 pub fn fetched(out: &[u64; 5]) -> [u64; 5] {
     out.each_ref()

@@ -3,8 +3,8 @@
 //!
 //! These are safe wrappers over the verified library (`libzanfirotta.a`); the rules are in
 //! `docs/01-scope.md`. Nothing here allocates: an image, a message and a list are slices, and a
-//! result that needs room goes into a buffer that the caller lends. A refusal changes no byte of
-//! such a buffer.
+//! result that needs room goes into a buffer that the caller passes in. A refusal changes no byte
+//! of that buffer.
 //!
 //! ```
 //! use zanfirotta::type2;
@@ -75,8 +75,8 @@ pub struct Refusal {
     /// Which of the refusals it is.
     pub number: RefusalNumber,
     /// For 20 to 23 the index of the command at fault, counted from 0; for 23 the number of
-    /// commands. The model and the codec are handed one command, so there it is 0. None for all
-    /// other refusals.
+    /// commands. The model and the codec take one command, so there it is 0. None for all other
+    /// refusals.
     pub position: Option<usize>,
 }
 
@@ -85,7 +85,7 @@ pub struct Refusal {
 #[non_exhaustive]
 #[repr(u8)]
 pub enum RefusalNumber {
-    /// The image's length is no multiple of the block size, too small or too large.
+    /// The image's length is not a multiple of the block size, is too small, or is too large.
     ImageSize = 1,
     /// Type 2: byte 12 is not E1h. Type 3: the checksum is wrong.
     NotNdef = 2,
@@ -123,7 +123,7 @@ pub enum RefusalNumber {
     Unfinished = 23,
 }
 
-/// A number that is no refusal's.
+/// A number that no refusal has.
 #[derive(Clone, Copy, Debug, PartialEq, Eq)]
 pub struct UnknownRefusal(pub u8);
 
@@ -135,7 +135,7 @@ impl fmt::Display for UnknownRefusal {
 
 impl Error for UnknownRefusal {}
 
-/// The refusal of a number.
+/// The refusal with a given number.
 ///
 /// ```
 /// use zanfirotta::{RefusalNumber, UnknownRefusal};
@@ -235,16 +235,16 @@ pub struct Report {
     pub address: usize,
     /// The message's length; 0 without a message.
     pub length: usize,
-    /// Whether skipped addresses lie between the message's first and last byte; the message then
-    /// stands in the gathering buffer.
+    /// Whether skipped addresses lie between the message's first and last byte; the message is then
+    /// in the gathering buffer.
     pub interrupted: bool,
     /// Whether the tag may be written.
     pub writable: bool,
 }
 
 impl Report {
-    /// The message: a part of the image or, if interrupted, of the gathered copy. Empty without a
-    /// message, and if these are not the slices that were read.
+    /// The message: a part of the image or, if interrupted, of the gathered copy. Pass the slices
+    /// that were read. Empty without a message, and if the slice is too short to hold it.
     ///
     /// ```
     /// use zanfirotta::type2;
@@ -282,8 +282,8 @@ fn answer(answer: u64) -> Result<usize, Refusal> {
     Err(refused(answer))
 }
 
-/// The refusal that an answer gives; apart from `answer`, so that this stays short where nothing
-/// is refused.
+/// The refusal that an answer gives. It is a separate function to keep `answer` short, for calls
+/// that are not refused.
 #[cold]
 fn refused(answer: u64) -> Refusal {
     let number = (answer % 256) as u8;
@@ -296,7 +296,7 @@ fn refused(answer: u64) -> Refusal {
     }
 }
 
-/// What the C interface reports of a tag.
+/// What the C interface reports about a tag.
 #[inline]
 fn report(out: &[u64; 5]) -> Report {
     let [content, address, length, interrupted, writable] = ffi::fetched(out);

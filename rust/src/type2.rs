@@ -8,7 +8,7 @@ pub const COMMAND: usize = 6;
 /// The length of the longest list that [`write()`] makes for any tag.
 pub const LIST_MAX: usize = COMMAND * 253;
 
-/// The longest image, and thereby more than the longest message.
+/// The length of the longest image, which is more than that of the longest message.
 pub const IMAGE_MAX: usize = 1024;
 
 /// A write command.
@@ -16,12 +16,12 @@ pub const IMAGE_MAX: usize = 1024;
 pub struct Command {
     /// The block, from 4 on.
     pub block: u64,
-    /// What it is to hold.
+    /// The bytes to store in it.
     pub data: [u8; 4],
 }
 
-/// The commands of a list, in order. What is left over at the end, if it is too short for a command,
-/// comes last.
+/// The commands of a list, in order. What is left over at the end, if it is too short for a
+/// command, comes last.
 ///
 /// ```
 /// use zanfirotta::type2;
@@ -62,7 +62,8 @@ pub fn read(image: &[u8], gathered: &mut [u8]) -> Result<Report, Refusal> {
     Ok(report(&out))
 }
 
-/// Puts the commands that write `message` end to end into `list`; answers how many they are.
+/// Writes the commands that put `message` on the tag to the front of `list`, end to end; returns
+/// how many there are.
 ///
 /// # Errors
 ///
@@ -84,7 +85,7 @@ pub fn write(image: &[u8], message: &[u8], list: &mut [u8]) -> Result<usize, Ref
     answer(ffi::type2_write(image, message, list))
 }
 
-/// Judges whether a list, made by anybody, writes `message` safely; answers how many commands it
+/// Judges whether a list, whoever made it, writes `message` safely; returns how many commands it
 /// has.
 ///
 /// # Errors
@@ -136,8 +137,8 @@ pub fn model(image: &mut [u8], command: &[u8]) -> Result<(), Refusal> {
     answer(ffi::type2_model(image, command)).map(|_| ())
 }
 
-/// Puts a command for a tag of `blocks` blocks into the front of `bytes`; answers how many bytes
-/// it has.
+/// Writes a command for a tag of `blocks` blocks to the front of `bytes`; returns how many bytes it
+/// has.
 ///
 /// # Errors
 ///

@@ -10,7 +10,7 @@ pub const LIST_MAX: usize = 257 * (13 + 18);
 /// The length of the longest command.
 pub const COMMAND_MAX: usize = 13 + 18 * 8;
 
-/// The longest image.
+/// The length of the longest image.
 pub const IMAGE_MAX: usize = 4096;
 
 /// The length in bytes of the first command of a list. [`commands`] steps through a whole list.
@@ -75,14 +75,14 @@ impl<'a> Iterator for Commands<'a> {
 
 impl core::iter::FusedIterator for Commands<'_> {}
 
-/// A write command; the front `count` entries of `blocks` and 16 · `count` bytes of `data` count.
+/// A write command. It uses the first `count` entries of `blocks` and 16 · `count` bytes of `data`.
 #[derive(Clone, Copy, Debug, PartialEq, Eq)]
 pub struct Command {
-    /// How many blocks.
+    /// How many blocks it stores.
     pub count: u64,
-    /// Which blocks.
+    /// The numbers of the blocks.
     pub blocks: [u64; 8],
-    /// What they are to hold.
+    /// The bytes to store in them, sixteen for each.
     pub data: [u8; 128],
 }
 
@@ -94,7 +94,7 @@ impl Command {
         data: [0; 128],
     };
 
-    /// A command that writes these blocks; none if they are more than eight.
+    /// A command that writes these blocks; `None` if there are more than eight.
     ///
     /// ```
     /// use zanfirotta::type3::Command;
@@ -149,7 +149,8 @@ pub fn read(image: &[u8]) -> Result<Report, Refusal> {
     Ok(report(&out))
 }
 
-/// Puts the commands that write `message` end to end into `list`; answers how many they are.
+/// Writes the commands that put `message` on the tag to the front of `list`, end to end; returns
+/// how many there are.
 ///
 /// # Errors
 ///
@@ -180,7 +181,7 @@ pub fn write(
     answer(ffi::type3_write(image, message, idm, list))
 }
 
-/// Judges whether a list, made by anybody, writes `message` safely; answers how many commands it
+/// Judges whether a list, whoever made it, writes `message` safely; returns how many commands it
 /// has.
 ///
 /// # Errors
@@ -225,7 +226,7 @@ pub fn model(image: &mut [u8], idm: &[u8; 8], command: &[u8]) -> Result<(), Refu
     answer(ffi::type3_model(image, idm, command)).map(|_| ())
 }
 
-/// Puts a command into the front of `bytes`; answers how many bytes it has.
+/// Writes a command to the front of `bytes`; returns how many bytes it has.
 ///
 /// # Errors
 ///

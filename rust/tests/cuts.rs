@@ -1,6 +1,6 @@
-//! Cuts through the verified library: for accepted lists, ours and foreign, the model follows cut
-//! by cut; every cut reads as the old message, as none or as the new one; and writing afresh from
-//! it ends in the image in which our uninterrupted list ends.
+//! The cuts of accepted lists, ours and foreign, with the verified library. The model follows cut
+//! by cut, and every cut reads as the old message, as none or as the new one. Writing afresh from a
+//! cut ends in the same image as our uninterrupted list.
 
 #[cfg(not(zanfirotta_archive))]
 compile_error!("libzanfirotta.a is missing: run `rt staticlib zanfirotta` at the repository's top");
@@ -27,7 +27,7 @@ trait Type {
     fn split(&self, list: &[u8]) -> Vec<Vec<u8>>;
     /// Stores what a command says, without the library.
     fn store(&self, image: &mut [u8], command: &[u8]);
-    /// The message on a tag, empty if there is none; nothing if it is refused.
+    /// The message on a tag, empty if there is none; `None` if the tag is refused.
     fn message(&self, image: &[u8]) -> Option<Vec<u8>>;
 }
 
@@ -122,7 +122,7 @@ impl Type for Type3 {
     }
 }
 
-/// Follows one accepted list; answers how many cuts it has.
+/// Follows one accepted list; returns how many cuts it has.
 fn follow(tag: &impl Type, rng: &mut Rng, image: &[u8], message: &[u8], list: &[u8]) -> u64 {
     let old = tag.message(image).unwrap();
     let ours = tag.write(image, message);
@@ -167,7 +167,7 @@ fn follow(tag: &impl Type, rng: &mut Rng, image: &[u8], message: &[u8], list: &[
     commands.len() as u64 + 1
 }
 
-/// A message that fits; long ones are rare, for every cut costs a whole list.
+/// A message that fits; long ones are rare, because every cut costs a whole list.
 fn fitting_message(rng: &mut Rng, old: &[u8], room: usize) -> Vec<u8> {
     if rng.percent(10) {
         return old.to_vec();

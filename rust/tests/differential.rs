@@ -1,7 +1,7 @@
 //! The verified library against the reference, on the same seeded cases.
 //!
-//! Lent buffers stand between guard bytes and are compared whole, after refusals too. Each test
-//! prints how often each answer came and fails if one that is expected is rare.
+//! Every buffer passed to a call lies between guard bytes and is compared whole, also after a
+//! refusal. Each test prints how often each answer came and fails if an expected one is rare.
 
 #[cfg(not(zanfirotta_archive))]
 compile_error!("libzanfirotta.a is missing: run `rt staticlib zanfirotta` at the repository's top");
@@ -107,14 +107,14 @@ fn same<T: PartialEq + Debug>(index: u64, got: &T, expected: &T, inputs: &[&[u8]
     }
 }
 
-/// Whether the buffers hold the same, guard bytes included.
+/// Tests that the buffers hold the same, guard bytes included.
 fn same_buffers(index: u64, got: &Lent, expected: &Lent, inputs: &[&[u8]]) {
     same(index, &hex(got.slice()), &hex(expected.slice()), inputs);
     assert!(got == expected, "case {index}: a guard byte changed");
 }
 
-/// Compares the five numbers of reading: the reference's after success, what they were after a
-/// refusal; and numbers beside them are kept.
+/// Compares the five numbers of reading: they are the reference's after success, and unchanged
+/// after a refusal. The numbers next to them are unchanged.
 fn same_out(
     index: u64,
     rng: &mut Rng,

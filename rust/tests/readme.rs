@@ -1,5 +1,5 @@
-//! What README.md, the header and examples/c show, compiled and run; every function of the header
-//! is called from C. The Rust lines of README.md are a doc test of the crate.
+//! Compiles and runs what README.md, the header and examples/c show, and calls every function of
+//! the header from C. The Rust lines of README.md are a doc test of the crate.
 
 #![cfg(zanfirotta_archive)]
 
@@ -20,8 +20,8 @@ fn shown(label: &str) -> String {
     block.to_string()
 }
 
-/// A C program in which `lines` are the body of a function that is handed a tag; `main` hands it an
-/// image that starts with `front` at address `at`.
+/// A C program in which `lines` are the body of a function that takes a tag. Its `main` passes an
+/// image that has `front` at address `at` and 00h elsewhere.
 fn program(before: &str, lines: &str, size: usize, at: usize, front: &str) -> String {
     format!(
         "#include <stdio.h>
@@ -44,7 +44,7 @@ int main(void)
     )
 }
 
-/// A function of that name that prints bytes.
+/// A C function of this name that prints bytes.
 fn printer(name: &str) -> String {
     format!(
         "static void {name}(const uint8_t *bytes, size_t len)
@@ -57,14 +57,14 @@ fn printer(name: &str) -> String {
     )
 }
 
-/// Writes a C program to a file, compiles it with the archive and runs it; answers what it prints.
+/// Writes a C program to a file, compiles it with the archive and runs it; returns what it prints.
 fn run_text(name: &str, text: &str) -> String {
     let source = Path::new(env!("CARGO_TARGET_TMPDIR")).join(format!("{name}.c"));
     fs::write(&source, text).unwrap();
     run_c(name, &source)
 }
 
-/// Compiles a C program with the archive and runs it; answers what it prints.
+/// Compiles a C program with the archive and runs it; returns what it prints.
 fn run_c(name: &str, source: &Path) -> String {
     let archive = std::env::var_os("ZANFIROTTA_LIB_DIR")
         .map_or(top().join("target/staticlib"), PathBuf::from)
@@ -129,7 +129,7 @@ fn c_lines_of_the_header_read_a_tag() {
     );
 }
 
-/// Compilers of every standard from C89 on, and of C++, take the header without a warning.
+/// A program with the header compiles without a warning as C89, C99, C11, C17 and C++17.
 #[test]
 fn header_is_clean() {
     let languages = [

@@ -1,6 +1,6 @@
--- Type 3's codec: what is encoded decodes to itself, what decodes was encoded, the lists of stores that a command can carry
--- are exactly those that commands decode to, a command tells its own length, and rising block numbers may be named.
--- A number of eight bytes is a premise only where bytes are made: what decodes shows that the number has eight.
+-- Laws of Type 3's codec. What is encoded decodes to itself, and what decodes was encoded. The lists of stores that a command can
+-- carry are exactly those that commands decode to. A command states its own length, and rising block numbers may be listed.
+-- An IDm of eight bytes is a premise only where bytes are made: whatever decodes shows that the IDm has eight.
 -- Assumes nothing.
 use mathlib.Core.Path.{_≡_, refl, sym, ap, _∙_}
 use mathlib.Core.Bool.{Bool, true, false, _&&_, cond}
@@ -21,7 +21,7 @@ use Rattle.tag.proofs.Sending.{blockNumber, Whole}
 use Rattle.type3.specs.Update.{blocksPerCommand}
 use Rattle.type3.specs.Codec.{blockListBytes, BlockList, no-block-list, block-list, withElement, blockListOf, listable, wellListed, opening, commandBytes, Decoded, undecoded, decoded, decodeBy, decode, storesOf, commandOf, storedBytes, encoded, span}
 
--- ---- block names
+-- ---- block lists
 
 block-list-bytes : (bs r : List ℕ) → blockListOf (length bs) (blockListBytes bs ++ r) ≡ block-list bs r
 unfolding blockListOf
@@ -54,7 +54,7 @@ pub length-block-list : (bs : List ℕ) → length (blockListBytes bs) ≡ 2 * l
 length-block-list [] = refl
 length-block-list (b ∷ bs) = omega (arith, length-block-list bs)
 
--- a number below rising ones is none of them, so that none is named twice
+-- a number below rising ones is none of them; so rising numbers list no block twice
 above-has : (hi x y : ℕ) (us : List ℕ) → Above hi x us → y ≤ x → has y us ≡ false
 above-has hi x y [] h l = refl
 above-has hi x y (z ∷ us) h l =
@@ -67,7 +67,7 @@ rising-listable hi nmaxb (b ∷ bs) h l m =
     let a-byte : leb b 255 ≡ true = le-leb b 255 (omega (arith, l .0)) in
     rw (small, a-byte, above-has hi b b bs h (omega arith)) (rising-listable hi nmaxb bs (above-rising hi b bs h) (l .1) m)
 
--- a command names at least one block
+-- a command lists at least one block
 listed-some : (nbw nmaxb : ℕ) (bs : List ℕ) → wellListed nbw nmaxb bs ≡ true → 1 ≤ length bs
 listed-some nbw nmaxb bs h =
     leb-true 1 (length bs) (and-three (leb 1 (length bs)) (leb (length bs) (blocksPerCommand nbw)) (listable nmaxb bs) h .0)
@@ -88,7 +88,7 @@ opened : (o : List ℕ) (nbw nmaxb c : ℕ) (rest : List ℕ) → length o ≡ 1
 opened o nbw nmaxb c rest l =
     rw (take-at o (c ∷ rest) 12 l, same-refl o, getD-at o c rest 0 12 l, past-count o c rest l)
 
--- the opening, the count and the rest, which the definition groups otherwise
+-- the definition's bytes, grouped as the opening, the count and the rest
 pub grouped : (idm bs bytes : List ℕ) → commandBytes idm bs bytes ≡ opening idm ++ length bs ∷ (blockListBytes bs ++ bytes)
 grouped idm bs bytes = append-assoc (opening idm) (length bs ∷ blockListBytes bs) bytes
 
@@ -100,7 +100,7 @@ decode-encode idm nbw nmaxb bs bytes n h l =
     ∙ opened (opening idm) nbw nmaxb (length bs) (blockListBytes bs ++ bytes) (omega (arith, length-opening idm))
     ∙ rw (block-list-bytes bs bytes, decodeBy, h, eq-eqb (length bytes) (16 * length bs) l)
 
--- what was decoded by its names
+-- what decodes by its block list: the blocks are well listed, and each has sixteen bytes
 decoded-block-list : (nbw nmaxb : ℕ) (ns : BlockList) (bs bytes : List ℕ) → decodeBy nbw nmaxb ns ≡ decoded bs bytes
     → (ns ≡ block-list bs bytes) × (wellListed nbw nmaxb bs ≡ true) × (length bytes ≡ 16 * length bs)
 unfolding decodeBy
@@ -120,7 +120,7 @@ decoded-block-list nbw nmaxb (block-list cs r) bs bytes e = go (wellListed nbw n
           eqb-true (length r) (16 * length cs) (and-r (wellListed nbw nmaxb cs) (eqb (length r) (16 * length cs)) q),
         )
 
--- what decodes opens as our commands do, and past that are the names
+-- what decodes opens as our commands do, and decodes by the block list that follows
 decoded-opening : (idm : List ℕ) (nbw nmaxb : ℕ) (all bs bytes : List ℕ) → decode idm nbw nmaxb all ≡ decoded bs bytes
     → (take 12 all ≡ opening idm) × (decodeBy nbw nmaxb (blockListOf (byte all 12) (drop 13 all)) ≡ decoded bs bytes)
 unfolding decode
@@ -137,7 +137,7 @@ inside [] n h = omega arith
 inside (a ∷ l) zero h = omega arith
 inside (a ∷ l) (suc n) h = omega (arith, inside l n h)
 
--- a count of 0 does not decode, so that the count is there, and with it all twelve bytes of the opening
+-- a count of 0 does not decode; so the count is there, and with it all twelve bytes of the opening
 pub encode-decode : (idm : List ℕ) (nbw nmaxb : ℕ) (all bs bytes : List ℕ) → decode idm nbw nmaxb all ≡ decoded bs bytes
     → (wellListed nbw nmaxb bs ≡ true) × (length bytes ≡ 16 * length bs) × (all ≡ commandBytes idm bs bytes) × (length idm ≡ 8)
 encode-decode idm nbw nmaxb all bs bytes e =
@@ -164,7 +164,7 @@ length-command idm bs bytes n l =
       length-block-list bs,
     )
 
--- the count stands at byte 12, whatever follows the command
+-- the count is byte 12, whatever follows the command
 pub count-at : (idm bs bytes r : List ℕ) → length idm ≡ 8 → byte (commandBytes idm bs bytes ++ r) 12 ≡ length bs
 count-at idm bs bytes r n =
     ap (λ l. byte (l ++ r) 12) (grouped idm bs bytes)
@@ -176,7 +176,7 @@ count-at idm bs bytes r n =
 abbrev pub blocksOf : List Store → List ℕ
 blocksOf ss = map (blockNumber 16) ss
 
--- stores of whole blocks that may be named together
+-- stores of whole blocks that may be listed together
 abbrev pub Sendable : ℕ → ℕ → List Store → Type 0
 Sendable nbw nmaxb ss = Each (Whole 16) ss × (wellListed nbw nmaxb (blocksOf ss) ≡ true)
 
@@ -203,7 +203,7 @@ stored-stores (b ∷ bs) bytes l =
       ap (λ r. take 16 bytes ++ r) (ih .2) ∙ take-append-drop 16 bytes,
     )
 
--- the bytes are as many as the names ask for
+-- there are sixteen bytes for each block listed
 length-sent : (ss : List Store) → Each (Whole 16) ss → length (storedBytes ss) ≡ 16 * length (blocksOf ss)
 length-sent ss h = omega (arith, length-stored ss h, length-map ss (blockNumber 16))
 

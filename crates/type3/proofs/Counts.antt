@@ -41,7 +41,7 @@ module _ (i m : List ℕ) where
       go true q = absurd (omega (arith, touched-most i m b q))
       go false q = rw (ne-eqb b 0 (λ e. omega arith), q)
 
--- the blocks written between block 0's two commands are k
+-- k blocks are written between block 0's two commands
 between-count : (i m : List ℕ) → HasRoom i m → counted (between (plan i m)) 0 (length i / 16) ≡ blocksFor (length m)
 between-count i m r =
     counted-run (between (plan i m)) 1 (blocksFor (length m)) (length i / 16) (omega (arith, inside i m r))

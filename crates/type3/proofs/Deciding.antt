@@ -1,4 +1,4 @@
--- What writing answers before the list is laid: reading's refusal, then 9 to 11 by the attributes, else the plan.
+-- What writing to a Type 3 tag answers before the list is laid: reading's refusal, then 9 to 11, else the plan.
 -- Assumes nothing.
 use mathlib.Core.Path.{_≡_, refl, sym, ap, _∙_}
 use mathlib.Core.Bool.{Bool, true, false, not, cond}

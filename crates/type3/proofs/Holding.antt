@@ -1,4 +1,4 @@
--- What a Type 3 tag holds, by what reading it answers and shows: a message is never interrupted, and no gathering buffer matters.
+-- What a Type 3 tag holds is what reading answers and shows. Its message is never interrupted, so no gathering buffer matters.
 -- Assumes nothing.
 use mathlib.Core.Path.{_≡_, refl, sym, ap}
 use mathlib.Core.Bool.{false}
@@ -24,7 +24,7 @@ plain i p e = go (announce i) e
     go (announced zero) f = let q : without empty (mayWrite i) ≡ p = cc in ap (λ x. x .interrupted) (sym q)
     go (announced (suc k)) f = let q : withMessage (suc k) i (mayWrite i) ≡ p = cc in ap (λ x. x .interrupted) (sym q)
 
--- reading does not look at the number: any eight bytes will do
+-- reading does not look at the IDm: any eight bytes will do
 pub held-read : (i before after : List ℕ) (a : Answer) (part : List ℕ)
     → a ≡ answerOf (length before) (reading i) → after ≡ gatheredInto before (reading i) → part ≡ shown i after a
     → heldBy a part ≡ heldOf (reading i)

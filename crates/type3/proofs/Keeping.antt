@@ -1,4 +1,5 @@
--- Which bytes a Type 3 tag protects: those outside the range from WriteFlag to the end of the message's blocks, and RWFlag in it.
+-- Which bytes of a Type 3 tag are protected. They are those outside the range from WriteFlag to the end of the message's blocks,
+-- and RWFlag inside it.
 -- Assumes nothing.
 use mathlib.Core.Path.{_≡_, sym, ap, _∙_}
 use mathlib.Core.Bool.{Bool, true, false, not, _&&_, _||_, and-true, and-false}
@@ -36,7 +37,7 @@ module _ (i j : List ℕ) (n stop : ℕ) (is : stop ≡ 16 + 16 * blocksFor n) (
   within : (a : ℕ) → 11 ≤ a → a < stop → p a ≡ false
   within a l u = rw (ne-eqb 9 a (λ e. omega arith), le-leb 11 a l, lt-ltb a (16 + 16 * blocksFor n) (omega arith))
 
-  -- of the range, RWFlag alone
+  -- inside the range only RWFlag is compared
   in-range : equalAt p i j (run 9 (stop - 9)) ≡ eqb (byte j 10) (byte i 10)
   in-range =
       let k = stop - 11 in

@@ -1,5 +1,5 @@
--- Type 3 has the laws of a type of tag, so that demand 3 holds of it. What a plan and a command go by are bytes of block 0
--- that writing keeps; the blocks written are at most Nmaxb, so that our commands are well formed.
+-- Type 3 obeys the laws of a type of tag, so demand 3 holds for it. What a plan sets and how a command is read use only those
+-- bytes of block 0 that writing keeps. The blocks written are at most Nmaxb; therefore our commands are well formed.
 -- Assumes nothing.
 use mathlib.Core.Path.{_≡_, refl, sym, ap, _∙_}
 use mathlib.Core.Bool.{true}

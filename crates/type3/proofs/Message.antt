@@ -93,7 +93,7 @@ passes-reads i e = rw e (go (eqb (byte i 9) 0x0F) (attributeInformation i .ln))
     go false zero = (without empty (mayWrite i), refl)
     go false (suc n) = (withMessage (suc n) i (mayWrite i), refl)
 
--- and one that is refused has failed one of them: 1 to 5, or 7
+-- a tag that is refused has failed one of them, so its refusal is one of reading's, 1 to 8
 pub numbered : (i : List ℕ) (r : ℕ) → reading i ≡ unreadable r → OfReading r
 numbered i r e = go (firstOf (attributeChecks (length i) (attributeInformation i))) refl
   where
@@ -130,7 +130,7 @@ held-open j n c e q z = rw (all-fine (attributeChecks (length j) (attributeInfor
 
 -- ---- a tag that reads
 
--- of a reading, what it says of writing
+-- whether a tag that reads is writable
 writable-as : (w : Bool) (i : List ℕ) (v : Announced) (p : Report) → readingOf w i v ≡ reads p → p .writable ≡ w
 writable-as w i (refuse r) p e = absurd (nope (cc))
 writable-as w i busy p e = let q : without being-written w ≡ p = cc in ap (λ x. x .writable) (sym q)

@@ -1,4 +1,4 @@
--- The answer of reading a Type 3 tag: what its attributes say.
+-- What reading a Type 3 tag answers is what its attribute information says.
 -- Assumes nothing.
 use mathlib.Core.Path.{_≡_, refl, sym, ap}
 use mathlib.Core.Bool.{Bool, true, false, cond}
@@ -40,7 +40,7 @@ first-passed i e = rw e
 pub first-failed : (i : List ℕ) → imageLength (length i) ≡ false → fault 1 ≡ firstOf (attributeChecks (length i) (attributeInformation i))
 first-failed i e = rw e
 
--- what is known where there is none
+-- what is known of an image that passes every test
 module _ (i : List ℕ) (e : firstOf (attributeChecks (length i) (attributeInformation i)) ≡ fine) where
   passes : Passes i
   passes = fine-all (attributeChecks (length i) (attributeInformation i)) e
@@ -62,7 +62,7 @@ module _ (i : List ℕ) (e : firstOf (attributeChecks (length i) (attributeInfor
 pub answer-refused : (i : List ℕ) (r : ℕ) → firstOf (attributeChecks (length i) (attributeInformation i)) ≡ fault r → answerOf 0 (reading i) ≡ refusal r
 answer-refused i r e = ap (answerOf 0) (unread i r e)
 
--- the attributes say the rest
+-- the attribute information says the rest
 pub answer-known : (i : List ℕ) (a : AttributeInformation) → firstOf (attributeChecks (length i) (attributeInformation i)) ≡ fine → Attests i a
     → answerFor a ≡ answerOf 0 (reading i)
 unfolding reading announceBy

@@ -1,4 +1,4 @@
--- What a reading says can be shown: without a message there are no bytes, and a message is a part of the image.
+-- What the reading of a Type 3 tag can show: no bytes without a message, and a message as a part of the image.
 -- Assumes nothing.
 use mathlib.Core.Path.{_≡_, refl, sym, ap, _∙_}
 use mathlib.Core.Bool.{Bool, true, false}

@@ -1,6 +1,6 @@
--- What writing sets on a Type 3 tag: with block 0 closed the tag holds none, whatever its other blocks hold; the new image
--- reads as the message; and refusal 11 is exact. A message that does not fit is held by no image of equal length with the
--- same bytes 0 to 8 and 10, and one that fits is held by the new image, which is such an image.
+-- What a Type 3 tag holds while it is written and after, and why refusal 11 is exact. With block 0 closed the tag holds no message,
+-- whatever its other blocks hold; the new image reads as the message. A message that does not fit is held by no image of equal
+-- length with the same bytes 0 to 8 and 10. One that fits is held by the new image, which is such an image.
 -- Assumes nothing.
 use mathlib.Core.Path.{_≡_, refl, sym, ap, _∙_}
 use mathlib.Core.Bool.{Bool, true, false, not, _||_, false≢true}
@@ -107,7 +107,7 @@ length-body m =
     let rest = 16 * blocksFor (length m) - length m in
     omega (arith, length-append m (replicate rest 0x00), length-replicate {A = ℕ} rest 0x00)
 
--- of six tests and a rest that all fail, the three that closing sets
+-- if six tests and a rest all fail, so do the three for the bytes that closing sets
 closing : (b9 b11 b12 b13 b14 b15 b : Bool) → not (b9 || (b11 || (b12 || (b13 || (b14 || (b15 || b)))))) ≡ true → not (b9 || (b14 || (b15 || false))) ≡ true
 closing true b11 b12 b13 b14 b15 b e = e
 closing false true b12 b13 b14 b15 b e = absurd (false≢true e)
@@ -132,7 +132,7 @@ module _ (i m : List ℕ) where
       rw (ne-eqb 9 k (omega arith), ne-eqb 11 k (omega arith), ne-eqb 12 k (omega arith), ne-eqb 13 k (omega arith), ne-eqb 14 k (omega arith), ne-eqb 15 k (omega arith))
       (above-unset hi (run 16 (16 * blocksFor (length m))) (body m) 15 k (above-run (16 * blocksFor (length m)) 15 hi (omega arith)) (omega arith))
 
-  -- so a tag that keeps what is protected agrees
+  -- so a tag that keeps the protected bytes agrees with the tag handed in
   pub kept-agrees : (j : List ℕ) → 16 ≤ length i → ((a : ℕ) → a < length i → protected (plan i m) a ≡ true → byte j a ≡ byte i a) → Agrees j i
   kept-agrees j l h k e = h k (omega (arith, steady-is k e .0)) (steady-kept k e)
 

@@ -1,4 +1,4 @@
--- The memory of a Type 3 tag: blocks of 16 bytes, of which block 0 holds the attributes. Byte 0 is the version, 1 Nbr, 2 Nbw,
+-- The memory of a Type 3 tag: blocks of 16 bytes. Block 0 is the attribute information block: byte 0 is the version, 1 Nbr, 2 Nbw,
 -- 3 and 4 Nmaxb, 5 to 8 reserved, 9 WriteFlag, 10 RWFlag, 11 to 13 Ln, 14 and 15 the sum of bytes 0 to 13; high byte first.
 -- Assumes nothing.
 use mathlib.Core.Bool.{Bool, not, _&&_, _||_}
@@ -10,7 +10,7 @@ use Rattle.tag.specs.Refusals.{image-size, not-ndef, unknown-version, bad-acces
 use Rattle.tag.specs.Checks.{Check, check}
 use Rattle.tag.specs.Version.{knownVersion}
 
--- the attributes as numbers
+-- the attribute information: the fields of block 0 as numbers
 pub record AttributeInformation : Type 0 where
   pub version : ℕ
   pub nbr : ℕ
@@ -54,7 +54,7 @@ flagsDefined a =
     && (eqb (a .rw-flag) 0x00 || eqb (a .rw-flag) 0x01)
     && not (eqb (a .nbr) 0)
 
--- refusals 1 to 5 and 7, by the image's length and the attributes; 7 whatever WriteFlag says
+-- refusals 1 to 5 and 7, by the image's length and the attribute information; 7 whatever WriteFlag says
 abbrev pub attributeChecks : ℕ → AttributeInformation → List Check
 attributeChecks n a =
     check (imageLength n) image-size

@@ -1,6 +1,6 @@
--- Type 3's write command, called Update in the NFC Forum's paper, as bytes: its code 08h; the eight-byte manufacturer number
--- (IDm); 01h, the number of services; 09h 00h, the service's code, low byte first; the block count b; the block list,
--- an element a block; 16·b bytes. The codec is told our IDm, Nbw and Nmaxb.
+-- Type 3's write command, called Update in the NFC Forum's paper, as bytes. They are its code 08h; the IDm, eight bytes; 01h, the
+-- number of services; 09h 00h, the service's code, low byte first; the block count b; the block list, an element for each block;
+-- and 16·b bytes of block data. The codec takes the IDm, Nbw and Nmaxb.
 -- Assumes nothing.
 use mathlib.Core.Bool.{Bool, true, not, _&&_, cond}
 use mathlib.Core.List.{List, [], _∷_, _++_, map}
@@ -60,7 +60,7 @@ opening idm = 0x08 ∷ idm ++ 0x01 ∷ 0x09 ∷ 0x00 ∷ []
 abbrev pub commandBytes : List ℕ → List ℕ → List ℕ → List ℕ
 commandBytes idm bs bytes = opening idm ++ length bs ∷ blockListBytes bs ++ bytes
 
--- these blocks and their bytes: 20, then 12, else the number of bytes
+-- encodes these blocks and their bytes: 20, then 12, else the number of bytes
 abbrev pub encodeBy : List ℕ → ℕ → ℕ → List ℕ → List ℕ → ℕ → Output
 encodeBy idm nbw nmaxb bs bytes room =
     cond (wellListed nbw nmaxb bs) (fitted room (13 + 18 * length bs) (commandBytes idm bs bytes)) (refused-output malformed-command)
@@ -102,6 +102,6 @@ storedBytes (s ∷ ss) = s .bytes ++ storedBytes ss
 abbrev pub encoded : List ℕ → List Store → List ℕ
 encoded idm ss = commandBytes idm (map (λ s. s .at / 16) ss) (storedBytes ss)
 
--- how many bytes a command takes, by its own count
+-- how many bytes a command takes, by its block count
 abbrev pub span : List ℕ → ℕ
 span bytes = 13 + 18 * byte bytes 12

@@ -26,7 +26,7 @@ announceBy n a = announceAfter a (firstOf (attributeChecks n a))
 abbrev pub announce : List ℕ → Announced
 announce i = announceBy (length i) (attributeInformation i)
 
--- without a message, a message of Ln bytes from block 1; a Type 3 message is never interrupted
+-- the report without a message, and with a message of n bytes from block 1; a Type 3 message is never interrupted
 abbrev pub without : Content → Bool → Report
 without content w = record { content = content; bytes = []; address = 0; interrupted = false; writable = w }
 

@@ -1,4 +1,4 @@
--- Type 3 as a type of tag, for a caller who states our manufacturer number (IDm).
+-- Type 3 as a type of tag, for the IDm that the caller states.
 -- Assumes nothing.
 use mathlib.Core.List.{List}
 use Prim.Native.Nat.{ℕ}
@@ -9,7 +9,7 @@ use Rattle.type3.specs.Message.{reading}
 use Rattle.type3.specs.Update.{fits, plan}
 use Rattle.type3.specs.Codec.{decode, commandOf, span, encoded}
 
--- commands go by Nbw and Nmaxb of the tag handed in
+-- commands are read by Nbw and Nmaxb of the tag handed in
 abbrev pub type3 : List ℕ → TagType
 type3 idm = record {
   reading = reading;

@@ -14,8 +14,8 @@ ghost use Rattle.tag.specs.Judge.{equalAt};
 ghost use Rattle.type3.specs.Update.{blocksFor};
 ghost use Rattle.type3.specs.Views.Kept.{setFor};
 
-// Does the tag `work` have the bytes of `image` but for those that writing a message of `n` bytes sets? Between WriteFlag and the end of
-// the message's blocks only RWFlag is not set.
+// Whether `work` equals `image` at every byte that writing a message of `n` bytes does not set. Between WriteFlag and the end of
+// the message's blocks, only RWFlag is not set.
 pub fn is_kept(image: &[u8], work: &[u8], n: usize) -> bool
     requires { ⌜ (16 + 16 * blocksFor n ≤ length (now image)) × (length (now image) ≤ 4096) × (length (now work) ≡ length (now image)) ⌝ }
     ensures { λ r. ⌜ r ≡ equalAt (λ a. not (setFor n a)) (now (image .entry)) (now (work .entry)) (run 0 (length (now (image .entry)))) ⌝ }

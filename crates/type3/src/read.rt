@@ -1,4 +1,4 @@
-// Reading a Type 3 tag: the tests of its attributes, in the order of their refusals, and what they say of a message.
+// Reading a Type 3 tag: the tests of its attribute information, in the order of their refusals, and what it says of a message.
 
 use tag::Address;
 use tag::Block;
@@ -26,13 +26,13 @@ ghost use Rattle.type3.specs.Views.AttributeInformation.{WholeBlocks, ch
 // The bytes of a block.
 pub const BLOCK_SIZE: usize = 16;
 
-// An image is one block at least.
+// An image has at least one block.
 const SHORTEST_IMAGE: usize = BLOCK_SIZE;
 
-// It has 256 blocks at most.
+// It has at most 256 blocks.
 pub const LONGEST_IMAGE: usize = 256 * BLOCK_SIZE;
 
-// The addresses of the attributes, from here to CHECKSUM. The version is at 0; Nmaxb and the checksum have two bytes, and Ln three.
+// The addresses of the fields, from here to CHECKSUM. The version is at 0; Nmaxb and the checksum have two bytes, and Ln three.
 const NBR: usize = 1;
 
 const NBW: usize = 2;
@@ -51,7 +51,7 @@ const LN_LOW: usize = LN + 1;
 // The sum of all bytes before it.
 const CHECKSUM: usize = 14;
 
-// What block 0 says of a tag that passes the tests.
+// The attribute information that the code uses.
 pub struct AttributeInformation {
     pub nbw: usize,
     pub nmaxb: usize,
@@ -78,7 +78,7 @@ fn is_either(x: u8, a: u8, b: u8) -> bool
     x == b
 }
 
-// Have WriteFlag, RWFlag and Nbr values that are defined?
+// Whether WriteFlag, RWFlag and Nbr have defined values.
 fn flags_defined(image: &[u8]) -> bool
     requires { ⌜ 16 ≤ length (now image) ⌝ }
     ensures { λ r. ⌜ r ≡ flagsDefined (attributeInformation (now (image .entry))) ⌝ }
@@ -157,8 +157,8 @@ fn is_whole(n: usize) -> bool
     n <= LONGEST_IMAGE
 }
 
-// The first of the refusals 1 to 5 and 7; 0 if the tag passes all tests. A number alone: the attributes beside it would be handed
-// on through memory, and `said` takes those that are asked for from block 0 again in less time.
+// The first of the refusals 1 to 5 and 7; 0 if the tag passes all tests. It returns a number alone: the attribute information with
+// it would be returned through memory, and `said` reads what is needed from block 0 again in less time.
 pub fn fault(image: &[u8]) -> u8
     ensures { λ r. ⌜ faultAs r ≡ firstOf (attributeChecks (length (now (image .entry))) (attributeInformation (now (image .entry)))) ⌝ }
 {
@@ -187,8 +187,8 @@ pub fn said(image: &[u8]) -> AttributeInformation
     }
 }
 
-// The attributes, or the first of the refusals 1 to 5 and 7. `fault` and `said` in one, for writing and judging, which take more
-// time than an answer through memory.
+// The attribute information, or the first of the refusals 1 to 5 and 7: `fault` and `said` in one. Writing and judging use it; they
+// take more time than an answer through memory.
 pub fn attribute_information(image: &[u8]) -> Checked
     ensures is { λ r. ⌜ checkedAs r ≡ firstOf (attributeChecks (length (now (image .entry))) (attributeInformation (now (image .entry)))) ⌝ }
     ensures known { λ r. ⌜ Known (now (image .entry)) r ⌝ }
@@ -204,7 +204,7 @@ pub fn attribute_information(image: &[u8]) -> Checked
     Checked::Fine(information)
 }
 
-// What the attributes say of a message.
+// What the attribute information says of a message.
 fn report(a: AttributeInformation) -> Report
     ensures { λ r. ⌜ reportAs r ≡ answerFor a ⌝ }
 {
@@ -239,7 +239,7 @@ fn without(content: Content, writable: bool) -> Report
     }
 }
 
-// Reads a tag. A Type 3 message is never interrupted, so that there is nothing to gather.
+// Reads a tag. A Type 3 message is never interrupted, so there is nothing to gather.
 pub fn read(image: &[u8]) -> ReadAnswer
     ensures { λ r. ⌜ Read reading (now (image .entry)) [] r [] ⌝ }
 {
@@ -251,8 +251,8 @@ pub fn read(image: &[u8]) -> ReadAnswer
     ReadAnswer::Reads(report(information))
 }
 
-// The message as a part of the image; empty without one, after a refusal, and where the answer's numbers do not fit or it claims
-// to be interrupted.
+// The message as a part of the image. It is empty without a message, after a refusal, if the answer's numbers do not fit, and if
+// the answer claims that the message is interrupted.
 pub fn shown(image: &[u8], answer: ReadAnswer) -> &[u8]
     ensures { λ r. ⌜ Showed (now (image .entry)) [] answer (now r) ⌝ }
 {

@@ -1,4 +1,4 @@
-// Where a message goes on a Type 3 tag: refusals 9 to 11, and how many blocks it takes.
+// Room for a message on a Type 3 tag: refusals 9 to 11, and how many blocks the message takes.
 
 use crate::read;
 use crate::read::AttributeInformation;
@@ -17,7 +17,7 @@ pub fn blocks_for(n: usize) -> usize
     n / read::BLOCK_SIZE + 1
 }
 
-// Refusals 9, 10 and 11, in this order, for a message of `n` bytes; 0 where it fits, in blocks 1 and on.
+// Refusals 9, 10 and 11, in this order, for a message of `n` bytes; 0 if it may be written, to blocks from 1 on.
 pub fn refusal(a: AttributeInformation, n: usize) -> u8
     ensures { λ r. ⌜ r ≡ refusalFor a n ⌝ }
 {

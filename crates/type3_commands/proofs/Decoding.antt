@@ -1,4 +1,4 @@
--- Decoding in place: framed bytes whose blocks may be named are a command, and nothing else is.
+-- Decoding in place: framed bytes whose blocks may be listed are a command, and nothing else is.
 -- Assumes nothing.
 use mathlib.Core.Path.{_≡_, refl, sym, ap, _∙_}
 use mathlib.Core.Bool.{Bool, true, false, _&&_}
@@ -24,7 +24,7 @@ use Rattle.type3_commands.proofs.Numbering.{numbers-back}
 use Rattle.type3_commands.proofs.Naming.{length-numbers}
 use Rattle.type3_commands.proofs.Encoding.{count-bounds}
 
--- ---- the names
+-- ---- the block list
 
 well-begun-block-list : (bs r : List ℕ) → wellBegun (length bs) (blockListBytes bs ++ r) ≡ true
 unfolding wellBegun
@@ -36,7 +36,7 @@ unfolding numbers
 numbers-block-list [] r = refl
 numbers-block-list (b ∷ bs) r = ap (λ l. b ∷ l) (numbers-block-list bs r)
 
--- names with their marks are their numbers' names
+-- elements that begin with 80h are the block list of their numbers
 block-list-numbers : (k : ℕ) (bytes : List ℕ) → wellBegun k bytes ≡ true → 2 * k ≤ length bytes
     → bytes ≡ blockListBytes (numbers k bytes) ++ drop (2 * k) bytes
 unfolding wellBegun numbers
@@ -51,7 +51,7 @@ block-list-numbers (suc k) (t ∷ b ∷ r) h l =
 -- ---- what a frame says
 
 module _ (idm : List ℕ) (nbw : ℕ) (bytes : List ℕ) (h : framed idm nbw bytes ≡ true) where
-  -- how many blocks it may have, and how many bytes they ask for
+  -- whether the count is allowed, and whether the length is the one that the count asks for
   abbrev allowed : Bool
   allowed = leb 1 (byte bytes 12) && leb (byte bytes 12) (blocksPerCommand nbw)
 
@@ -165,7 +165,7 @@ undecoded-is idm nbw nmaxb all r e = go (same (take 12 all) (opening idm)) refl
     go true q = undecoded-by nbw nmaxb (blockListOf (byte all 12) (drop 13 all)) r (rw q at e)
 
 module _ (idm : List ℕ) (nbw nmaxb : ℕ) (all : List ℕ) where
-  -- whether a command decodes, by its tests
+  -- bytes decode exactly if they are framed and their blocks may be listed
   pub is-command-by : length idm ≡ 8
       → isCommand (decode idm nbw nmaxb all) ≡ framed idm nbw all && listable nmaxb (numbers (byte all 12) (drop 13 all))
   is-command-by n = go (decode idm nbw nmaxb all) refl (framed idm nbw all) refl (listable nmaxb (numbers (byte all 12) (drop 13 all))) refl
@@ -203,12 +203,12 @@ module _ (idm : List ℕ) (nbw nmaxb : ℕ) (all : List ℕ) where
           let n = encode-decode idm nbw nmaxb all bs bytes q in
           (decode-framed idm nbw all (k .0) nmaxb (n .3) (k .1), k .0, k .1)
 
--- a command by its parts
+-- commands with equal parts are equal
 pub same-command : {n m : ℕ} {x u : List Block} {y v : List ℕ} → n ≡ m → x ≡ u → y ≡ v
     → _≡_ {A = Command} (record { count = n; blocks = x; bytes = y }) (record { count = m; blocks = u; bytes = v })
 same-command p q r = λ i. record { count = p i; blocks = q i; bytes = r i }
 
--- of a command's arrays its count takes what was carried
+-- the used part of a command's arrays is what the bytes carried
 pub carried-viewed : (bytes : List ℕ) → Framed bytes
     → (let d = commandAs (carried bytes) in decoded (take (d .count) (blockNumbers (d .blocks))) (take (16 * d .count) (d .bytes))) ≡ carried bytes
 carried-viewed bytes f =

@@ -1,4 +1,5 @@
--- What the code of encoding goes by: the opening byte by byte, how many blocks a command may name, a command written, the three answers.
+-- Laws for the code that encodes a command. They are about the opening byte by byte, how many blocks a command may list, a command
+-- as it is written, and the three answers.
 -- Assumes nothing.
 use mathlib.Core.Path.{_≡_, refl, sym, ap, _∙_}
 use mathlib.Core.Bool.{Bool, true, false, _&&_, and-false}
@@ -40,7 +41,7 @@ opens-by bytes idm h n =
     ∙ ap (λ q. eqb (byte bytes 0) 0x08 && q)
     (same-append (take 8 (drop 1 bytes)) (byte bytes 9 ∷ byte bytes 10 ∷ byte bytes 11 ∷ []) idm (0x01 ∷ 0x09 ∷ 0x00 ∷ []) e)
 
--- ---- how many blocks a command may name
+-- ---- how many blocks a command may list
 
 pub record CountBounds (nbw n : ℕ) : Type 0 where
   pub some : 1 ≤ n
@@ -66,7 +67,7 @@ well-listed-by nbw nmaxb n bs h = go (leb n (length bs)) refl
         let k : leb n (blocksPerCommand nbw) ≡ false = lt-leb n (blocksPerCommand nbw) (omega (arith, leb-false n (length bs) q)) in
         rw (k, and-false (leb 1 n))
 
--- ---- a command written: the opening with the count, the names, the blocks' bytes
+-- ---- a command written: the opening with the count, the block list, the block data
 
 pub command-stored : (l idm bs bytes : List ℕ) → length idm ≡ 8 → length bytes ≡ 16 * length bs → 13 + 18 * length bs ≤ length l
     → sets (sets (sets l 0 (opening idm ++ (length bs ∷ []))) 13 (blockListBytes bs)) (13 + 2 * length bs) bytes
@@ -96,7 +97,7 @@ encode-unlisted idm nbw nmaxb n bs bytes room h = go (leb n (length bs)) refl
         rw (q, k)
 
 module _ (idm : List ℕ) (nbw nmaxb n : ℕ) (bs bytes : List ℕ) (room : ℕ) where
-  -- the blocks used, and their bytes
+  -- the length of the command for the first n blocks
   length-used : length idm ≡ 8 → n ≤ length bs → 16 * n ≤ length bytes
       → length (commandBytes idm (take n bs) (take (16 * n) bytes)) ≡ 13 + 18 * n
   length-used e h s =
@@ -123,7 +124,7 @@ module _ (idm : List ℕ) (nbw nmaxb n : ℕ) (bs bytes : List ℕ) (room : ℕ)
       = le-leb (length (commandBytes idm (take n bs) (take (16 * n) bytes))) room (omega (arith, length-used e l (omega arith))) in
       rw (le-leb n (length bs) l, w, k) (ap (λ m. output (13 + 18 * m) (commandBytes idm (take n bs) (take (16 * n) bytes))) (length-take-le n bs l))
 
--- what encoding goes on with: the first n blocks are at most eight, and a command may name them
+-- what is known once the blocks are tested: the first n are at most eight, and a command may list them
 pub record Used (nmaxb n : ℕ) (bs : List ℕ) : Type 0 where
   pub few : n ≤ 8
   pub inside : length (take n bs) ≡ n

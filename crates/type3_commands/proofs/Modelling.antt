@@ -30,7 +30,7 @@ module _ (n : ℕ) (idm : List ℕ) (nbw nmaxb : ℕ) (bytes : List ℕ) where
   pub decode-inside : nmaxb < n / 16 → decodeFor n idm nbw nmaxb bytes ≡ decode idm nbw nmaxb bytes
   decode-inside l = rw (lt-ltb nmaxb (n / 16) l)
 
-  -- by the Nbw and the Nmaxb of a tag, which reach no further than the image
+  -- with Nbw and Nmaxb of a tag whose blocks 0 to Nmaxb lie in the image
   pub decode-by : (i : List ℕ) → nbw ≡ byte i 2 → nmaxb ≡ nmaxbOf i → 16 * (1 + nmaxb) ≤ n
       → decodeFor n idm nbw nmaxb bytes ≡ decode idm (byte i 2) (nmaxbOf i) bytes
   decode-by i p q l =
@@ -50,7 +50,7 @@ formed-is : (d : Decoded) → formed (commandOf d) ≡ isCommand d
 formed-is (undecoded r) = refl
 formed-is (decoded bs bytes) = refl
 
--- by a tag of the same length as the one handed in, whose Nbw and Nmaxb they are
+-- a command applied to a tag j as long as the tag i handed in, with Nbw and Nmaxb of i
 pub applied : (idm i j bytes : List ℕ) → length j ≡ length i → (nbw nmaxb : ℕ) → nbw ≡ byte i 2 → nmaxb ≡ nmaxbOf i → 16 * (1 + nmaxb) ≤ length i
     → (r : Bool) (after : List ℕ) → r ≡ isCommand (decodeFor (length j) idm nbw nmaxb bytes)
     → after ≡ tagAfter j (commandOf (decodeFor (length j) idm nbw nmaxb bytes)) → Applied (type3 idm) i j bytes r after

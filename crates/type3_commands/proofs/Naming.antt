@@ -1,4 +1,4 @@
--- What the loops over a command's blocks and their names go by: one block more, one name more.
+-- Laws for the loops over a command's blocks and its block list: one block more, one element more.
 -- Assumes nothing.
 use mathlib.Core.Path.{_≡_, refl, sym, ap, _∙_}
 use mathlib.Core.Bool.{true, false, not, _&&_, _||_}
@@ -31,7 +31,7 @@ has-more b bs i h n = has-at b bs i h ∙ rw (ne-eqb b (byte bs i) n)
 pub has-end : (b : ℕ) (bs : List ℕ) (i : ℕ) → length bs ≤ i → has b (drop i bs) ≡ false
 has-end b bs i h = rw (drop-of-length-le bs h)
 
--- ---- blocks that may be named together
+-- ---- blocks that may be listed together
 
 pub listable-at : (nmaxb : ℕ) (bs : List ℕ) (i : ℕ) → i < length bs
     → listable nmaxb (drop i bs)
@@ -50,13 +50,13 @@ listable-each nmaxb (b ∷ bs) h zero l =
 listable-each nmaxb (b ∷ bs) h (suc i) l =
     listable-each nmaxb bs (and-three (leb b nmaxb && leb b 255) (not (has b bs)) (listable nmaxb bs) h .2) i (omega arith)
 
--- ---- names written
+-- ---- the block list written
 
 pub block-list-append : (xs ys : List ℕ) → blockListBytes (xs ++ ys) ≡ blockListBytes xs ++ blockListBytes ys
 block-list-append [] ys = refl
 block-list-append (x ∷ xs) ys = ap (λ r. 0x80 ∷ x ∷ r) (block-list-append xs ys)
 
--- one turn of writing names
+-- one turn of writing elements
 pub block-list-more : (l bs : List ℕ) (i at : ℕ) → i < length bs → at ≡ 13 + 2 * i
     → set (set (sets l 13 (blockListBytes (take i bs))) at 0x80) (at + 1) (byte bs i) ≡ sets l 13 (blockListBytes (take (i + 1) bs))
 block-list-more l bs i at h e =
@@ -66,7 +66,7 @@ block-list-more l bs i at h e =
     (sets-append (blockListBytes (take i bs)) (0x80 ∷ byte bs i ∷ []) l 13 ∙ rw (n, add-one at))
     )
 
--- ---- names read
+-- ---- the block list read
 
 pub well-begun-more : (k : ℕ) (bytes : List ℕ) (at : ℕ) → 0 < k → byte bytes at ≡ 0x80
     → wellBegun k (drop at bytes) ≡ wellBegun (k - 1) (drop (at + 2) bytes)

@@ -1,4 +1,4 @@
--- Blocks and their numbers: a command holds blocks, and its bytes name them by number.
+-- Blocks and their numbers: a command holds blocks, and its bytes list their numbers.
 -- Assumes nothing.
 use mathlib.Core.Path.{_≡_, refl, ap}
 use mathlib.Core.List.{List, [], _∷_}

@@ -62,7 +62,7 @@ unfolding numbers
 puts-end j bytes b k h = let e : b - k ≡ 0 = omega arith in rw e
 
 module _ (idm : List ℕ) (nbw nmaxb : ℕ) (bytes : List ℕ) (h : isCommand (decode idm nbw nmaxb bytes) ≡ true) where
-  -- a well-formed command's blocks lie in the data area
+  -- a well-formed command's blocks lie in an image that has blocks 0 to Nmaxb
   pub command-storable : (n : ℕ) → 16 * (1 + nmaxb) ≤ n → Storable bytes n
   command-storable n l =
       let d = decode-carried idm nbw nmaxb bytes h in
@@ -83,7 +83,7 @@ module _ (idm : List ℕ) (nbw nmaxb : ℕ) (bytes : List ℕ) (h : isCommand (d
             listable-each nmaxb (numbers (byte bytes 12) (drop 13 bytes)) q k (omega (arith, length-numbers (byte bytes 12) (drop 13 bytes))),
           )
 
-  -- and it stores what it carries in place
+  -- and it stores what its bytes carry in place
   pub command-stores : commandOf (decode idm nbw nmaxb bytes) ≡ stores (storesFrom bytes (byte bytes 12) 0)
   command-stores =
       let d = decode-carried idm nbw nmaxb bytes h in

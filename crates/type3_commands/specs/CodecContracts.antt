@@ -1,4 +1,4 @@
--- The code's command and its answer of `decode` as the definitions have them, and the contracts of the codec as relations.
+-- The code's command and the answer of `decode` as the definitions have them, and the codec's contracts as relations.
 -- Assumes nothing.
 use mathlib.Core.Bool.{cond}
 use mathlib.Core.Path.{_≡_}
@@ -29,7 +29,7 @@ decodedAs d =
     (decoded (take (d .command .count) (blockNumbers (d .command .blocks))) (take (16 * d .command .count) (d .command .bytes)))
     (undecoded (refusalAt (d .refusal) 0))
 
--- the command that was read; what it does not use of its arrays is zero, and beside a refusal all of it is
+-- the command that was read: unused entries of its arrays are zero, and with a refusal all of it is zero
 abbrev pub commandAs : Decoded → Command
 commandAs (undecoded r) = record { count = 0; blocks = blocksOf (replicate 8 0); bytes = replicate 128 0 }
 commandAs (decoded bs bytes) =
@@ -39,10 +39,10 @@ commandAs (decoded bs bytes) =
       bytes = overwrite bytes (replicate 128 0);
     }
 
--- `encode`, given our IDm, Nbw, Nmaxb, a command and a buffer, answers r and leaves the buffer as out
+-- `encode`, given the IDm, Nbw, Nmaxb, a command and a buffer, answers r and leaves the buffer as out
 abbrev pub EncodedTo : List ℕ → ℕ → ℕ → Command → List ℕ → CountAnswer → List ℕ → Type 0
 EncodedTo idm nbw nmaxb c buffer r out = PutOut (encode idm nbw nmaxb (c .count) (blockNumbers (c .blocks)) (c .bytes)) buffer r out
 
--- `decode`, given our IDm, Nbw, Nmaxb and bytes, answers d
+-- `decode`, given the IDm, Nbw, Nmaxb and bytes, answers d
 abbrev pub DecodedTo : List ℕ → ℕ → ℕ → List ℕ → code.Decoded → Type 0
 DecodedTo idm nbw nmaxb bytes d = (decodedAs d ≡ decode idm nbw nmaxb bytes) × (d .command ≡ commandAs (decode idm nbw nmaxb bytes))

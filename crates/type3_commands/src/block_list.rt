@@ -1,5 +1,5 @@
-// The block list of a command: an element for each block, 80h and the block's number, a byte. The loops work with the number inside a
-// block.
+// The block list of a command: an element for each block, of two bytes, 80h and the block's number. The loops work with numbers,
+// not with `Block`s.
 
 use crate::commands;
 use tag::Block;
@@ -17,7 +17,7 @@ ghost use Rattle.type3_commands.specs.CodecContracts.{blockNumbers, bloc
 // The bytes of a block list element.
 pub const ELEMENT: usize = 2;
 
-// Where the number of the first block stands: in its element, behind 80h.
+// Where the number of the first block is: in its element, after 80h.
 pub(crate) const FIRST_NUMBER: usize = commands::FRONT + 1;
 
 // The element of a block.
@@ -43,7 +43,7 @@ pub fn block_numbers(blocks: [Block; commands::MOST_BLOCKS]) -> [usize; commands
     ]
 }
 
-// The blocks of a command by their numbers, as they came in.
+// The blocks that have these numbers.
 pub fn blocks_of(numbers: [usize; commands::MOST_BLOCKS]) -> [Block; commands::MOST_BLOCKS]
     ensures { λ r. ⌜ r ≡ blocksOf numbers ⌝ }
 {
@@ -94,7 +94,7 @@ fn rises(blocks: &[usize], most: usize) -> bool
     true
 }
 
-// Compares each block with all that follow it.
+// The same as `listable`, for blocks in any order: compares each block with all that follow it.
 fn listable_in_any_order(blocks: &[usize], nmaxb: usize) -> bool
     ensures { λ r. ⌜ r ≡ listable nmaxb (now (blocks .entry)) ⌝ }
 {
@@ -115,8 +115,8 @@ fn listable_in_any_order(blocks: &[usize], nmaxb: usize) -> bool
     true
 }
 
-// Whether each block is at most Nmaxb and a byte, and none is listed twice. Most commands list their blocks in rising order, and then
-// one comparison a block is enough.
+// Whether each block is at most Nmaxb and a byte, and none is listed twice. Most commands list their blocks in rising order, and
+// then one comparison a block is enough.
 pub(crate) fn listable(blocks: &[usize], nmaxb: usize) -> bool
     ensures { λ r. ⌜ r ≡ listable nmaxb (now (blocks .entry)) ⌝ }
 {

@@ -1,5 +1,5 @@
-// The codec of Type 3's write command (Update): 08h, our manufacturer number (IDm), one service and its code, the block count, the block
-// list and sixteen bytes for each block. It is told our IDm, Nbw and Nmaxb.
+// The codec of Type 3's write command (Update): 08h, the IDm, one service and its code, the block count, the block list, and
+// sixteen bytes for each block. It takes the IDm, Nbw and Nmaxb.
 
 use crate::Command;
 use crate::block_list;
@@ -23,7 +23,7 @@ ghost use Rattle.type3_commands.specs.Views.InPlace.{numbers, framed, ca
 ghost use Rattle.type3_commands.specs.CodecContracts.{commandAs, EncodedTo, DecodedTo};
 ghost use Rattle.type3_commands.specs.Views.Framing.{isCommand, PutAsked, Framed};
 
-// A command may list so many blocks.
+// The most blocks that a command may list.
 pub const MOST_BLOCKS: usize = 8;
 
 // Where a command has its block count.
@@ -35,7 +35,7 @@ pub const FRONT: usize = COUNT + 1;
 // The bytes that a command has for each block: its list element and its data.
 pub const PER_BLOCK: usize = block_list::ELEMENT + read::BLOCK_SIZE;
 
-// The data of as many blocks as a command may list.
+// The most bytes of block data in a command.
 pub const MOST_BYTES: usize = MOST_BLOCKS * read::BLOCK_SIZE;
 
 // The answer of `decode`: a refusal with an empty command, or 0 and the command.
@@ -44,7 +44,7 @@ pub struct Decoded {
     pub command: Command,
 }
 
-// Whether a command may list so many blocks.
+// Whether a command may list `count` blocks.
 fn countable(count: usize, nbw: usize) -> bool
     ensures { λ r. ⌜ r ≡ leb 1 count && leb count (blocksPerCommand nbw) ⌝ }
 {
@@ -146,7 +146,7 @@ pub fn encode(
     encode_parts(count, &blocks, &blockdata, *idm, nbw, nmaxb, bytes)
 }
 
-// How many bytes of a list its first command takes, by the command's own count.
+// How many bytes of a list its first command takes, by the command's block count.
 pub fn span(list: &[u8]) -> usize
     ensures is { λ r. ⌜ r ≡ span (now (list .entry)) ⌝ }
     ensures small { λ r. ⌜ r < 4608 ⌝ }
@@ -177,7 +177,7 @@ fn opens(bytes: &[u8], idm: &[u8]) -> bool
     bytes[11] == 0x00
 }
 
-// Whether the bytes have a command's count, length, opening and block list; the blocks may still be wrong.
+// Whether the bytes have a command's count, length and opening, and 80h in each element; the blocks listed may still be wrong.
 fn is_framed(bytes: &[u8], idm: &[u8], nbw: usize) -> bool
     requires { ⌜ length (now idm) ≡ 8 ⌝ }
     ensures { λ r. ⌜ r ≡ framed (now (idm .entry)) nbw (now (bytes .entry)) ⌝ }

@@ -15,8 +15,8 @@ ghost use Rattle.type3_commands.specs.Views.Framing.{isCommand};
 ghost use Rattle.type3.specs.Type3.{type3};
 ghost use Rattle.type3_commands.specs.Views.Model.{decodeFor};
 
-// Stores what the command says, and answers whether it is well formed for this Nbw and this Nmaxb and blocks 0 to Nmaxb lie in
-// the image; nothing is stored if not.
+// Stores what the command says and answers true, if the command is well formed for this Nbw and this Nmaxb and blocks 0 to Nmaxb
+// lie in the image. Otherwise stores nothing and answers false.
 pub fn take_command(
     image: &mut [u8],
     idm: &[u8; 8],

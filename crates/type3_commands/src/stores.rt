@@ -1,4 +1,5 @@
-// What a well-formed command stores, taken from its bytes in place: block k's list element at 13 + 2k, its data behind the block list.
+// What a well-formed command stores, read from its bytes in place. The element of block k is at 13 + 2k, its data after the block
+// list.
 
 use crate::block_list;
 use crate::commands;
@@ -14,8 +15,8 @@ ghost use Rattle.tag.specs.Bytes.{byte};
 ghost use Rattle.tag.specs.Stores.{puts};
 ghost use Rattle.type3_commands.specs.Views.Model.{Storable, storesFrom};
 
-// Stores sixteen bytes of `from` in `to`. They go through an array of this function's own, which lies apart from both slices as the
-// compiler knows: it makes one load and one store of them.
+// Stores sixteen bytes of `from` in `to`. They go through a local array, which the compiler knows to lie apart from both slices; so
+// it copies them with one load and one store.
 fn store_sixteen(from: &[u8], f: usize, to: &mut [u8], at: usize)
     requires { ⌜ (f + 16 ≤ length (now from)) × (at + 16 ≤ length (now to)) ⌝ }
     ensures { λ _. ⌜ now (to .exit) ≡ sets (now (to .entry)) at (take 16 (drop f (now (from .entry)))) ⌝ }

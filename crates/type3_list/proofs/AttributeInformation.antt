@@ -1,4 +1,4 @@
--- The sum of the bytes of block 0 that writing keeps, and the lengths of the attribute block and its command.
+-- The sum of the bytes of block 0 that writing keeps, and the lengths of the attribute information block and its command.
 -- Assumes nothing.
 use mathlib.Core.Path.{_≡_, refl}
 use mathlib.Core.List.{List, [], _∷_}

@@ -18,17 +18,17 @@ use Rattle.type3_list.proofs.MessageBlocks.{length-blocks}
 pub times-more : (w t : ℕ) → w * (t + 1) ≡ w * t + w
 times-more w t = rw (add-one t) (omega arith)
 
--- a command of so many blocks moves the place on by its bytes
+-- a command of count blocks moves the place on by its length
 pub place-more : (k w t at count : ℕ) → at ≡ 13 * t + 18 * min (w * t) k → count ≡ min w (k - w * t)
     → at + (13 + 18 * count) ≡ 13 * (t + 1) + 18 * min (w * (t + 1)) k
 place-more k w t at count e f = rw (times-more w t, e, f) (omega arith)
 
--- and they fit where there is room for all commands
+-- and it fits where there is room for all commands
 pub place-fits : (k w t turns at count : ℕ) → at ≡ 13 * t + 18 * min (w * t) k → count ≡ min w (k - w * t) → t < turns
     → at + (13 + 18 * count) ≤ 13 * turns + 18 * k
 place-fits k w t turns at count e f l = rw (e, f) (omega arith)
 
--- before the last command there are blocks left
+-- before each of the t commands there are blocks left
 pub left-over : {k w t : ℕ} (s : ℕ) → Dealt k w t → s < t → w * s < k
 left-over {k} {w} {t} s d l =
     let m : w * suc s ≤ w * t = mul-le-mul-left w l in
@@ -54,7 +54,7 @@ dealt k w few some most =
         let one : 1 * k ≤ w * k = mul-le-mul-right k some in
         absurd (omega arith)
 
--- how long a part is, and a rest
+-- the length of a part, and of a rest
 pub length-part : (l : List ℕ) (s n : ℕ) → s + n ≤ length l → length (take (s + n - s) (drop s l)) ≡ n
 length-part l s n h = let e : s + n - s ≡ n = omega arith in rw e (length-take-le n (drop s l) (rw length-drop (omega arith)))
 

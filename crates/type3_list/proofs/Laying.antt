@@ -1,4 +1,4 @@
--- A command as the code lays it: its opening and count, the names of its blocks, their bytes.
+-- A command as the code lays it: its opening and count, its block list, its block data.
 -- Assumes nothing.
 use mathlib.Core.Path.{_≡_, sym, ap, _∙_}
 use mathlib.Core.List.{List, [], _∷_, _++_, append-assoc}
@@ -14,11 +14,11 @@ use Rattle.type3.specs.Codec.{blockListBytes, opening, commandBytes}
 use Rattle.type3.proofs.Codec.{length-opening, length-block-list}
 use Rattle.type3_commands.proofs.Naming.{block-list-append}
 
--- one name more
+-- one element more
 pub block-list-more : (bs : List ℕ) (j : ℕ) → j < length bs → blockListBytes (take (j + 1) bs) ≡ blockListBytes (take j bs) ++ (0x80 ∷ byte bs j ∷ [])
 block-list-more bs j l = rw (add-one j, take-suc bs j 0 l) (block-list-append (take j bs) (byte bs j ∷ []))
 
--- a command laid in three parts: its opening and count, the names of its blocks, their bytes
+-- a command laid in three parts: its opening and count, its block list, its block data
 pub lay-command : (idm bs bytes t o z y : List ℕ) (n : ℕ) → length idm ≡ 8 → length bs ≡ n → length bytes ≡ 16 * n → 13 + 18 * n ≤ length t
     → o ≡ (opening idm ++ (n ∷ [])) ++ drop 13 t
     → z ≡ blockListBytes bs ++ drop (2 * n) (take (length o - 13) (drop 13 o))

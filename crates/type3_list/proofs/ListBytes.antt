@@ -83,7 +83,7 @@ module _ (idm i m : List ℕ) (r : HasRoom i m) where
   block-command : (j : List ℕ) (flag n : ℕ) → take 16 j ≡ attributeInformationBlock i flag n → encoded idm (blockOf 16 j 0 ∷ []) ≡ attributeCommand idm i flag n
   block-command j flag n e = ap (commandBytes idm (0 ∷ [])) (append-nil (take 16 j) ∙ e)
 
-  -- its bytes; that Ln is as it was takes that its low bytes are bytes
+  -- its bytes; Ln comes back as it was because its two lower bytes are below 256
   pub list-bytes : (w t : ℕ) → w ≡ blocksPerCommand (byte i 2) → t ≡ (blocksFor (length m) + (w - 1)) / w → blocksFor (length m) ≤ 255
       → byte i 12 < 256 → byte i 13 < 256
       → listBytes (type3 idm) (plan i m) i ≡ listAs idm i m (attributeInformation i .ln) w t (run 1 (blocksFor (length m)))

@@ -24,7 +24,7 @@ length-filled part = length-take-le 16 (part ++ replicate 16 0x00) (simp (length
 pub whole-filled : (part : List ℕ) → 16 ≤ length part → take 16 part ≡ filled part
 whole-filled part l = sym (take-append-le 16 part (replicate 16 0x00) l)
 
--- so that of a whole block its sixteen bytes are enough
+-- so the sixteen bytes of a whole block are enough
 pub whole-part : (m : List ℕ) (a : ℕ) → a + 16 ≤ length m → filled (take 16 (drop a m)) ≡ filled (drop a m)
 whole-part m a l =
     let part = drop a m in
@@ -32,7 +32,7 @@ whole-part m a l =
     let sixteen : length (take 16 part) ≡ 16 = length-take-le 16 part enough in
     sym (whole-filled (take 16 part) (omega arith)) ∙ take-all 16 (take 16 part) (omega arith) ∙ whole-filled part enough
 
--- one that is not is stored over 00h
+-- a part of at most sixteen bytes is stored over 00h
 pub short-filled : (part : List ℕ) → length part ≤ 16 → sets (replicate 16 0x00) 0 part ≡ filled part
 short-filled part l =
     let n = length part in
@@ -80,7 +80,7 @@ blocks-more m bs j l =
     rw (add-one j, take-suc bs j 0 l)
     (blocks-append m (take j bs) (byte bs j ∷ []) ∙ ap (λ x. blocksBytes m (take j bs) ++ x) (append-nil (messageBlock m (byte bs j))))
 
--- bytes stored behind those laid
+-- bytes stored after those laid
 stored : (out p t y : List ℕ) (a : ℕ) → out ≡ p ++ drop a t → length p ≡ a → length y ≡ 16 → a + 16 ≤ length out → sets out a y ≡ (p ++ y) ++ drop (a + 16) t
 stored out p t y a q e n l =
     sets-eq y out a (omega arith)
@@ -88,7 +88,7 @@ stored out p t y a q e n l =
     ∙ ap (λ k. take a out ++ (y ++ drop (a + k) out)) n
     ∙ lay-more out p t a q e y 16
 
--- the next block stored behind those laid
+-- the next block stored after those laid
 pub block-stored : (m bs out t z : List ℕ) (j : ℕ) → j < length bs → out ≡ blocksBytes m (take j bs) ++ drop (16 * j) t → 16 * (j + 1) ≤ length out
     → z ≡ sets out (16 * j) (messageBlock m (byte bs j)) → z ≡ blocksBytes m (take (j + 1) bs) ++ drop (16 * (j + 1)) t
 block-stored m bs out t z j l q room e =
@@ -136,7 +136,7 @@ all-chosen m l =
 
 -- ---- whole blocks
 
--- one with another behind it
+-- a block with another after it
 early-whole : {m bs : List ℕ} → Chosen m bs → (j : ℕ) → j + 1 < length bs → 16 * byte bs j ≤ length m
 early-whole c j l = omega (arith, (c .rising) j l, (c .inside) (j + 1) l)
 

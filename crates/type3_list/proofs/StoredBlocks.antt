@@ -90,7 +90,7 @@ module _ (i m : List ℕ) (r : HasRoom i m) where
       ∙ ap (map (byte new)) (sym (take-all (length (body m)) (run 16 (16 * k)) (omega (arith, length-body m, length-run (16 * k) 16))))
       ∙ rest
 
-  -- so that each block is the message's
+  -- so each block is the message's
   pub new-at : (b : ℕ) → 0 < b → b ≤ blocksFor (length m) → take 16 (drop (16 * b) (newImage (plan i m) i)) ≡ messageBlock m b
   unfolding new
   new-at b l h =

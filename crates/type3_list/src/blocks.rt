@@ -11,8 +11,8 @@ ghost use lib.ListN.{length, take, drop};
 ghost use lib.Seq.{sets};
 ghost use Rattle.type3_list.specs.Views.Blocks.{filled, blocksBytes, Chosen, Whole};
 
-// One block of the message, which is handed on from the block's offset as a part: sixteen bytes, 00h past the end. They go through
-// an array, and the compiler makes one load and one store of them.
+// One block of the message, passed as a part that starts at the block's offset: sixteen bytes, 00h past the end. They go through an
+// array, so the compiler copies them with one load and one store.
 fn fill_block(part: &[u8]) -> [u8; read::BLOCK_SIZE]
     ensures { λ r. ⌜ r ≡ filled (now (part .entry)) ⌝ }
 {
@@ -25,7 +25,7 @@ fn fill_block(part: &[u8]) -> [u8; read::BLOCK_SIZE]
     block
 }
 
-// Puts the block that the part fills behind `j` others.
+// Puts the block that the part fills after `j` others.
 fn put_block(part: &[u8], j: usize, out: &mut [u8])
     requires { ⌜ 16 * (j + 1) ≤ length (now out) ⌝ }
     ensures { λ _. ⌜ now (out .exit) ≡ sets (now (out .entry)) (16 * j) (filled (now (part .entry))) ⌝ }
@@ -56,8 +56,8 @@ fn whole_blocks(message: &[u8], blocks: &[u8]) -> usize
     most
 }
 
-// The bytes of the first `n` of the blocks, which are whole. Each part ends with its block, so that the compiler leaves out the
-// filler's test: with the test, eight blocks to a command took 1.3 times as long.
+// The bytes of the first `n` of the blocks, which are whole. Each part ends with its block, so the compiler leaves out the filler's
+// test. With the test, eight blocks to a command took 1.3 times as long.
 fn put_whole_blocks(message: &[u8], blocks: &[u8], n: usize, out: &mut [u8])
     requires { ⌜ Chosen (now message) (now blocks) × Whole (now message) (now blocks) n × (16 * n ≤ length (now out)) ⌝ }
     ensures { λ _. ⌜ now (out .exit) ≡ blocksBytes (now (message .entry)) (take n (now (blocks .entry))) ++ drop (16 * n) (now (out .entry)) ⌝ }

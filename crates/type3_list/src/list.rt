@@ -1,5 +1,5 @@
-// The list of write commands, laid straight into the caller's buffer: block 0 shut, then the blocks to write, as many to a command as
-// it may store, then block 0 with its new bytes.
+// The list of write commands, laid straight into the caller's buffer. It shuts block 0, writes the blocks, as many to a command as
+// are allowed, and then writes block 0 with its new bytes.
 
 use crate::blocks;
 use tag::numbers;
@@ -82,7 +82,7 @@ fn put_attribute_information_block(image: &[u8], flag: u8, ln: usize, out: &mut 
 
 // ---- the commands
 
-// Writes block 0 with this WriteFlag and this Ln.
+// The command that writes block 0 with this WriteFlag and this Ln.
 fn put_attribute_command(image: &[u8], idm: [u8; 8], flag: u8, ln: usize, out: &mut [u8])
     requires { ⌜ (16 ≤ length (now image)) × (ln < 65536) × (31 ≤ length (now out)) ⌝ }
     ensures { λ _. ⌜ now (out .exit) ≡ attributeCommand idm (now (image .entry)) flag ln ++ drop 31 (now (out .entry)) ⌝ }
@@ -92,7 +92,7 @@ fn put_attribute_command(image: &[u8], idm: [u8; 8], flag: u8, ln: usize, out: &
     put_attribute_information_block(image, flag, ln, &mut out[ATTRIBUTE_DATA..]);
 }
 
-// Writes the blocks, which one command may store.
+// The command that writes these blocks, which are few enough for one command.
 fn put_command(message: &[u8], idm: [u8; 8], blocks: &[u8], out: &mut [u8])
     requires { ⌜ Chosen (now message) (now blocks) × (0 < length (now blocks)) × (length (now blocks) ≤ 8) × (13 + 18 * length (now blocks) ≤ length (now out)) ⌝ }
     ensures { λ _. ⌜ now (out .exit) ≡ messageCommand idm (now (message .entry)) (now (blocks .entry)) ++ drop (13 + 18 * length (now (blocks .entry))) (now (out .entry)) ⌝ }
@@ -104,7 +104,7 @@ fn put_command(message: &[u8], idm: [u8; 8], blocks: &[u8], out: &mut [u8])
     blocks::put_blocks(message, blocks, &mut out[at..]);
 }
 
-// Writes the blocks, `w` to a command, in `turns` commands.
+// The `turns` commands that write the blocks, `w` to a command.
 fn put_commands(message: &[u8], idm: [u8; 8], w: usize, turns: usize, blocks: &[u8], out: &mut [u8])
     requires { ⌜ Chosen (now message) (now blocks) × Dealt (length (now blocks)) w turns × (13 * turns + 18 * length (now blocks) ≤ length (now out)) ⌝ }
     ensures { λ _. ⌜ now (out .exit) ≡ messageCommands idm (now (message .entry)) w (now (blocks .entry)) turns ++ drop (13 * turns + 18 * length (now (blocks .entry))) (now (out .entry)) ⌝ }

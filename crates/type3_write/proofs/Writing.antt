@@ -26,14 +26,14 @@ use Rattle.type3_list.proofs.ListBytes.{list-bytes, length-list-as}
 pub write-refused : (idm i m : List ℕ) (room r : ℕ) → writing (type3 idm) i m ≡ refused-write r → write (type3 idm) room i m ≡ refused-output r
 write-refused idm i m room r e = ap (writeBy (type3 idm) room i) e
 
--- a message that goes on the tag takes at most 255 blocks, and a command at least one of them
+-- a message that may be written takes at most 255 blocks, and a command may store at least one of them
 pub planned-bounds : (idm i m : List ℕ) → writing (type3 idm) i m ≡ written (plan i m) → (blocksFor (length m) ≤ 255) × (0 < blocksPerCommand (byte i 2))
 planned-bounds idm i m e =
     let r = written-ready (type3 idm) i m (plan i m) e .0 in
     let b = bounds i (ready-room idm i m r .passes) in
     (omega (arith, few-blocks i m (ready-room idm i m r), b .reach, b .short), some-width idm i m r)
 
--- writing has a plan, whose list takes t commands of w blocks each
+-- writing has a plan, whose list takes t commands for the message's blocks, w to a command
 pub record Planned (idm i m : List ℕ) (w t : ℕ) : Type 0 where
   pub eight : length idm ≡ 8
   pub planned : writing (type3 idm) i m ≡ written (plan i m)

@@ -18,13 +18,13 @@ ghost use Rattle.type3.specs.Type3.{type3};
 ghost use Rattle.type3.specs.Views.AttributeInformation.{Readable};
 ghost use Rattle.type3_list.specs.Views.Listing.{Dealt};
 
-// A list has two commands for block 0.
+// The bytes of a list's two commands for block 0.
 const ATTRIBUTE_COMMANDS: usize = 2 * list::ATTRIBUTE_COMMAND;
 
-// The most blocks that a message takes: block 0 has none of it, and a command names a block by a byte.
+// The most blocks that a message takes: block 0 has none of it, and a block list element has one byte for the block's number.
 const MOST_BLOCKS: usize = 255;
 
-// The blocks to write, rising, to the front of `blocks`, and how many they are: all of the message's, 1 to `k`.
+// Puts the blocks to write, rising, at the front of `blocks` and answers how many they are: all of the message's, 1 to `k`.
 fn blocks_to_write(k: usize, blocks: &mut [u8]) -> usize
     requires { ⌜ (k ≤ 255) × (k ≤ length (now blocks)) ⌝ }
     ensures many { λ r. ⌜ r ≡ k ⌝ }

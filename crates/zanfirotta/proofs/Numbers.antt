@@ -1,4 +1,4 @@
--- Block numbers handed back to C: one more at a buffer's front.
+-- Block numbers returned to C: one more at the front of a buffer.
 -- Assumes nothing.
 use mathlib.Core.Path.{_≡_}
 use mathlib.Core.List.{List}

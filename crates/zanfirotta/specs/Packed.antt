@@ -1,5 +1,5 @@
--- The answers as C gets them, each one number: a refusal in its low byte, and above it the position, or on success the count. Of
--- a count or a position 56 bits are kept, which is all of it: no list that a machine holds has 2^56 commands.
+-- The answers as C gets them, each one number: a refusal in its low byte, and above it the position, or on success the count. A
+-- count or a position keeps 56 bits, which is all of it: no list in a machine's memory has 2^56 commands.
 -- Assumes nothing.
 use mathlib.Core.Path.{_≡_}
 use mathlib.Core.Bool.{Bool, true, false, cond}
@@ -56,7 +56,7 @@ abbrev pub flagOf : Bool → ℕ
 flagOf false = 0
 flagOf true = 1
 
--- the report afterwards: content, address, length, interrupted, writable; as it was after a refusal
+-- the report afterwards: content, address, length, interrupted, writable; unchanged after a refusal
 abbrev pub reportInto : List ℕ → Answer → List ℕ
 reportInto out (refusal r) = out
 reportInto out (answer content a n interrupted w) = contentNumber content ∷ a ∷ n ∷ flagOf interrupted ∷ flagOf w ∷ []
@@ -67,7 +67,7 @@ abbrev pub packedDecoded2 : two.Decoded → ℕ
 packedDecoded2 (two.undecoded f) = packedRefusal f
 packedDecoded2 (two.decoded b bytes) = 0
 
--- a command's block, and its bytes; what they were after a refusal
+-- a command's block, and its bytes; unchanged after a refusal
 abbrev pub blockInto : ℕ → two.Decoded → ℕ
 blockInto old (two.undecoded f) = old
 blockInto old (two.decoded b bytes) = b
@@ -80,7 +80,7 @@ abbrev pub packedDecoded3 : three.Decoded → ℕ
 packedDecoded3 (three.undecoded f) = packedRefusal f
 packedDecoded3 (three.decoded bs bytes) = 0
 
--- how many blocks, their numbers, their bytes; unused entries keep what they held
+-- how many blocks, their numbers, their bytes; unused entries are unchanged, and so is everything after a refusal
 abbrev pub countInto : ℕ → three.Decoded → ℕ
 countInto old (three.undecoded f) = old
 countInto old (three.decoded bs bytes) = length bs
@@ -93,13 +93,13 @@ abbrev pub blockdataInto : List ℕ → three.Decoded → List ℕ
 blockdataInto old (three.undecoded f) = old
 blockdataInto old (three.decoded bs bytes) = overwrite bytes old
 
--- the bytes that the first command of a Type 3 list takes, if the list has them; 20 if it is cut short, as it is in an empty list
+-- how many bytes the first command of a Type 3 list takes; 20 if the list is empty or ends within that command
 abbrev pub packedSpan : List ℕ → ℕ
 packedSpan list = cond (leb (three.span list) (length list)) (above (three.span list)) (packedRefusal (positioned malformed-command 0))
 
 -- ---- the contracts of the C functions as relations
 
--- a call that puts out what o says for so much room, given a buffer, answers n and leaves the buffer as out
+-- a call whose output, by the room it has, is o: given this buffer, it answers n and leaves the buffer as out
 abbrev pub PutOutToC : (ℕ → Output) → List ℕ → ℕ → List ℕ → Type 0
 PutOutToC o buffer n out = (n ≡ packedCount (countOf (o (length buffer)))) × (out ≡ outputInto buffer (o (length buffer)))
 

@@ -1,4 +1,4 @@
-// The answers of the library as one number, a refusal in the low byte and a count or a position above it.
+// The library's answers, each as one number: a refusal in the low byte, and a count or a position above it.
 
 use tag::Content;
 use tag::CountAnswer;

@@ -95,7 +95,7 @@ pub extern "C" fn zan_type3_encode(
     answers::count(answer)
 }
 
-// Eight blocks, by their numbers from C.
+// The eight blocks whose numbers C passes.
 fn blocks_from(numbers: &[u64]) -> [Block; commands::MOST_BLOCKS]
     requires { ⌜ length (now numbers) ≡ 8 ⌝ }
     ensures { λ r. ⌜ r ≡ blocksOf (now (numbers .entry)) ⌝ }
@@ -141,7 +141,7 @@ fn store_used(
     slices::store(&carried[..used], 0, blockdata);
 }
 
-// Delivers a command: how many blocks it has, their numbers and their bytes.
+// Writes a command to C's buffers: how many blocks it has, their numbers and their bytes.
 fn deliver(
     command: Command,
     count: &mut u64,

@@ -1,6 +1,6 @@
 /*
- * Every function that include/zanfirotta.h declares, called from C on small tags: the answers, and
- * what the buffers hold after it. Ends with status 0, or with the number of the first line that
+ * Calls every function that include/zanfirotta.h declares, on small tags, and tests the answers and
+ * what the buffers hold afterwards. Ends with status 0, or with the number of the first line that
  * does not hold.
  */
 #include <string.h>

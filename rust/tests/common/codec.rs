@@ -57,7 +57,7 @@ pub struct Type3 {
     pub nmaxb: u64,
     pub buffer: usize,
     pub bytes: Vec<u8>,
-    /// What stands in the place where the decoded command goes.
+    /// What the place for the decoded command holds before the call.
     pub held: Command,
 }
 

@@ -48,7 +48,7 @@ impl Layout {
         (self.place..self.end).filter(|&a| !self.skip[a]).count()
     }
 
-    /// A control TLV whose area starts at `wish` or, if that can't be said, somewhat before it.
+    /// A control TLV whose area starts at `wish` or, if none can say that, before it.
     pub fn control(&mut self, rng: &mut Rng, wish: usize, size: u8) -> bool {
         let lock = rng.percent(40);
         let mut best = (1, 0, usize::MAX);

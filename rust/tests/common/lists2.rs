@@ -61,7 +61,7 @@ fn back(image: &[u8], list: &[Command]) -> Vec<Command> {
     back
 }
 
-/// A list that mostly is as good as ours.
+/// A list that is usually as good as ours.
 fn good(rng: &mut Rng, image: &[u8], message: &[u8]) -> Vec<Command> {
     let mut list = ours(image, message);
     if list.is_empty() {
@@ -159,7 +159,7 @@ fn spoil(rng: &mut Rng, image: &[u8], message: &[u8], list: &mut Vec<Command>) {
         }
         13 => list[at][rng.between(2, 5)] = 0xFE,
         14 => {
-            // The bytes of the block kept but for one.
+            // The bytes of the block, all kept but one.
             let mut command = idle(image, list[at][1] as usize % (image.len() / 4));
             command[rng.between(2, 5)] = rng.byte();
             list[at] = command;
@@ -168,7 +168,7 @@ fn spoil(rng: &mut Rng, image: &[u8], message: &[u8], list: &mut Vec<Command>) {
     }
 }
 
-/// A list for the judge of any kind.
+/// A list of any kind, for the judge.
 pub fn any(rng: &mut Rng, image: &[u8], message: &[u8]) -> Vec<u8> {
     let mut list = match rng.below(16) {
         0 => ours(image, message),
@@ -207,7 +207,7 @@ pub fn any(rng: &mut Rng, image: &[u8], message: &[u8]) -> Vec<u8> {
     bytes
 }
 
-/// One command for the model of any kind.
+/// One command of any kind, for the model.
 pub fn command(rng: &mut Rng, image: &[u8], message: &[u8]) -> Vec<u8> {
     let list = any(rng, image, message);
     let mut command = match split(&list) {

@@ -16,7 +16,7 @@ pub fn bytes(idm: &[u8; 8], command: &Command) -> Vec<u8> {
     bytes
 }
 
-/// Cuts a list of well-formed commands.
+/// Cuts a list of well-formed commands into its commands.
 pub fn split(list: &[u8]) -> Vec<Vec<u8>> {
     let mut commands = Vec::new();
     let mut rest = list;
@@ -88,7 +88,7 @@ fn back(image: &[u8], list: &[Command]) -> Vec<Command> {
     back
 }
 
-/// A list that mostly is as good as ours; `width` blocks go in a command.
+/// A list that is usually as good as ours; `width` blocks go in a command.
 fn good(rng: &mut Rng, image: &[u8], message: &[u8], width: usize) -> Vec<Command> {
     let mut list = ours(image, message);
     if list.is_empty() {
@@ -147,7 +147,7 @@ fn good(rng: &mut Rng, image: &[u8], message: &[u8], width: usize) -> Vec<Comman
                 seal(&mut list[0][0].1);
             }
             8 if width > 1 && end > 1 => {
-                // The last data in one command with the attributes.
+                // The last data blocks in one command with block 0.
                 if list[end - 1].len() < width {
                     let data = list.remove(end - 1);
                     list[end - 1].extend(data);
@@ -200,7 +200,7 @@ fn spoil(rng: &mut Rng, image: &[u8], list: &mut Vec<Command>) {
         }
         9 => list[at].clear(),
         10 | 11 => {
-            // Another attribute byte, the checksum put right.
+            // Another value for a byte of block 0, the checksum put right.
             for (block, data) in list[at].iter_mut() {
                 if *block == 0 {
                     let byte = rng.pick(&[0, 1, 5, 9, 9, 10, 11, 12, 13, 13, 13]);
@@ -234,7 +234,7 @@ fn spoil(rng: &mut Rng, image: &[u8], list: &mut Vec<Command>) {
     }
 }
 
-/// A list for the judge of any kind.
+/// A list of any kind, for the judge.
 pub fn any(rng: &mut Rng, image: &[u8], message: &[u8], idm: &[u8; 8]) -> Vec<u8> {
     let width = image.get(2).map_or(0, |&nbw| nbw.min(8)) as usize;
     let mut list = match rng.below(16) {
@@ -278,7 +278,7 @@ pub fn any(rng: &mut Rng, image: &[u8], message: &[u8], idm: &[u8; 8]) -> Vec<u8
     list
 }
 
-/// One command for the model of any kind.
+/// One command of any kind, for the model.
 pub fn command(rng: &mut Rng, image: &[u8], message: &[u8], idm: &[u8; 8]) -> Vec<u8> {
     let list = any(rng, image, message, idm);
     let mut commands = Vec::new();

@@ -34,7 +34,7 @@ impl Rng {
         self.next() as u8
     }
 
-    /// A number from 0 to before `limit`; 0 if that is 0.
+    /// A number below `limit`; 0 if `limit` is 0.
     pub fn below(&mut self, limit: usize) -> usize {
         if limit == 0 {
             0
@@ -73,7 +73,7 @@ impl Rng {
     }
 }
 
-/// A buffer to lend that stands between guard bytes.
+/// A buffer to pass to a call, between guard bytes.
 #[derive(Clone, PartialEq, Eq)]
 pub struct Lent {
     whole: Vec<u8>,
@@ -150,8 +150,8 @@ impl Tally {
         println!("{line}");
     }
 
-    /// Prints the counts; fails if one of `expected` (0: success) is rarer than `least`, if an
-    /// answer outside of them came, or if a noted property is rare.
+    /// Prints the counts. Fails if one of `expected` (0: success) is rarer than `least`, if any
+    /// other answer came, or if a noted property is rare.
     pub fn expect(&self, expected: &[usize], least: u64) {
         self.print();
         for (number, &count) in self.counts.iter().enumerate() {
@@ -227,7 +227,7 @@ pub fn message(rng: &mut Rng, old: &[u8], room: usize) -> Vec<u8> {
     }
 }
 
-/// The length of a buffer to lend where `needed` bytes are written: enough, exact or too short.
+/// The length of a buffer for a call that writes `needed` bytes: enough, exact or too short.
 pub fn buffer_len(rng: &mut Rng, needed: usize) -> usize {
     match rng.below(8) {
         0 => needed.saturating_sub(1),

@@ -7,7 +7,7 @@ use crate::reference::type2;
 /// Past the last address of any image.
 pub const END: usize = 1024;
 
-/// An image of `len` bytes with this container size, the given bytes from 16 on and 00h else.
+/// An image of `len` bytes with this container size, the given bytes from 16 on and 00h elsewhere.
 pub fn plain(len: usize, size: u8, data: &[u8]) -> Vec<u8> {
     let mut image = vec![0; len];
     image[12..16].copy_from_slice(&[0xE1, 0x10, size, 0x00]);
@@ -26,7 +26,7 @@ pub fn defaults() -> Vec<Vec<u8>> {
     ]
 }
 
-/// A tag with `u` usable bytes after the type byte: NULL TLVs stand before it.
+/// A tag with `u` usable bytes after the type byte: NULL TLVs lie before it.
 pub fn with_usable(u: usize) -> Vec<u8> {
     let size = (u + 1).div_ceil(8);
     let mut image = plain(16 + 8 * size, size as u8, &[]);
@@ -112,7 +112,7 @@ fn message_tlv(rng: &mut Rng, layout: &mut Layout) {
         6 => free + rng.below(4),
         _ => rng.below(free.max(1)).min(rng.between(1, 300)),
     };
-    // What is not put keeps the bytes beneath, which makes for all kinds of lengths.
+    // Where nothing is put, the bytes beneath stay, which gives lengths of all kinds.
     let _ = rng.percent(96)
         && layout.length(n)
         && (0..n).all(|_| layout.put(rng.byte()))
@@ -226,7 +226,7 @@ pub fn for_lists(rng: &mut Rng) -> Vec<u8> {
     }
 }
 
-/// The message on a tag and the longest that fits; nothing and 0 if it is refused.
+/// The message on a tag and the longest length that fits; empty and 0 if the tag is refused.
 pub fn message_and_room(image: &[u8]) -> (Vec<u8>, usize) {
     let mut gathered = [0; END];
     match type2::read(image, &mut gathered) {

@@ -3,7 +3,7 @@
 use super::Rng;
 use crate::reference::type3;
 
-/// Attributes with a right checksum.
+/// An attribute information block with the right checksum.
 pub fn attributes(nbr: u8, nbw: u8, nmaxb: u16, write: u8, read_write: u8, ln: u32) -> [u8; 16] {
     let [_, a, b, c] = ln.to_be_bytes();
     let [high, low] = nmaxb.to_be_bytes();
@@ -14,7 +14,7 @@ pub fn attributes(nbr: u8, nbw: u8, nmaxb: u16, write: u8, read_write: u8, ln: u
     block
 }
 
-/// Puts the right checksum.
+/// Sets the right checksum.
 pub fn seal(image: &mut [u8]) {
     let sum: u32 = image[..14].iter().map(|&byte| byte as u32).sum();
     image[14] = (sum >> 8) as u8;
@@ -175,7 +175,7 @@ pub fn for_lists(rng: &mut Rng) -> Vec<u8> {
     }
 }
 
-/// The message on a tag and the longest that fits; nothing and 0 if it is refused.
+/// The message on a tag and the longest length that fits; empty and 0 if the tag is refused.
 pub fn message_and_room(image: &[u8]) -> (Vec<u8>, usize) {
     match type3::read(image) {
         Ok(answer) => (

@@ -182,7 +182,7 @@ pub fn decode(cases: u64) {
             &expected.map(|c| (c.block, c.data)),
             &[&case.bytes],
         );
-        // What stood in the place of the command is replaced by it or, refused, kept.
+        // The decoded command replaces what its place held; a refusal keeps that.
         let held = (rng.next(), case.data.map(|byte| !byte));
         let (mut block, mut data) = held;
         let answer = raw::type2_decode(&case.bytes, case.blocks, &mut block, &mut data);

@@ -166,7 +166,7 @@ pub fn decode(cases: u64) {
             assert_eq!(command.blocks[..count], wanted.blocks[..count]);
             assert_eq!(command.data[..16 * count], wanted.data[..16 * count]);
         }
-        // Entries that are not used keep what they held, and all do after a refusal.
+        // Unused entries keep what they held; after a refusal all entries do.
         let mut held = case.held;
         let parts = (&mut held.count, &mut held.blocks, &mut held.data);
         let answer = raw::type3_decode(bytes, &case.idm, nbw, nmaxb, parts);

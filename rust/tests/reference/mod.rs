@@ -1,10 +1,10 @@
 //! The rules of `docs/01-scope.md` in ordinary Rust.
 //!
-//! Written from that page alone, without a look at the verified code, so that the two can be run
-//! against each other; it is also the baseline of the speed measurements.
+//! This reference was written from that page alone, without a look at the verified code, so the two
+//! can be tested against each other. It is also the baseline of the speed measurements.
 //!
-//! Every function takes what the verified one takes: slices in, an answer out, and `&mut [u8]`
-//! for a buffer that is lent. A refusal changes no byte of such a buffer.
+//! Every function takes what the verified one takes: slices in, an answer out, and `&mut [u8]` for
+//! the caller's buffer. A refusal changes no byte of that buffer.
 
 #![allow(dead_code, unused_imports)]
 

@@ -4,8 +4,8 @@ use crate::common::{lists2, lists3, message, tags2, tags3, Rng, Tally};
 use crate::reference::{type2, type3};
 use crate::{naive2, naive3, CASES};
 
-/// The judge against the page said once more; and from every cut of an accepted list the model
-/// follows and writing afresh ends where our list ends.
+/// The judge against the naive form. Along the cuts of an accepted list the model follows, and from
+/// every cut writing afresh ends where our list ends.
 #[test]
 fn type2_judge_and_cuts() {
     let mut tally = Tally::new("type2 judge");

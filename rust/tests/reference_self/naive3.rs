@@ -1,6 +1,6 @@
-//! docs/01-scope.md said once more for Type 3, to check the reference: as near to its words as
-//! possible and without regard to speed. Every address is asked one by one, every cut is read from
-//! the start.
+//! The naive form of docs/01-scope.md for Type 3, to check the reference. It is as near to the
+//! words as possible and without regard to speed. Addresses are tested one by one, and every cut is
+//! read from the start.
 
 use std::collections::BTreeSet;
 

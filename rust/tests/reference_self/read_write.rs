@@ -4,7 +4,7 @@ use crate::common::{buffer_len, hex, lists2, lists3, message, tags2, tags3, Lent
 use crate::reference::{type2, type3, Content, Refusal};
 use crate::{naive2, naive3, CASES};
 
-/// Reading against the page said once more.
+/// Reading against the naive form.
 #[test]
 fn type2_read_is_as_the_page_says() {
     let mut tally = Tally::new("type2 read");

@@ -78,7 +78,7 @@ fn bad_lengths() {
     assert_eq!(read2(&image), refused(7));
 }
 
-/// The attributes of the page: 14 blocks, Nbr 4, Nbw 1, Nmaxb 13, Ln 35.
+/// The Type 3 specimen with a message: 14 blocks, Nbr 4, Nbw 1, Nmaxb 13, Ln 35.
 fn attributes() -> Vec<u8> {
     tags3::specimens()[1].clone()
 }
@@ -156,7 +156,7 @@ fn the_program() {
     assert_eq!(output, expected);
 }
 
-/// Tags as they leave the factory: u after the type byte, and the longest message goes in.
+/// Tags as they leave the factory: u is as expected, and a message of the longest length fits.
 #[test]
 fn factory_defaults() {
     for (image, u) in defaults().iter().zip([47, 138, 495, 871]) {
@@ -173,7 +173,7 @@ fn factory_defaults() {
     assert_eq!(type3::room(&image), Ok(208));
 }
 
-/// The order of the tests, and what is easily mistaken.
+/// The order of the tests, and points that are easy to get wrong.
 #[test]
 fn order_of_refusals() {
     let mut image = plain(64, 6, &[0x03, 0x00]);

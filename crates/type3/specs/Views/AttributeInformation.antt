@@ -1,4 +1,4 @@
--- The code's attributes and answers as the definitions have them, and the facts that the code knows of a tag.
+-- The code's attribute information and answers as the definitions have them, and what the code knows about a tag.
 -- Assumes nothing.
 use mathlib.Core.Path.{_≡_}
 use mathlib.Core.Bool.{false, cond}
@@ -16,7 +16,7 @@ use Rattle.type3.specs.declared.read.Checked as code
 use Rattle.type3.specs.declared.read.Checked.the-variants as checked
 use Rattle.type3.specs.AttributeInformation.{nmaxbOf, attributeInformation, attributeChecks, mayWrite}
 
--- ---- the attributes
+-- ---- the attribute information
 
 abbrev pub checkedAs : code.Checked → Checked
 checkedAs (checked.Refused r) = fault r
@@ -33,7 +33,7 @@ pub record WholeBlocks (i : List ℕ) : Type 0 where
   pub most : length i ≤ 4096
   pub blocks : length i % 16 ≡ 0
 
--- what the code's attributes are
+-- the code's attribute information is what block 0 says
 pub record Says (i : List ℕ) (a : AttributeInformation) : Type 0 where
   pub nbw-is : a .nbw ≡ byte i 2
   pub nmaxb-is : a .nmaxb ≡ nmaxbOf i
@@ -48,7 +48,7 @@ pub record Attests (i : List ℕ) (a : AttributeInformation) : Type 0 where
   pub reach : 16 * (1 + a .nmaxb) ≤ length i
   pub ln-fits : a .ln ≤ 16 * a .nmaxb
 
--- a tag that passes all tests, with its attributes
+-- a tag that passes all tests, with its attribute information
 pub record Readable (i : List ℕ) (a : AttributeInformation) : Type 0 where
   pub passes : firstOf (attributeChecks (length i) (attributeInformation i)) ≡ fine
   pub known : Attests i a
@@ -62,7 +62,7 @@ Known i (checked.Fine a) = Attests i a
 abbrev pub reportAs : Report → Answer
 reportAs p = answer (contentOf (p .content)) (p .address .0) (p .length) (p .interrupted) (p .writable)
 
--- what the attributes say of a message
+-- what the attribute information says of a message
 abbrev pub answerFor : AttributeInformation → Answer
 answerFor a =
     cond (a .busy) (answer being-written 0 0 false (a .writable))

@@ -1,4 +1,4 @@
--- Whether a message goes on a tag that reads, by the code's attributes.
+-- Whether a message may be written to a tag that reads, by the code's attribute information.
 -- Assumes nothing.
 use mathlib.Core.Bool.{cond}
 use Prim.Native.Nat.{ℕ, _*_}

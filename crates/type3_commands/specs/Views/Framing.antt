@@ -1,4 +1,5 @@
--- Bytes that may be a command, as the code tests them: whether one was read, what framed bytes are, and what writing a command asks.
+-- Bytes that may be a command, as the code tests them: whether a command was read, what framed bytes are, and what writing a
+-- command requires.
 -- Assumes nothing.
 use mathlib.Core.Bool.{Bool, true, false}
 use mathlib.Core.Path.{_≡_}
@@ -18,7 +19,7 @@ pub record Framed (bytes : List ℕ) : Type 0 where
   pub few : byte bytes 12 ≤ 8
   pub whole : length bytes ≡ 13 + 18 * byte bytes 12
 
--- what writing a command's bytes asks: sixteen bytes for each block, block numbers that are bytes, and room
+-- what writing a command's bytes requires: sixteen bytes for each block, block numbers that are bytes, and room
 pub record PutAsked (blocks carried bytes : List ℕ) : Type 0 where
   pub few : length blocks ≤ 8
   pub each-byte : (i : ℕ) → i < length blocks → getD blocks i 0 ≤ 255

@@ -1,4 +1,4 @@
--- A command's bytes looked at in place, as the code does: the block list lies from byte 13 on, two bytes an element.
+-- A command's bytes read in place, as the code reads them. The block list lies from byte 13 on, two bytes for each element.
 -- Assumes nothing.
 use mathlib.Core.Bool.{Bool, true, _&&_}
 use mathlib.Core.List.{List, [], _∷_}
@@ -19,7 +19,7 @@ unfoldable pub numbers : ℕ → List ℕ → List ℕ
 numbers zero bytes = []
 numbers (suc k) bytes = byte bytes 1 ∷ numbers k (drop 2 bytes)
 
--- all of a well-formed command but that its blocks may be listed: the count b, the length, the opening and the marks
+-- all that makes a command well formed, except which blocks it lists: the count b, the length, the opening, 80h in each element
 unfoldable pub framedBy : List ℕ → ℕ → ℕ → List ℕ → Bool
 framedBy idm nbw b bytes =
     leb 1 b && leb b (blocksPerCommand nbw) && eqb (length bytes) (13 + 18 * b) && same (take 12 bytes) (opening idm) && wellBegun b (drop 13 bytes)

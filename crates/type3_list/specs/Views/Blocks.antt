@@ -1,4 +1,4 @@
--- Blocks of the message, by their numbers: their bytes as the code fills them, and what a list of them has to be.
+-- The message's blocks by number: their bytes as the code fills them, and what a list of such numbers must satisfy.
 -- Assumes nothing.
 use mathlib.Core.List.{List, [], _∷_, _++_}
 use Prim.Native.Nat.{ℕ, _+_, _-_, _*_, _<_, _≤_}

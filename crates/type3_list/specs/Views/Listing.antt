@@ -1,4 +1,4 @@
--- The list as the code lays it: its commands, and what laying them asks.
+-- The list as the code lays it: its commands, and what laying them requires.
 -- Assumes nothing.
 use mathlib.Core.List.{List, [], _∷_, _++_}
 use Prim.Native.Nat.{ℕ, zero, suc, _+_, _*_, _/_, _%_, _<_, _≤_}
@@ -60,7 +60,7 @@ pub record Dealt (k w t : ℕ) : Type 0 where
   pub none-idle : w * t < k + w
   pub most : t ≤ k
 
--- the list can be made, in so much room
+-- the list can be laid in a buffer with this much room
 pub record Listing (i m : List ℕ) (ln w t : ℕ) (bs : List ℕ) (room : ℕ) : Type 0 where
   pub block : 16 ≤ length i
   pub small : ln < 65536

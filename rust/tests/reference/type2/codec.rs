@@ -11,12 +11,12 @@ pub struct Command {
     pub data: [u8; 4],
 }
 
-/// Whether a command may name `block` on a tag of `blocks` blocks.
+/// Whether a command may write `block` on a tag of `blocks` blocks.
 fn may_name(block: u64, blocks: u64) -> bool {
     (4..=255).contains(&block) && block < blocks
 }
 
-/// Puts a command into the front of `bytes` and answers how many bytes it has.
+/// Writes a command to the front of `bytes`; returns how many bytes it has.
 pub fn encode(block: u64, data: &[u8; 4], blocks: u64, bytes: &mut [u8]) -> Result<usize, Refusal> {
     if !may_name(block, blocks) {
         return Err(Refusal::new(20));

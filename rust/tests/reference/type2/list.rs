@@ -57,7 +57,7 @@ impl Plan {
     }
 }
 
-/// Puts the commands that write `message` into `list` and answers how many they are.
+/// Writes the commands that put `message` on the tag to `list`; returns how many there are.
 pub fn write(image: &[u8], message: &[u8], list: &mut [u8]) -> Result<usize, Refusal> {
     let plan = Plan::new(image, message)?;
     let mut blocks: Vec<usize> = plan.places[..plan.used].iter().map(|a| a / BLOCK).collect();
@@ -88,10 +88,10 @@ fn put(command: &mut [u8], block: usize, data: &[u8]) {
     command[2..].copy_from_slice(data);
 }
 
-/// Judges a list that somebody else made for writing `message`; answers how many commands it has.
+/// Judges a list that somebody else made for writing `message`; returns how many commands it has.
 ///
-/// The bytes up to the type byte and those at skipped addresses are protected, so as long as the
-/// list is good, only length and value of the message TLV have to be read anew.
+/// The bytes up to the type byte and those at skipped addresses are protected. So, as long as the
+/// list is good, only the length and the value of the message TLV have to be read again.
 pub fn judge(image: &[u8], message: &[u8], list: &[u8]) -> Result<usize, Refusal> {
     let plan = Plan::new(image, message)?;
     let mut now = image.to_vec();

@@ -13,7 +13,7 @@ struct Walk<'a> {
 }
 
 impl Walk<'_> {
-    /// The address of the next usable byte, which is thereby taken.
+    /// Takes the next usable byte and returns its address.
     fn next(&mut self) -> Option<usize> {
         while self.place < self.end && self.skip[self.place] {
             self.place += 1;

@@ -4,7 +4,7 @@ use super::tag::Attributes;
 use super::{command_len, BLOCK, HEADER, MAX_COUNT};
 use crate::reference::Refusal;
 
-/// A write command. Only the front `count` blocks count.
+/// A write command. Only its first `count` blocks are used.
 #[derive(Clone, Copy, Debug, PartialEq, Eq)]
 pub struct Command {
     pub count: u64,
@@ -53,7 +53,7 @@ impl<'a> WellFormed<'a> {
     }
 }
 
-/// The parts of a command if it is well formed; bytes left over are not.
+/// The parts of a command, if it is well formed; with bytes left over it is not.
 pub fn well_formed<'a>(bytes: &'a [u8], idm: &[u8; 8], limits: Limits) -> Option<WellFormed<'a>> {
     let (header, rest) = bytes.split_at_checked(HEADER)?;
     let count = header[12] as usize;
@@ -75,7 +75,7 @@ pub fn well_formed<'a>(bytes: &'a [u8], idm: &[u8; 8], limits: Limits) -> Option
     Some(WellFormed { names, data })
 }
 
-/// Puts a command into the front of `bytes` and answers how many bytes it has.
+/// Writes a command to the front of `bytes`; returns how many bytes it has.
 pub fn encode(
     command: &Command,
     idm: &[u8; 8],

@@ -20,12 +20,12 @@ fn writable_for(image: &[u8], message: &[u8]) -> Result<Attributes, Refusal> {
     Ok(attributes)
 }
 
-/// The length of a command that names `count` blocks.
+/// The length of a command that lists `count` blocks.
 pub fn command_len(count: usize) -> usize {
     HEADER + count * (2 + BLOCK)
 }
 
-/// Puts the commands that write `message` into `list` and answers how many they are.
+/// Writes the commands that put `message` on the tag to `list`; returns how many there are.
 pub fn write(
     image: &[u8],
     message: &[u8],
@@ -64,8 +64,8 @@ pub fn write(
     Ok(2 + data_commands)
 }
 
-/// Puts one command that writes `bytes` from block `first` on, the last block filled with 00h,
-/// and hands on what is left of the list.
+/// Puts one command that writes `bytes` from block `first` on, the last block filled with 00h;
+/// returns what is left of the list.
 fn put<'a>(list: &'a mut [u8], idm: &[u8; 8], first: usize, bytes: &[u8]) -> &'a mut [u8] {
     let count = bytes.len().div_ceil(BLOCK);
     let (command, rest) = list.split_at_mut(command_len(count));
@@ -83,7 +83,7 @@ fn put<'a>(list: &'a mut [u8], idm: &[u8; 8], first: usize, bytes: &[u8]) -> &'a
     rest
 }
 
-/// Judges a list that somebody else made for writing `message`; answers how many commands it has.
+/// Judges a list that somebody else made for writing `message`; returns how many commands it has.
 pub fn judge(image: &[u8], message: &[u8], idm: &[u8; 8], list: &[u8]) -> Result<usize, Refusal> {
     let attributes = writable_for(image, message)?;
     let old = attributes.message(image);

@@ -1,4 +1,4 @@
-//! Type 3: blocks of 16 bytes, attributes in block 0, the message from block 1 on.
+//! Type 3: blocks of 16 bytes, the attribute information in block 0, the message from block 1 on.
 
 mod codec;
 mod list;
@@ -10,7 +10,7 @@ pub use tag::{read, room};
 
 const BLOCK: usize = 16;
 const MAX_IMAGE: usize = 4096;
-/// What stands before the block list of a command.
+/// The bytes of a command before its block list.
 const HEADER: usize = 13;
 /// The most blocks of a command.
 const MAX_COUNT: usize = 8;

@@ -1,4 +1,4 @@
-//! Type 3: reading, by the attributes in block 0.
+//! Type 3: reading, by the attribute information in block 0.
 
 use super::{BEING_WRITTEN, BLOCK, MAX_IMAGE, WRITE_FLAG};
 use crate::reference::{Content, ReadAnswer, Refusal};
@@ -61,7 +61,7 @@ impl Attributes {
         BLOCK * self.nmaxb as usize
     }
 
-    /// The message of the image that these attributes belong to, if it holds one.
+    /// The message of the image that this attribute information comes from, if it holds one.
     pub fn message<'a>(&self, image: &'a [u8]) -> Option<&'a [u8]> {
         if self.being_written || self.length == 0 {
             None

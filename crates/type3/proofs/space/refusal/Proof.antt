@@ -1,4 +1,4 @@
--- `space::refusal` meets its contract: more blocks than Nmaxb are more than 16·Nmaxb bytes. Assumes nothing.
+-- `space::refusal` meets its contract. A message that takes more than Nmaxb blocks has more than 16·Nmaxb bytes. Assumes nothing.
 use mathlib.Core.Path.{_≡_}
 use mathlib.Core.Bool.{true, false}
 use Prim.Native.Nat.{_*_, _<_, _≤_}

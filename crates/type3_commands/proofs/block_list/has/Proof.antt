@@ -1,4 +1,5 @@
--- `block_list::has` meets its contract. Assumes nothing.
+-- `block_list::has` meets its contract. The loop keeps: the block is among all of them exactly if it is among those from i on.
+-- Assumes nothing.
 use mathlib.Core.Path.{_≡_, refl, sym, _∙_}
 use Prim.Native.Nat.{_-_, _≤_}
 use native.Mathlib.Omega.{arith}

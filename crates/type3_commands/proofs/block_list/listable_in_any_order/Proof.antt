@@ -1,4 +1,5 @@
--- `block_list::listable_in_any_order` meets its contract. Assumes nothing.
+-- `block_list::listable_in_any_order` meets its contract. The loop keeps: all blocks may be listed exactly if those from i on may.
+-- Assumes nothing.
 use mathlib.Core.Path.{_≡_, refl, sym, ap, _∙_}
 use mathlib.Core.Bool.{true, false}
 use Prim.Native.Nat.{_+_, _-_, _≤_}

@@ -1,4 +1,5 @@
--- `block_list::put` meets its contract: after i turns the names of the first i blocks are stored. Assumes nothing.
+-- `block_list::put` meets its contract. The loop keeps: the elements of the first i blocks are written from byte 13 on, and all
+-- other bytes are unchanged. Assumes nothing.
 use mathlib.Core.Path.{_≡_, refl, ap, _∙_}
 use Prim.Native.Nat.{_+_, _-_, _*_, _≤_}
 use native.Mathlib.Omega.{arith}

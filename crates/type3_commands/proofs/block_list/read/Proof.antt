@@ -1,4 +1,5 @@
--- `block_list::read` meets its contract: after i turns the first i numbers are stored. Assumes nothing.
+-- `block_list::read` meets its contract. The loop keeps: the first i entries are the numbers of the first i blocks listed, and all
+-- other entries are unchanged. Assumes nothing.
 use mathlib.Core.Path.{_≡_, refl, ap, _∙_}
 use Prim.Native.Nat.{_+_, _-_, _*_, _≤_}
 use native.Mathlib.Omega.{arith}

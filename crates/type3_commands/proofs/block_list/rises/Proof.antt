@@ -1,4 +1,5 @@
--- `block_list::rises` meets its contract. The loop keeps: all blocks rise exactly if those from i on rise from `low` on. Assumes nothing.
+-- `block_list::rises` meets its contract. The loop keeps: all blocks rise exactly if those from i on rise from `low` on.
+-- Assumes nothing.
 use mathlib.Core.Path.{_≡_, refl, sym, _∙_}
 use Prim.Native.Nat.{_+_, _-_, _≤_}
 use native.Mathlib.Omega.{arith}

@@ -1,4 +1,5 @@
--- `block_list::well_begun` meets its contract. Assumes nothing.
+-- `block_list::well_begun` meets its contract. The loop keeps: all elements begin with 80h exactly if those from i on do.
+-- Assumes nothing.
 use mathlib.Core.Path.{_≡_, sym, _∙_}
 use Prim.Native.Nat.{_+_, _-_, _*_, _≤_}
 use native.Mathlib.Omega.{arith}

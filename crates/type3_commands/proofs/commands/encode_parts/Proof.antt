@@ -77,7 +77,7 @@ put-requires c κs =
       room = omega arith;
     }
 
--- long paths: `search` and `omega` read at most 128 records in reach, and with points named the proof is not found
+-- the paths stay long: `search` and `omega` read at most 128 records in reach, and with a `let` for each point they find no proof
 returns-3 : tie.Need-returns-3
 returns-3 c =
     let a = c .before .before .before .before .before .before .before .before .before .before .before .before .args in

@@ -9,7 +9,7 @@ use Rattle.type3.specs.Codec.{span}
 use Rattle.type3_commands.proofs.commands.span.Statement.{statement}
 use Rattle.type3_commands.proofs.commands.span.Tie as tie
 
--- a list with no block count counts none
+-- a list too short for a block count has the span of a count of 0
 short : (list : List ℕ) → length list < 13 → 13 ≡ span list
 short list h = ap (λ b. 13 + 18 * b) (sym (List·getD-eq-default list 0 {n = 12} (omega arith)))
 

@@ -1,5 +1,5 @@
--- `stores::store_blocks` meets its contract: what is left to store, on the image so far, is what the command stores on the
--- image handed in. Assumes nothing.
+-- `stores::store_blocks` meets its contract. The loop keeps: storing the blocks from k on in the image so far gives the same image
+-- as storing all of them in the image handed in. Assumes nothing.
 use mathlib.Core.Path.{_≡_, refl, sym, ap, _∙_}
 use Prim.Native.Nat.{_+_, _-_, _*_, _≤_}
 use native.Mathlib.Omega.{arith}

@@ -1,4 +1,4 @@
--- `blocks::put_blocks` meets its contract: the whole blocks are all, or all but the last. Assumes nothing.
+-- `blocks::put_blocks` meets its contract. The whole blocks are all of them, or all but the last. Assumes nothing.
 use mathlib.Core.Path.{_≡_, ap, _∙_}
 use Prim.Native.Nat.{_+_, _-_, _*_, _≤_}
 use native.Mathlib.Omega.{arith}

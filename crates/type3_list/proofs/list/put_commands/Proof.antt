@@ -1,4 +1,5 @@
--- `list::put_commands` meets its contract. The loop's invariant: the first t commands are laid over the buffer. Assumes nothing.
+-- `list::put_commands` meets its contract. The loop keeps: the first t commands are laid over the front of the buffer and end at
+-- `at`, the rest of the buffer is unchanged, and `skip` is w·t. Assumes nothing.
 use mathlib.Core.Path.{_≡_, refl, sym, ap, _∙_}
 use mathlib.Core.List.{List, _++_}
 use Prim.Native.Nat.{ℕ, _+_, _-_, _*_, _<_, _≤_, min}

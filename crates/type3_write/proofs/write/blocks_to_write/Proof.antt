@@ -1,4 +1,4 @@
--- `write::blocks_to_write` meets its contract. The loop's invariant: the first j entries are 1 to j. Assumes nothing.
+-- `write::blocks_to_write` meets its contract. The loop keeps: the first j entries are 1 to j. Assumes nothing.
 use mathlib.Core.Path.{_≡_, refl, sym, ap, _∙_}
 use mathlib.Core.List.{_∷_, [], _++_}
 use Prim.Native.Nat.{_+_, _-_, _≤_}

@@ -1,4 +1,5 @@
--- `type3_calls::store` meets its contract: after i turns the first i numbers are stored. Assumes nothing.
+-- `type3_calls::store` meets its contract. The loop keeps: the first i numbers are stored at the front, and the rest is unchanged.
+-- Assumes nothing.
 use mathlib.Core.Path.{_≡_, refl, ap, _∙_}
 use Prim.Native.Nat.{_-_, _≤_}
 use native.Mathlib.Omega.{arith}
