@@ -248,9 +248,9 @@ fn image3(blocks: usize, nbw: u8) -> Vec<u8> {
     let mut image = vec![0x5A; 16 * blocks];
     let [high, low] = ((blocks - 1) as u16).to_be_bytes();
     let [_, a, b, c] = ((16 * (blocks - 1)) as u32).to_be_bytes();
-    let attributes = [0x10, 4, nbw, high, low, 0, 0, 0, 0, 0, 1, a, b, c];
-    image[..14].copy_from_slice(&attributes);
-    let sum: u16 = attributes.iter().map(|&byte| byte as u16).sum();
+    let block = [0x10, 4, nbw, high, low, 0, 0, 0, 0, 0, 1, a, b, c];
+    image[..14].copy_from_slice(&block);
+    let sum: u16 = block.iter().map(|&byte| byte as u16).sum();
     image[14..16].copy_from_slice(&sum.to_be_bytes());
     image
 }

@@ -109,9 +109,9 @@ impl Type for Type3 {
     }
 
     fn store(&self, image: &mut [u8], command: &[u8]) {
-        let (names, data) = command[13..].split_at(2 * command[12] as usize);
-        for (name, data) in names.chunks(2).zip(data.chunks(16)) {
-            let start = 16 * name[1] as usize;
+        let (block_list, data) = command[13..].split_at(2 * command[12] as usize);
+        for (element, data) in block_list.chunks(2).zip(data.chunks(16)) {
+            let start = 16 * element[1] as usize;
             image[start..start + 16].copy_from_slice(data);
         }
     }

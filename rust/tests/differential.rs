@@ -15,7 +15,7 @@ mod type3;
 
 use std::fmt::Debug;
 
-use common::{hex, Lent, Rng};
+use common::{hex, Guarded, Rng};
 use reference::ReadAnswer;
 use zanfirotta::{Refusal, Report};
 
@@ -108,7 +108,7 @@ fn same<T: PartialEq + Debug>(index: u64, got: &T, expected: &T, inputs: &[&[u8]
 }
 
 /// Tests that the buffers hold the same, guard bytes included.
-fn same_buffers(index: u64, got: &Lent, expected: &Lent, inputs: &[&[u8]]) {
+fn same_buffers(index: u64, got: &Guarded, expected: &Guarded, inputs: &[&[u8]]) {
     same(index, &hex(got.slice()), &hex(expected.slice()), inputs);
     assert!(got == expected, "case {index}: a guard byte changed");
 }

@@ -32,10 +32,10 @@ static void empty2(uint8_t image[64])
 /* An empty Type 3 tag of three blocks, two blocks to a command. */
 static void empty3(uint8_t image[48])
 {
-    static const uint8_t attributes[16] = {0x10, 4, 2, 0, 2, 0, 0, 0, 0, 0, 1, 0, 0, 0, 0, 0x19};
+    static const uint8_t block[16] = {0x10, 4, 2, 0, 2, 0, 0, 0, 0, 0, 1, 0, 0, 0, 0, 0x19};
 
     memset(image, 0, 48);
-    memcpy(image, attributes, 16);
+    memcpy(image, block, 16);
 }
 
 static int type2(void)

@@ -46,10 +46,10 @@ fn ours(image: &[u8], message: &[u8]) -> Vec<Command> {
         .iter()
         .map(|command| {
             let count = command[12] as usize;
-            let (names, data) = command[13..].split_at(2 * count);
-            names
+            let (block_list, data) = command[13..].split_at(2 * count);
+            block_list
                 .chunks_exact(2)
-                .map(|name| name[1])
+                .map(|element| element[1])
                 .zip(data.chunks_exact(16).map(|data| data.try_into().unwrap()))
                 .collect()
         })

@@ -75,16 +75,16 @@ impl Rng {
 
 /// A buffer to pass to a call, between guard bytes.
 #[derive(Clone, PartialEq, Eq)]
-pub struct Lent {
+pub struct Guarded {
     whole: Vec<u8>,
     start: usize,
     end: usize,
 }
 
-impl Lent {
+impl Guarded {
     pub fn random(rng: &mut Rng, len: usize) -> Self {
         let contents = rng.bytes(len);
-        Lent::holding(rng, &contents)
+        Guarded::holding(rng, &contents)
     }
 
     pub fn holding(rng: &mut Rng, contents: &[u8]) -> Self {
@@ -93,7 +93,7 @@ impl Lent {
         let mut whole = rng.bytes(start + contents.len() + after);
         let end = start + contents.len();
         whole[start..end].copy_from_slice(contents);
-        Lent { whole, start, end }
+        Guarded { whole, start, end }
     }
 
     pub fn slice(&self) -> &[u8] {

@@ -4,7 +4,7 @@ use super::Rng;
 use crate::reference::type3;
 
 /// An attribute information block with the right checksum.
-pub fn attributes(nbr: u8, nbw: u8, nmaxb: u16, write: u8, read_write: u8, ln: u32) -> [u8; 16] {
+pub fn attribute_information_block(nbr: u8, nbw: u8, nmaxb: u16, write: u8, read_write: u8, ln: u32) -> [u8; 16] {
     let [_, a, b, c] = ln.to_be_bytes();
     let [high, low] = nmaxb.to_be_bytes();
     let mut block = [
@@ -24,7 +24,7 @@ pub fn seal(image: &mut [u8]) {
 /// A tag as it leaves the factory: 14 blocks, of which 13 are for the message.
 pub fn default() -> Vec<u8> {
     let mut image = vec![0; 224];
-    image[..16].copy_from_slice(&attributes(4, 1, 13, 0, 1, 0));
+    image[..16].copy_from_slice(&attribute_information_block(4, 1, 13, 0, 1, 0));
     image
 }
 
@@ -82,7 +82,7 @@ pub fn valid(rng: &mut Rng) -> Vec<u8> {
     };
     let write = if rng.percent(75) { 0x00 } else { 0x0F };
     let read_write = if rng.percent(92) { 1 } else { 0 };
-    image[..16].copy_from_slice(&attributes(
+    image[..16].copy_from_slice(&attribute_information_block(
         nbr,
         nbw,
         nmaxb as u16,

@@ -2,7 +2,7 @@
 
 use zanfirotta::raw;
 
-use crate::common::{buffer_len, codec, lists2, message, tags2, Lent, Rng, Tally};
+use crate::common::{buffer_len, codec, lists2, message, tags2, Guarded, Rng, Tally};
 use crate::reference::{type2, Content};
 use crate::{number, plain, read_answer, same, same_buffers, same_out};
 
@@ -41,11 +41,11 @@ pub fn read(cases: u64) {
         let image = tags2::any(&mut rng);
         let needed = tags2::message_and_room(&image).0.len();
         let len = buffer_len(&mut rng, needed);
-        let lent_image = Lent::holding(&mut rng, &image);
-        let mut wanted = Lent::random(&mut rng, len);
+        let guarded_image = Guarded::holding(&mut rng, &image);
+        let mut wanted = Guarded::random(&mut rng, len);
         let (mut gathered, mut again) = (wanted.clone(), wanted.clone());
         let expected = type2::read(&image, wanted.lend());
-        let got = zanfirotta::type2::read(lent_image.slice(), gathered.lend());
+        let got = zanfirotta::type2::read(guarded_image.slice(), gathered.lend());
         same(index, &plain(got.map(read_answer)), &expected, &[&image]);
         same_buffers(index, &gathered, &wanted, &[&image]);
         if let (Ok(report), Ok(answer)) = (got, expected) {
@@ -53,10 +53,10 @@ pub fn read(cases: u64) {
             assert_eq!(shown, answer.message(&image, wanted.slice()));
         }
         same_out(index, &mut rng, &expected, |out| {
-            raw::type2_read(lent_image.slice(), again.lend(), out)
+            raw::type2_read(guarded_image.slice(), again.lend(), out)
         });
         same_buffers(index, &again, &wanted, &[&image]);
-        assert_eq!(lent_image.slice(), image);
+        assert_eq!(guarded_image.slice(), image);
         tally.add(&expected);
         tally.note(
             "message",
@@ -78,7 +78,7 @@ pub fn write(cases: u64) {
         let message = message(&mut rng, &old, room);
         let needed = 6 * lists2::ours(&image, &message).len();
         let len = buffer_len(&mut rng, needed);
-        let mut wanted = Lent::random(&mut rng, len);
+        let mut wanted = Guarded::random(&mut rng, len);
         let mut list = wanted.clone();
         let expected = type2::write(&image, &message, wanted.lend());
         let got = plain(zanfirotta::type2::write(&image, &message, list.lend()));
@@ -135,7 +135,7 @@ pub fn model(cases: u64) {
         let (old, room) = tags2::message_and_room(&image);
         let message = message(&mut rng, &old, room);
         let command = lists2::command(&mut rng, &image, &message);
-        let mut wanted = Lent::holding(&mut rng, &image);
+        let mut wanted = Guarded::holding(&mut rng, &image);
         let mut tag = wanted.clone();
         let expected = type2::model(wanted.lend(), &command);
         let got = plain(zanfirotta::type2::model(tag.lend(), &command));
@@ -151,7 +151,7 @@ pub fn encode(cases: u64) {
     for index in 0..cases {
         let mut rng = Rng::case(25, index);
         let case = codec::type2(&mut rng);
-        let mut wanted = Lent::random(&mut rng, case.buffer);
+        let mut wanted = Guarded::random(&mut rng, case.buffer);
         let mut bytes = wanted.clone();
         let (block, data) = (case.block, case.data);
         let expected = type2::encode(block, &data, case.blocks, wanted.lend());

@@ -2,7 +2,7 @@
 
 use zanfirotta::raw;
 
-use crate::common::{buffer_len, codec, lists3, message, tags3, Lent, Rng, Tally};
+use crate::common::{buffer_len, codec, lists3, message, tags3, Guarded, Rng, Tally};
 use crate::reference::{type3, Content};
 use crate::{number, plain, read_answer, same, same_buffers, same_out};
 
@@ -73,7 +73,7 @@ pub fn write(cases: u64) {
         let message = message(&mut rng, &old, room);
         let needed = lists3::our_bytes(&image, &message, &our_idm).len();
         let len = buffer_len(&mut rng, needed);
-        let mut wanted = Lent::random(&mut rng, len);
+        let mut wanted = Guarded::random(&mut rng, len);
         let mut list = wanted.clone();
         let expected = type3::write(&image, &message, &our_idm, wanted.lend());
         let got = zanfirotta::type3::write(&image, &message, &our_idm, list.lend());
@@ -116,7 +116,7 @@ pub fn model(cases: u64) {
         let (old, room) = tags3::message_and_room(&image);
         let message = message(&mut rng, &old, room);
         let command = lists3::command(&mut rng, &image, &message, &our_idm);
-        let mut wanted = Lent::holding(&mut rng, &image);
+        let mut wanted = Guarded::holding(&mut rng, &image);
         let mut tag = wanted.clone();
         let expected = type3::model(wanted.lend(), &our_idm, &command);
         let got = zanfirotta::type3::model(tag.lend(), &our_idm, &command);
@@ -133,7 +133,7 @@ pub fn encode(cases: u64) {
         let mut rng = Rng::case(35, index);
         let case = codec::type3(&mut rng);
         let (nbw, nmaxb) = (case.nbw, case.nmaxb);
-        let mut wanted = Lent::random(&mut rng, case.buffer);
+        let mut wanted = Guarded::random(&mut rng, case.buffer);
         let mut bytes = wanted.clone();
         let expected = type3::encode(&case.command, &case.idm, nbw, nmaxb, wanted.lend());
         let command = zanfirotta::type3::Command {

@@ -1,6 +1,6 @@
 //! The reference's codec loses nothing, and its model stores exactly the well-formed commands.
 
-use crate::common::{codec, lists2, lists3, message, tags2, tags3, Lent, Rng, Tally};
+use crate::common::{codec, lists2, lists3, message, tags2, tags3, Guarded, Rng, Tally};
 use crate::reference::{type2, type3, Refusal};
 use crate::{naive2, naive3, CASES};
 
@@ -11,7 +11,7 @@ fn type2_codec() {
     for index in 0..CASES {
         let mut rng = Rng::case(7, index);
         let case = codec::type2(&mut rng);
-        let mut bytes = Lent::random(&mut rng, case.buffer);
+        let mut bytes = Guarded::random(&mut rng, case.buffer);
         let before = bytes.clone();
         let answer = type2::encode(case.block, &case.data, case.blocks, bytes.lend());
         encoded.add(&answer);
@@ -50,7 +50,7 @@ fn type3_codec() {
     for index in 0..CASES {
         let mut rng = Rng::case(8, index);
         let case = codec::type3(&mut rng);
-        let mut bytes = Lent::random(&mut rng, case.buffer);
+        let mut bytes = Guarded::random(&mut rng, case.buffer);
         let before = bytes.clone();
         let answer = type3::encode(&case.command, &case.idm, case.nbw, case.nmaxb, bytes.lend());
         encoded.add(&answer);

@@ -58,8 +58,8 @@ pub fn well_formed<'a>(
     let mut parts = Vec::new();
     let mut named = BTreeSet::new();
     for i in 0..b {
-        let (mark, block) = (command[13 + 2 * i], command[14 + 2 * i] as usize);
-        if mark != 0x80 || block > nmaxb || !named.insert(block) {
+        let (first, block) = (command[13 + 2 * i], command[14 + 2 * i] as usize);
+        if first != 0x80 || block > nmaxb || !named.insert(block) {
             return None;
         }
         let data = 13 + 2 * b + 16 * i;

@@ -1,6 +1,6 @@
 //! The reference's reading against the naive form, and what its write lists promise.
 
-use crate::common::{buffer_len, hex, lists2, lists3, message, tags2, tags3, Lent, Rng, Tally};
+use crate::common::{buffer_len, hex, lists2, lists3, message, tags2, tags3, Guarded, Rng, Tally};
 use crate::reference::{type2, type3, Content, Refusal};
 use crate::{naive2, naive3, CASES};
 
@@ -13,7 +13,7 @@ fn type2_read_is_as_the_page_says() {
         let image = tags2::any(&mut rng);
         let needed = tags2::message_and_room(&image).0.len();
         let len = buffer_len(&mut rng, needed);
-        let mut gathered = Lent::random(&mut rng, len);
+        let mut gathered = Guarded::random(&mut rng, len);
         let mut expected = gathered.clone();
         let answer = type2::read(&image, gathered.lend());
         tally.add(&answer);
@@ -96,7 +96,7 @@ fn type2_write_keeps_its_promises() {
         let message = message(&mut rng, &old, room);
         let needed = 6 * lists2::ours(&image, &message).len();
         let len = buffer_len(&mut rng, needed);
-        let mut list = Lent::random(&mut rng, len);
+        let mut list = Guarded::random(&mut rng, len);
         let before = list.clone();
         let answer = type2::write(&image, &message, list.lend());
         tally.add(&answer);
@@ -166,7 +166,7 @@ fn type3_write_keeps_its_promises() {
         let message = message(&mut rng, &old, room);
         let needed = lists3::our_bytes(&image, &message, &idm).len();
         let len = buffer_len(&mut rng, needed);
-        let mut list = Lent::random(&mut rng, len);
+        let mut list = Guarded::random(&mut rng, len);
         let before = list.clone();
         let answer = type3::write(&image, &message, &idm, list.lend());
         tally.add(&answer);

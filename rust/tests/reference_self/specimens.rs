@@ -79,13 +79,13 @@ fn bad_lengths() {
 }
 
 /// The Type 3 specimen with a message: 14 blocks, Nbr 4, Nbw 1, Nmaxb 13, Ln 35.
-fn attributes() -> Vec<u8> {
+fn type3_image() -> Vec<u8> {
     tags3::specimens()[1].clone()
 }
 
 #[test]
 fn type3_specimens() {
-    let mut image = attributes();
+    let mut image = type3_image();
     let answer = type3::read(&image).unwrap();
     assert_eq!(
         (answer.content, answer.address, answer.length),
@@ -103,11 +103,11 @@ fn type3_specimens() {
     tags3::seal(&mut image);
     assert_eq!(type3::write(&image, &[7; 35], &IDM, &mut list), Ok(3));
 
-    let mut image = attributes();
+    let mut image = type3_image();
     image[9] = 0x0F;
     image[15] = 0x55;
     assert_eq!(type3::read(&image).unwrap().content, Content::BeingWritten);
-    let mut image = attributes();
+    let mut image = type3_image();
     image[15] = 0x47;
     assert_eq!(type3::read(&image), refused(2));
 }
@@ -118,7 +118,7 @@ fn empty_list() {
     assert_eq!(type2::judge(&image, &[0xD0, 0x00, 0x00], &[]), Ok(0));
     let end = Err(Refusal::at(23, 0));
     assert_eq!(type2::judge(&image, &[0xD0, 0x00, 0x01], &[]), end);
-    let image = attributes();
+    let image = type3_image();
     assert_eq!(type3::judge(&image, &[0; 35], &IDM, &[]), Ok(0));
     assert_eq!(type3::judge(&image, &[0; 34], &IDM, &[]), end);
 }

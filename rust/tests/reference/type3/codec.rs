@@ -1,6 +1,6 @@
 //! Type 3: single commands, and the tag as a model that takes them.
 
-use super::tag::Attributes;
+use super::tag::AttributeInformation;
 use super::{command_len, BLOCK, HEADER, MAX_COUNT};
 use crate::reference::Refusal;
 
@@ -31,19 +31,19 @@ impl Limits {
 
 /// The bytes of a well-formed command.
 pub struct WellFormed<'a> {
-    names: &'a [u8],
+    block_list: &'a [u8],
     data: &'a [u8],
 }
 
 impl<'a> WellFormed<'a> {
     /// Block numbers with their data.
     pub fn parts(&self) -> impl Iterator<Item = (usize, &'a [u8])> {
-        let blocks = self.names.chunks_exact(2).map(|name| name[1] as usize);
+        let blocks = self.block_list.chunks_exact(2).map(|element| element[1] as usize);
         blocks.zip(self.data.chunks_exact(BLOCK))
     }
 
     pub fn len(&self) -> usize {
-        HEADER + self.names.len() + self.data.len()
+        HEADER + self.block_list.len() + self.data.len()
     }
 
     pub fn store(&self, image: &mut [u8]) {
@@ -65,14 +65,14 @@ pub fn well_formed<'a>(bytes: &'a [u8], idm: &[u8; 8], limits: Limits) -> Option
     {
         return None;
     }
-    let (names, data) = rest.split_at(2 * count);
-    for (i, name) in names.chunks_exact(2).enumerate() {
-        let twice = names[..2 * i].chunks_exact(2).any(|n| n[1] == name[1]);
-        if name[0] != 0x80 || !limits.allow_block(name[1] as u64) || twice {
+    let (block_list, data) = rest.split_at(2 * count);
+    for (i, element) in block_list.chunks_exact(2).enumerate() {
+        let twice = block_list[..2 * i].chunks_exact(2).any(|n| n[1] == element[1]);
+        if element[0] != 0x80 || !limits.allow_block(element[1] as u64) || twice {
             return None;
         }
     }
-    Some(WellFormed { names, data })
+    Some(WellFormed { block_list, data })
 }
 
 /// Writes a command to the front of `bytes`; returns how many bytes it has.
@@ -101,10 +101,10 @@ pub fn encode(
     bytes[1..9].copy_from_slice(idm);
     bytes[9..12].copy_from_slice(&[0x01, 0x09, 0x00]);
     bytes[12] = count as u8;
-    let (names, data) = bytes[HEADER..].split_at_mut(2 * count);
-    for (name, &block) in names.chunks_exact_mut(2).zip(blocks) {
-        name[0] = 0x80;
-        name[1] = block as u8;
+    let (block_list, data) = bytes[HEADER..].split_at_mut(2 * count);
+    for (element, &block) in block_list.chunks_exact_mut(2).zip(blocks) {
+        element[0] = 0x80;
+        element[1] = block as u8;
     }
     data.copy_from_slice(&command.data[..count * BLOCK]);
     Ok(bytes.len())
@@ -122,7 +122,7 @@ pub fn decode(
     let Some(read) = well_formed(bytes, idm, limits) else {
         return Err(Refusal::new(20));
     };
-    command.count = (read.names.len() / 2) as u64;
+    command.count = (read.block_list.len() / 2) as u64;
     for (i, (block, data)) in read.parts().enumerate() {
         command.blocks[i] = block as u64;
         command.data[i * BLOCK..(i + 1) * BLOCK].copy_from_slice(data);
@@ -132,10 +132,10 @@ pub fn decode(
 
 /// The tag takes one command.
 pub fn model(image: &mut [u8], idm: &[u8; 8], command: &[u8]) -> Result<(), Refusal> {
-    let attributes = Attributes::of(image)?;
+    let information = AttributeInformation::of(image)?;
     let limits = Limits {
-        nbw: attributes.nbw as u64,
-        nmaxb: attributes.nmaxb as u64,
+        nbw: information.nbw as u64,
+        nmaxb: information.nmaxb as u64,
     };
     match well_formed(command, idm, limits) {
         Some(command) => {

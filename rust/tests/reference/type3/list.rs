@@ -1,23 +1,23 @@
 //! Type 3: the write list, and the judge of foreign lists.
 
 use super::codec::{well_formed, Limits};
-use super::tag::{checksum, Attributes};
+use super::tag::{checksum, AttributeInformation};
 use super::{BEING_WRITTEN, BLOCK, HEADER, MAX_COUNT, WRITE_FLAG};
 use crate::reference::Refusal;
 
 /// Tests 1 to 11.
-fn writable_for(image: &[u8], message: &[u8]) -> Result<Attributes, Refusal> {
-    let attributes = Attributes::of(image)?;
+fn writable_for(image: &[u8], message: &[u8]) -> Result<AttributeInformation, Refusal> {
+    let information = AttributeInformation::of(image)?;
     if message.is_empty() {
         return Err(Refusal::new(9));
     }
-    if !attributes.writable {
+    if !information.writable {
         return Err(Refusal::new(10));
     }
-    if message.len() > attributes.room() {
+    if message.len() > information.room() {
         return Err(Refusal::new(11));
     }
-    Ok(attributes)
+    Ok(information)
 }
 
 /// The length of a command that lists `count` blocks.
@@ -32,9 +32,9 @@ pub fn write(
     idm: &[u8; 8],
     list: &mut [u8],
 ) -> Result<usize, Refusal> {
-    let attributes = writable_for(image, message)?;
+    let information = writable_for(image, message)?;
     let blocks = message.len().div_ceil(BLOCK);
-    let width = MAX_COUNT.min(attributes.nbw as usize);
+    let width = MAX_COUNT.min(information.nbw as usize);
     let full = blocks / width;
     let rest = blocks % width;
     let data_commands = full + usize::from(rest > 0);
@@ -73,10 +73,10 @@ fn put<'a>(list: &'a mut [u8], idm: &[u8; 8], first: usize, bytes: &[u8]) -> &'a
     command[1..9].copy_from_slice(idm);
     command[9..12].copy_from_slice(&[0x01, 0x09, 0x00]);
     command[12] = count as u8;
-    let (names, data) = command[HEADER..].split_at_mut(2 * count);
-    for (name, block) in names.chunks_exact_mut(2).zip(first..) {
-        name[0] = 0x80;
-        name[1] = block as u8;
+    let (block_list, data) = command[HEADER..].split_at_mut(2 * count);
+    for (element, block) in block_list.chunks_exact_mut(2).zip(first..) {
+        element[0] = 0x80;
+        element[1] = block as u8;
     }
     data[..bytes.len()].copy_from_slice(bytes);
     data[bytes.len()..].fill(0);
@@ -85,12 +85,12 @@ fn put<'a>(list: &'a mut [u8], idm: &[u8; 8], first: usize, bytes: &[u8]) -> &'a
 
 /// Judges a list that somebody else made for writing `message`; returns how many commands it has.
 pub fn judge(image: &[u8], message: &[u8], idm: &[u8; 8], list: &[u8]) -> Result<usize, Refusal> {
-    let attributes = writable_for(image, message)?;
-    let old = attributes.message(image);
+    let information = writable_for(image, message)?;
+    let old = information.message(image);
     let blocks = message.len().div_ceil(BLOCK);
     let limits = Limits {
-        nbw: attributes.nbw as u64,
-        nmaxb: attributes.nmaxb as u64,
+        nbw: information.nbw as u64,
+        nmaxb: information.nmaxb as u64,
     };
     let mut now = image.to_vec();
     let mut rest = list;
@@ -111,7 +111,7 @@ pub fn judge(image: &[u8], message: &[u8], idm: &[u8; 8], list: &[u8]) -> Result
             }
         }
         command.store(&mut now);
-        match Attributes::of(&now).map(|attributes| attributes.message(&now)) {
+        match AttributeInformation::of(&now).map(|information| information.message(&now)) {
             Ok(reading) if reading.is_none() || reading == old || reading == Some(message) => {}
             _ => return Err(Refusal::at(22, position)),
         }
@@ -119,8 +119,8 @@ pub fn judge(image: &[u8], message: &[u8], idm: &[u8; 8], list: &[u8]) -> Result
         position += 1;
     }
 
-    match Attributes::of(&now) {
-        Ok(attributes) if attributes.message(&now) == Some(message) => Ok(position),
+    match AttributeInformation::of(&now) {
+        Ok(information) if information.message(&now) == Some(message) => Ok(position),
         _ => Err(Refusal::at(23, position)),
     }
 }

@@ -5,7 +5,7 @@ use crate::reference::{Content, ReadAnswer, Refusal};
 
 /// What block 0 says.
 #[derive(Clone, Copy, Debug)]
-pub struct Attributes {
+pub struct AttributeInformation {
     pub nbw: u8,
     pub nmaxb: u16,
     pub being_written: bool,
@@ -13,7 +13,7 @@ pub struct Attributes {
     pub length: usize,
 }
 
-impl Attributes {
+impl AttributeInformation {
     /// Tests 1 to 7.
     pub fn of(image: &[u8]) -> Result<Self, Refusal> {
         if !image.len().is_multiple_of(BLOCK) || !(BLOCK..=MAX_IMAGE).contains(&image.len()) {
@@ -47,7 +47,7 @@ impl Attributes {
         if length > BLOCK * nmaxb as usize {
             return Err(Refusal::new(7));
         }
-        Ok(Attributes {
+        Ok(AttributeInformation {
             nbw,
             nmaxb,
             being_written,
@@ -72,31 +72,31 @@ impl Attributes {
 }
 
 /// The sum of bytes 0 to 13, high byte first.
-pub fn checksum(attributes: &[u8]) -> [u8; 2] {
-    let sum: u16 = attributes[..14].iter().map(|&byte| byte as u16).sum();
+pub fn checksum(block: &[u8]) -> [u8; 2] {
+    let sum: u16 = block[..14].iter().map(|&byte| byte as u16).sum();
     sum.to_be_bytes()
 }
 
 /// The longest length that fits.
 pub fn room(image: &[u8]) -> Result<usize, Refusal> {
-    Ok(Attributes::of(image)?.room())
+    Ok(AttributeInformation::of(image)?.room())
 }
 
 /// Reads a tag.
 pub fn read(image: &[u8]) -> Result<ReadAnswer, Refusal> {
-    let attributes = Attributes::of(image)?;
-    let (content, address, length) = if attributes.being_written {
+    let information = AttributeInformation::of(image)?;
+    let (content, address, length) = if information.being_written {
         (Content::BeingWritten, 0, 0)
-    } else if attributes.length == 0 {
+    } else if information.length == 0 {
         (Content::Empty, 0, 0)
     } else {
-        (Content::Message, BLOCK as u64, attributes.length as u64)
+        (Content::Message, BLOCK as u64, information.length as u64)
     };
     Ok(ReadAnswer {
         content,
         address,
         length,
         interrupted: false,
-        writable: attributes.writable,
+        writable: information.writable,
     })
 }
