@@ -5,10 +5,8 @@ pub mod Fuel
 pub mod Skipping
 pub mod Counted
 pub mod Usable
-pub mod Overlays
-pub mod Touches
 pub mod Rising
-pub mod Measured
+pub mod PassedValues
 pub mod Turns
 pub mod Steps
 pub mod SkipTable

@@ -5,4 +5,3 @@ pub mod Counted
 pub mod Walks
 pub mod Passing
 pub mod Finding
-pub mod Values

@@ -1,6 +1,6 @@
 // Length fields, and values passed over.
 
-use crate::value;
+use crate::walk;
 use crate::walk::Taken;
 use crate::walk::Walk;
 use tag::Address;
@@ -76,7 +76,7 @@ impl Walk {
         }
         let end = self.end;
         let areas = self.areas;
-        let last = value::nth(self, n - 1, table);
+        let last = walk::nth(self, n - 1, table);
         let z = last.0;
         if z == end.0 {
             return Passed::Refused(refusals::BAD_LENGTH);

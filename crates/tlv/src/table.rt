@@ -26,24 +26,8 @@ pub fn next_usable(table: &[u16], at: Address, end: Address) -> Address
     Address(a)
 }
 
-// How many of the addresses from `at` up to `end` are usable. Here and in `none_skipped` every turn does the same to one 16-bit
-// number, so a compiler can treat many addresses at once.
-pub(crate) fn count_usable(table: &[u16], at: Address, end: Address) -> usize
-    requires { ⌜ (at .0 ≤ end .0) × (end .0 ≤ length (now table)) × (end .0 ≤ 1024) ⌝ }
-    ensures is { λ r. ⌜ r ≡ length (unskipped (now (table .entry)) (at .0) (end .0 - at .0)) ⌝ }
-    ensures few { λ r. ⌜ r ≤ end .0 - at .0 ⌝ }
-{
-    let stop = end.0;
-    let mut a = at.0;
-    let mut n = 0u16;
-    while a < stop {
-        n += (table[a] == 0) as u16;
-        a += 1;
-    }
-    n as usize
-}
-
-// Whether every address from `at` up to `end` is usable.
+// Whether every address from `at` up to `end` is usable. Every turn does the same to one 16-bit number, so a compiler can treat many
+// addresses at once.
 pub fn none_skipped(table: &[u16], at: Address, end: Address) -> bool
     requires { ⌜ (at .0 ≤ end .0) × (end .0 ≤ length (now table)) ⌝ }
     ensures { λ r. ⌜ r ≡ noneSkipped (now (table .entry)) (at .0) (end .0 - at .0) ⌝ }

@@ -3,8 +3,10 @@
 use crate::table;
 use tag::Address;
 ghost use mathlib.Core.Path.{_≡_};
+ghost use Prim.Native.Nat.{_≤_};
+ghost use lib.ListN.{getD};
 ghost use Rattle.tlv.specs.Walk.{takeByte};
-ghost use Rattle.tlv.specs.Views.Walks.{ahead, Placed, takenAs, TakenPlaced};
+ghost use Rattle.tlv.specs.Views.Walks.{ahead, Placed, Within, takenAs, TakenPlaced};
 
 // The place reached: the next address to look at, the data area's end, and how many areas were declared on the way.
 pub struct Walk {
@@ -56,4 +58,34 @@ impl Walk {
             Taken::Nothing
         }
     }
+}
+
+// The usable address that comes after `k` others, or the end if there are at most `k`. Mostly nothing is skipped on the way there,
+// so the code tests that first: one sweep is quicker than going from each usable address to the next.
+pub fn nth(w: Walk, k: usize, table: &[u16]) -> Address
+    requires { ⌜ Within (now table) w ⌝ }
+    ensures is { λ r. ⌜ r .0 ≡ getD (ahead (now (table .entry)) w) k (w .end .0) ⌝ }
+    ensures within { λ r. ⌜ (w .at .0 ≤ r .0) × (r .0 ≤ w .end .0) ⌝ }
+{
+    let end = w.end;
+    let stop = end.0;
+    let here = w.at.0;
+    if stop - here <= k {
+        return end;
+    }
+    if table::none_skipped(table, w.at, Address(here + k + 1)) {
+        return Address(here + k);
+    }
+    let first = table::next_usable(table, w.at, end);
+    let mut a = first.0;
+    let mut left = k;
+    while a < stop {
+        if left == 0 {
+            return Address(a);
+        }
+        let next = table::next_usable(table, Address(a + 1), end);
+        a = next.0;
+        left -= 1;
+    }
+    end
 }

@@ -15,7 +15,7 @@ use Rattle.tag.specs.Bytes.{byte}
 use Rattle.tag.specs.Plan.{touches, between}
 use Rattle.tlv.specs.declared.walk.Walk.{Walk}
 use Rattle.tlv.specs.Views.Walks.{ahead}
-use Rattle.tlv.specs.Views.Values.{BlocksMarked}
+use Rattle.tlv_value.specs.Views.Values.{BlocksMarked}
 use Rattle.tlv.proofs.Usable.{from, At, from-first, from-end}
 use Rattle.tlv_tag.specs.Update.{tlvBytes, lengthAt, planBy}
 use Rattle.tlv_tag.specs.Views.Update.{tlvBytesLength}

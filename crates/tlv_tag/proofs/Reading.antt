@@ -25,7 +25,7 @@ use Rattle.tlv.specs.Areas.{allowedArea}
 use Rattle.tlv.specs.Walk.{Length, bad, len, lengthOf, Passed, more, stop, passValue, find}
 use Rattle.tlv.specs.Views.Walks.{ahead}
 use Rattle.tlv.specs.Views.Finding.{foundAs}
-use Rattle.tlv.specs.Views.Values.{at, measured}
+use Rattle.tlv_value.specs.Views.Values.{at, measured}
 use Rattle.tlv_tag.specs.Message.{TlvTag, Located, refuse, located, locateBy, locateFrom, locate, reportOf, readingOf, reading}
 use Rattle.tlv_tag.specs.Views.BlankArea.{BlankArea}
 use Rattle.tlv_tag.specs.Views.Reading.{areaLocated, tlvLocated, valueReading, refusalOf, reportAs}

@@ -4,7 +4,7 @@ use crate::update;
 use tag::Address;
 use tag::kept;
 use tlv::table;
-use tlv::value;
+use tlv::walk;
 use tlv::walk::Walk;
 ghost use mathlib.Core.Path.{_≡_};
 ghost use mathlib.Core.Bool.{not, _||_, cond};
@@ -33,7 +33,7 @@ pub fn extent_of(w: Walk, n: usize, table: &[u16]) -> Extent
     ensures bounded { λ r. ⌜ Bounded (now (table .entry)) (w .end .0) r ⌝ }
 {
     let first = w.at;
-    let stop = value::nth(w, update::tlv_bytes_length(n), table);
+    let stop = walk::nth(w, update::tlv_bytes_length(n), table);
     let skips = !table::none_skipped(table, first, stop);
     Extent { first, stop, skips }
 }

@@ -1,14 +1,14 @@
 // What writing a message sets, at the usable addresses from a walk's place on: the message's length in its shortest form, the
 // message, and FEh if an address is left for it.
 
-use tlv::value;
 use tlv::walk::Walk;
+use tlv_value::value;
 ghost use mathlib.Core.Path.{_≡_};
 ghost use Prim.Native.Nat.{_*_, _<_, _≤_};
 ghost use lib.ListN.{length, drop};
 ghost use Rattle.tag.specs.Bytes.{overlay};
 ghost use Rattle.tlv.specs.Views.Walks.{ahead, Placed, Within, Along};
-ghost use Rattle.tlv.specs.Views.Values.{BlocksMarked};
+ghost use Rattle.tlv_value.specs.Views.Values.{BlocksMarked};
 ghost use Rattle.tlv_tag.specs.Update.{lengthField, tlvBytes};
 ghost use Rattle.tlv_tag.specs.Views.Update.{tlvBytesLength};
 

@@ -21,7 +21,7 @@ use Rattle.type3_commands.specs.CodecContracts.{blockNumbers, commandAs}
 use Rattle.type3_commands.specs.Views.Framing.{isCommand, Framed}
 use Rattle.type3.proofs.Codec.{length-opening, past-count, grouped, decode-encode, encode-decode, length-command, count-at}
 use Rattle.type3_commands.proofs.Numbering.{numbers-back}
-use Rattle.type3_commands.proofs.Naming.{length-numbers}
+use Rattle.type3_commands.proofs.BlockLists.{length-numbers}
 use Rattle.type3_commands.proofs.Encoding.{count-bounds}
 
 -- ---- the block list

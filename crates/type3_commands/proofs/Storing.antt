@@ -13,7 +13,7 @@ use Rattle.type3.specs.Codec.{listable, decode, storesOf, commandOf}
 use Rattle.type3_commands.specs.Views.InPlace.{numbers}
 use Rattle.type3_commands.specs.Views.Framing.{isCommand, Framed}
 use Rattle.type3_commands.specs.Views.Model.{Storable, storesFrom}
-use Rattle.type3_commands.proofs.Naming.{listable-each, length-numbers}
+use Rattle.type3_commands.proofs.BlockLists.{listable-each, length-numbers}
 use Rattle.type3_commands.proofs.Decoding.{frame, decode-carried}
 
 -- one number more

@@ -2,21 +2,13 @@
 -- Assumes nothing.
 use mathlib.Core.Path.{_≡_, sym, ap, _∙_}
 use mathlib.Core.List.{List, [], _∷_, _++_, append-assoc}
-use Prim.Native.Nat.{ℕ, _+_, _-_, _*_, _<_, _≤_}
-use native.Mathlib.Numerals.{add-one}
+use Prim.Native.Nat.{ℕ, _+_, _-_, _*_, _≤_}
 use native.Mathlib.Omega.{arith}
 use borrow.Rule.Slice.PartMut.{putMid}
 use lib.ListN.{length, take, drop, length-append, length-drop}
-use lib.Seq.{take-suc}
-use Rattle.tag.specs.Bytes.{byte}
 use Rattle.tag.proofs.Filling.{lay-part}
 use Rattle.type3.specs.Codec.{blockListBytes, opening, commandBytes}
 use Rattle.type3.proofs.Codec.{length-opening, length-block-list}
-use Rattle.type3_commands.proofs.Naming.{block-list-append}
-
--- one element more
-pub block-list-more : (bs : List ℕ) (j : ℕ) → j < length bs → blockListBytes (take (j + 1) bs) ≡ blockListBytes (take j bs) ++ (0x80 ∷ byte bs j ∷ [])
-block-list-more bs j l = rw (add-one j, take-suc bs j 0 l) (block-list-append (take j bs) (byte bs j ∷ []))
 
 -- a command laid in three parts: its opening and count, its block list, its block data
 pub lay-command : (idm bs bytes t o z y : List ℕ) (n : ℕ) → length idm ≡ 8 → length bs ≡ n → length bytes ≡ 16 * n → 13 + 18 * n ≤ length t

@@ -12,7 +12,7 @@ use Rattle.type3.specs.Codec.{decoded}
 use Rattle.type3_commands.specs.Views.InPlace.{numbers, carried}
 use Rattle.type3_commands.specs.CodecContracts.{blockNumbers, decodedAs, commandAs, DecodedTo}
 use Rattle.type3_commands.specs.Views.Framing.{isCommand}
-use Rattle.type3_commands.proofs.Naming.{length-numbers}
+use Rattle.type3_commands.proofs.BlockLists.{length-numbers}
 use Rattle.type3_commands.proofs.Decoding.{decode-carried, frame}
 
 pub used-blocks : (idm : List ℕ) (nbw nmaxb : ℕ) (all : List ℕ) (d : code.Decoded) → DecodedTo idm nbw nmaxb all d → d .refusal ≡ 0

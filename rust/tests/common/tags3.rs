@@ -4,7 +4,14 @@ use super::Rng;
 use crate::reference::type3;
 
 /// An attribute information block with the right checksum.
-pub fn attribute_information_block(nbr: u8, nbw: u8, nmaxb: u16, write: u8, read_write: u8, ln: u32) -> [u8; 16] {
+pub fn attribute_information_block(
+    nbr: u8,
+    nbw: u8,
+    nmaxb: u16,
+    write: u8,
+    read_write: u8,
+    ln: u32,
+) -> [u8; 16] {
     let [_, a, b, c] = ln.to_be_bytes();
     let [high, low] = nmaxb.to_be_bytes();
     let mut block = [

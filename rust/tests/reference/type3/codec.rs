@@ -38,7 +38,10 @@ pub struct WellFormed<'a> {
 impl<'a> WellFormed<'a> {
     /// Block numbers with their data.
     pub fn parts(&self) -> impl Iterator<Item = (usize, &'a [u8])> {
-        let blocks = self.block_list.chunks_exact(2).map(|element| element[1] as usize);
+        let blocks = self
+            .block_list
+            .chunks_exact(2)
+            .map(|element| element[1] as usize);
         blocks.zip(self.data.chunks_exact(BLOCK))
     }
 
@@ -67,7 +70,9 @@ pub fn well_formed<'a>(bytes: &'a [u8], idm: &[u8; 8], limits: Limits) -> Option
     }
     let (block_list, data) = rest.split_at(2 * count);
     for (i, element) in block_list.chunks_exact(2).enumerate() {
-        let twice = block_list[..2 * i].chunks_exact(2).any(|n| n[1] == element[1]);
+        let twice = block_list[..2 * i]
+            .chunks_exact(2)
+            .any(|n| n[1] == element[1]);
         if element[0] != 0x80 || !limits.allow_block(element[1] as u64) || twice {
             return None;
         }

@@ -3,7 +3,7 @@ use mathlib.Core.Path.{refl, sym, ap, _∙_, subst}
 use native.Mathlib.Omega.{arith}
 use borrow.Author.Needs.{needs}
 use Rattle.tlv.specs.Views.Walks.{ahead}
-use Rattle.tlv.specs.Views.Values.{valueAs, ValueRoom}
+use Rattle.tlv_value.specs.Views.Values.{valueAs, ValueRoom}
 use Rattle.tlv_tag.proofs.Reading.{value-none, value-short, value-measured}
 use Rattle.tlv_tag.proofs.read.read_value.Statement.{statement}
 use Rattle.tlv_tag.proofs.read.read_value.Tie as tie

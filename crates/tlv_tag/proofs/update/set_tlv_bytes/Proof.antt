@@ -5,7 +5,7 @@ use borrow.Author.Needs.{needs}
 use lib.ListN.{length}
 use Rattle.tlv.specs.Views.Walks.{ahead}
 use Rattle.tlv.proofs.Usable.{ahead-rising}
-use Rattle.tlv.proofs.Overlays.{overlay-parts}
+use Rattle.tlv_value.proofs.Overlays.{overlay-parts}
 use Rattle.tlv_tag.specs.Update.{lengthField}
 use Rattle.tlv_tag.proofs.update.set_tlv_bytes.Statement.{statement}
 use Rattle.tlv_tag.proofs.update.set_tlv_bytes.Tie as tie

@@ -6,7 +6,7 @@ use native.Mathlib.Omega.{arith}
 use borrow.Author.Needs.{needs}
 use lib.ListN.{length, drop}
 use Rattle.tag.specs.Bytes.{has}
-use Rattle.type3_commands.proofs.Naming.{has-found, has-more, has-end}
+use Rattle.type3_commands.proofs.BlockLists.{has-found, has-more, has-end}
 use Rattle.type3_commands.proofs.block_list.has.Statement.{statement}
 use Rattle.type3_commands.proofs.block_list.has.Tie as tie
 

@@ -10,7 +10,7 @@ use lib.ListN.{length, drop, length-drop}
 use lib.Seq.{take-all}
 use Rattle.tag.specs.Bytes.{byte, has}
 use Rattle.type3.specs.Codec.{listable}
-use Rattle.type3_commands.proofs.Naming.{listable-at, listable-end}
+use Rattle.type3_commands.proofs.BlockLists.{listable-at, listable-end}
 use Rattle.type3_commands.proofs.block_list.listable_in_any_order.Statement.{statement}
 use Rattle.type3_commands.proofs.block_list.listable_in_any_order.Tie as tie
 

@@ -8,7 +8,7 @@ use lib.ListN.{length, take, set, length-set}
 use lib.Seq.{sets, take-all}
 use Rattle.tag.specs.Bytes.{byte}
 use Rattle.type3.specs.Codec.{blockListBytes}
-use Rattle.type3_commands.proofs.Naming.{block-list-more}
+use Rattle.type3_commands.proofs.BlockLists.{block-list-put}
 use Rattle.type3_commands.proofs.block_list.put.Statement.{statement}
 use Rattle.type3_commands.proofs.block_list.put.Tie as tie
 
@@ -41,7 +41,7 @@ loop-again c =
       search needs,
       simp length-set (l .inv .1),
       ap (λ two. set (set (l .bytes) at (byte two 0)) (at + 1) (byte two 1)) (c .element .ensures)
-          ∙ ap (λ t. set (set t at 0x80) (at + 1) b) (l .inv .2) ∙ block-list-more (a .bytes .now) (a .blocks .now) (l .i) at (omega arith) refl,
+          ∙ ap (λ t. set (set t at 0x80) (at + 1) b) (l .inv .2) ∙ block-list-put (a .bytes .now) (a .blocks .now) (l .i) at (omega arith) refl,
     )
 
 returns : tie.Need-returns Inv-loop μ-loop

@@ -8,7 +8,7 @@ use lib.ListN.{length, drop, set, length-set}
 use lib.Seq.{sets}
 use Rattle.tag.specs.Bytes.{byte}
 use Rattle.type3_commands.specs.Views.InPlace.{numbers}
-use Rattle.type3_commands.proofs.Naming.{numbers-more}
+use Rattle.type3_commands.proofs.BlockLists.{numbers-more}
 use Rattle.type3_commands.proofs.block_list.read.Statement.{statement}
 use Rattle.type3_commands.proofs.block_list.read.Tie as tie
 

@@ -6,7 +6,7 @@ use native.Mathlib.Omega.{arith}
 use borrow.Author.Needs.{needs}
 use lib.ListN.{drop}
 use Rattle.type3_commands.specs.Views.InPlace.{wellBegun}
-use Rattle.type3_commands.proofs.Naming.{well-begun-more, not-begun, well-begun-none}
+use Rattle.type3_commands.proofs.BlockLists.{well-begun-more, not-begun, well-begun-none}
 use Rattle.type3_commands.proofs.block_list.well_begun.Statement.{statement}
 use Rattle.type3_commands.proofs.block_list.well_begun.Tie as tie
 

@@ -8,7 +8,7 @@ use Rattle.tag.specs.Bytes.{byte}
 use Rattle.tag.proofs.Storing.{sets-front}
 use Rattle.type3.specs.Codec.{listable}
 use Rattle.type3_commands.specs.Views.InPlace.{numbers}
-use Rattle.type3_commands.proofs.Naming.{length-numbers}
+use Rattle.type3_commands.proofs.BlockLists.{length-numbers}
 use Rattle.type3_commands.proofs.commands.blocks_fit.Statement.{statement}
 use Rattle.type3_commands.proofs.commands.blocks_fit.Tie as tie
 

@@ -9,7 +9,7 @@ use Rattle.tag.specs.Bytes.{byte}
 use Rattle.tag.proofs.Storing.{sets-front}
 use Rattle.type3_commands.specs.Views.InPlace.{numbers}
 use Rattle.type3_commands.specs.CodecContracts.{blocksOf}
-use Rattle.type3_commands.proofs.Naming.{length-numbers}
+use Rattle.type3_commands.proofs.BlockLists.{length-numbers}
 use Rattle.type3_commands.proofs.Decoding.{same-command}
 use Rattle.type3_commands.proofs.commands.carried.Statement.{statement}
 use Rattle.type3_commands.proofs.commands.carried.Tie as tie

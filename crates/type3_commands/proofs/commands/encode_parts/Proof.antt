@@ -8,7 +8,7 @@ use lib.ListN.{length, take}
 use lib.Seq.{length-take-le}
 use Rattle.tag.specs.Answers.{countOf}
 use Rattle.tag.specs.TagType.{outputInto}
-use Rattle.type3_commands.proofs.Naming.{listable-each}
+use Rattle.type3_commands.proofs.BlockLists.{listable-each}
 use Rattle.type3_commands.proofs.Encoding.{Used, used, encode-unlisted, encode-short, encode-written}
 use Rattle.type3_commands.proofs.commands.encode_parts.Statement.{statement}
 use Rattle.type3_commands.proofs.commands.encode_parts.Tie as tie

@@ -11,7 +11,7 @@ use Rattle.tag.specs.Bytes.{byte}
 use Rattle.tag.proofs.Filling.{lay-two}
 use Rattle.type3.specs.Codec.{blockListBytes}
 use Rattle.type3.proofs.Codec.{length-block-list}
-use Rattle.type3_list.proofs.Laying.{block-list-more}
+use Rattle.type3_commands.proofs.BlockLists.{block-list-next}
 use Rattle.type3_list.proofs.list.put_block_list.Statement.{statement}
 use Rattle.type3_list.proofs.list.put_block_list.Tie as tie
 
@@ -38,7 +38,7 @@ loop-again c =
     let next : 2 * l .j + 2 ≡ 2 * (l .j + 1) = omega arith in (
       omega arith,
       simp length-set (search needs),
-      ap (λ n. set (set (l .out) (2 * l .j) (byte n 0)) (2 * l .j + 1) (byte n 1)) (c .element .ensures) ∙ two ∙ rw (next, block-list-more bs (l .j) (omega arith)),
+      ap (λ n. set (set (l .out) (2 * l .j) (byte n 0)) (2 * l .j + 1) (byte n 1)) (c .element .ensures) ∙ two ∙ rw (next, block-list-next bs (l .j) (omega arith)),
     )
 
 returns : tie.Need-returns Inv-loop μ-loop

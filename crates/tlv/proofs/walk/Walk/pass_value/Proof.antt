@@ -2,7 +2,7 @@
 use native.Mathlib.Omega.{arith}
 use borrow.Author.Needs.{needs}
 use Rattle.tlv.specs.Views.Walks.{ahead}
-use Rattle.tlv.proofs.Measured.{passed-none, passed-short, passed-past}
+use Rattle.tlv.proofs.PassedValues.{passed-none, passed-short, passed-past}
 use Rattle.tlv.proofs.walk.Walk.pass_value.Statement.{statement}
 use Rattle.tlv.proofs.walk.Walk.pass_value.Tie as tie
 

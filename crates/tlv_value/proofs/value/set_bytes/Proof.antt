@@ -10,13 +10,13 @@ use borrow.Author.Needs.{needs}
 use lib.ListN.{length, drop, length-set, drop-of-length-le}
 use lib.Seq.{drop-nil}
 use Rattle.tag.specs.Bytes.{overlay}
 use Rattle.tlv.specs.Views.Walks.{ahead}
 use Rattle.tlv.proofs.Usable.{from, At, from-above, from-next, from-end}
-use Rattle.tlv.proofs.Overlays.{overlay-none, overlay-next}
+use Rattle.tlv_value.proofs.Overlays.{overlay-none, overlay-next}
 use Rattle.tlv.proofs.Steps.{stay, moved}
 use Rattle.tlv.proofs.Turns.{drop-next}
-use Rattle.tlv.proofs.value.set_bytes.Statement.{statement}
-use Rattle.tlv.proofs.value.set_bytes.Tie as tie
+use Rattle.tlv_value.proofs.value.set_bytes.Statement.{statement}
+use Rattle.tlv_value.proofs.value.set_bytes.Tie as tie
 
 abbrev Inv-loop : tie.InvT-loop
 Inv-loop bytes table image₀ end areas stop a₀ k₀ image a k =

@@ -1,4 +1,4 @@
--- `table::count_usable` meets its contract. The loop keeps: what is counted and what is left make up all, and no more are counted
+-- `value::count_usable` meets its contract. The loop keeps: what is counted and what is left make up all, and no more are counted
 -- than were passed.
 -- Assumes nothing.
 use mathlib.Core.Path.{_≡_, ap}
@@ -7,10 +7,10 @@ use native.Mathlib.Omega.{arith}
 use borrow.Author.Needs.{needs}
 use lib.Dec.{eqb}
 use lib.ListN.{length, getD}
 use Rattle.tlv.specs.Views.Table.{unskipped}
 use Rattle.tlv.proofs.Skipping.{one-at-most, unskipped-count, unskipped-end}
-use Rattle.tlv.proofs.table.count_usable.Statement.{statement}
-use Rattle.tlv.proofs.table.count_usable.Tie as tie
+use Rattle.tlv_value.proofs.value.count_usable.Statement.{statement}
+use Rattle.tlv_value.proofs.value.count_usable.Tie as tie
 
 abbrev Inv-loop : tie.InvT-loop
 Inv-loop table stop a₀ n₀ a n =

@@ -1,4 +1,4 @@
--- `value::nth` meets its contract. The loop keeps: a is a usable address or the end, and the address after `left` others from a on
+-- `walk::nth` meets its contract. The loop keeps: a is a usable address or the end, and the address after `left` others from a on
 -- is the address after k others from the first on.
 -- Assumes nothing.
 use mathlib.Core.Path.{_≡_, refl, sym, ap, _∙_}
@@ -13,8 +13,8 @@ use Rattle.tlv.specs.Views.Walks.{ahead}
 use Rattle.tlv.proofs.Skipping.{unskipped-few, unskipped-nth}
 use Rattle.tlv.proofs.Usable.{from, At, from-next, from-end}
 use Rattle.tlv.proofs.Turns.{getD-next}
-use Rattle.tlv.proofs.value.nth.Statement.{statement}
-use Rattle.tlv.proofs.value.nth.Tie as tie
+use Rattle.tlv.proofs.walk.nth.Statement.{statement}
+use Rattle.tlv.proofs.walk.nth.Tie as tie
 
 abbrev Inv-loop : tie.InvT-loop
 Inv-loop k table end stop here a₀ left₀ a left =

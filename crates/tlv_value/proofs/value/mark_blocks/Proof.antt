@@ -10,12 +10,12 @@ use native.Mathlib.Omega.{arith}
 use borrow.Author.Needs.{needs}
 use lib.ListN.{length, set, replicate, length-set, length-replicate}
 use Rattle.tag.specs.Bytes.{byte}
 use Rattle.tlv.specs.Views.Walks.{ahead}
 use Rattle.tlv.proofs.Usable.{from, At, from-next, from-end}
-use Rattle.tlv.proofs.Touches.{touches-any, markOf, mark-none, mark-done, mark-next}
+use Rattle.tlv_value.proofs.Touches.{touches-any, markOf, mark-none, mark-done, mark-next}
 use Rattle.tlv.proofs.Turns.{replicate-next}
-use Rattle.tlv.proofs.value.mark_blocks.Statement.{statement}
-use Rattle.tlv.proofs.value.mark_blocks.Tie as tie
+use Rattle.tlv_value.proofs.value.mark_blocks.Statement.{statement}
+use Rattle.tlv_value.proofs.value.mark_blocks.Tie as tie
 
 abbrev Inv-loop : tie.InvT-loop
 Inv-loop k size table marks₀ end stop a₀ left₀ marks a left =

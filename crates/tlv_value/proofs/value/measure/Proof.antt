@@ -2,10 +2,11 @@
 -- Assumes nothing.
 use native.Mathlib.Omega.{arith}
 use borrow.Author.Needs.{needs}
 use Rattle.tlv.proofs.Usable.{At}
-use Rattle.tlv.proofs.Measured.{measured-less, measured-short, measured-room, measured-spread, measured-at}
-use Rattle.tlv.proofs.value.measure.Statement.{statement}
-use Rattle.tlv.proofs.value.measure.Tie as tie
+use Rattle.tlv.proofs.PassedValues.{fewer-ahead, enough-ahead}
+use Rattle.tlv_value.proofs.Measured.{measured-short, measured-spread, measured-at}
+use Rattle.tlv_value.proofs.value.measure.Statement.{statement}
+use Rattle.tlv_value.proofs.value.measure.Tie as tie
 
 returns : tie.Need-returns
 returns c =
@@ -14,7 +15,7 @@ returns c =
     let a = at-start .args in
     let z = at-nth .nth in (
       measured-short (a .table .now) (a .w) (a .n) (z .result .0) (at-start .pre .1) (at-start .pre .0) (z .ensures .0) (c .if1 .taken),
-      measured-less (a .table .now) (a .w) (a .n) (z .result .0) (at-start .pre .1) (at-start .pre .0) (z .ensures .0) (c .if1 .taken),
+      fewer-ahead (a .table .now) (a .w) (a .n) (z .result .0) (at-start .pre .1) (at-start .pre .0) (z .ensures .0) (c .if1 .taken),
     )
 
 add-t11 : tie.Need-add-t11
@@ -45,7 +46,7 @@ returns-2 c =
     record { within = search needs; in-table = search needs; free = f .ensures .1 .1 } in (
       measured-at (a .table .now) (a .w) (a .n) (z .result .0) (at-start .pre .1) (at-start .pre .0) (z .ensures .0) (f .result .0) (at-if1 .if1 .left) p
           (f .ensures .1 .0),
-      measured-room (a .table .now) (a .w) (a .n) (z .result .0) (at-start .pre .1) (at-start .pre .0) (z .ensures .0) (at-if1 .if1 .left),
+      enough-ahead (a .table .now) (a .w) (a .n) (z .result .0) (at-start .pre .1) (at-start .pre .0) (z .ensures .0) (at-if1 .if1 .left),
     )
 
 pub measure-spec : {M : Type 1} → statement M

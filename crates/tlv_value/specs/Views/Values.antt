@@ -8,8 +8,8 @@ use lib.Dec.{leb}
 use lib.ListN.{length, getD, take}
 use Rattle.tag.specs.Bytes.{byte, consecutive}
 use Rattle.tag.specs.Plan.{touches}
-use Rattle.tlv.specs.declared.value.Value as code
-use Rattle.tlv.specs.declared.value.Value.the-variants as value
+use Rattle.tlv_value.specs.declared.value.Value as code
+use Rattle.tlv_value.specs.declared.value.Value.the-variants as value
 
 -- a value of n bytes, n at least 1: short if fewer usable bytes are left, else its first address and whether it is interrupted
 pub data Value : Type 0 where

@@ -9,10 +9,10 @@ use borrow.Author.Needs.{needs}
 use lib.ListN.{length, take, drop, take-append-drop, length-set}
 use lib.Seq.{take-nil}
 use Rattle.tag.specs.Bytes.{byte, overwrite}
 use Rattle.tlv.proofs.Usable.{from, At, from-next, from-end}
 use Rattle.tlv.proofs.Turns.{gather-next}
-use Rattle.tlv.proofs.value.gather.Statement.{statement}
-use Rattle.tlv.proofs.value.gather.Tie as tie
+use Rattle.tlv_value.proofs.value.gather.Statement.{statement}
+use Rattle.tlv_value.proofs.value.gather.Tie as tie
 
 abbrev Inv-loop : tie.InvT-loop
 Inv-loop n image table out₀ end stop a₀ k₀ out a k =

@@ -56,13 +56,17 @@ pub block-list-append : (xs ys : List ℕ) → blockListBytes (xs ++ ys) ≡ blo
 block-list-append [] ys = refl
 block-list-append (x ∷ xs) ys = ap (λ r. 0x80 ∷ x ∷ r) (block-list-append xs ys)
 
+-- the elements of one block more
+pub block-list-next : (bs : List ℕ) (j : ℕ) → j < length bs → blockListBytes (take (j + 1) bs) ≡ blockListBytes (take j bs) ++ (0x80 ∷ byte bs j ∷ [])
+block-list-next bs j l = rw (add-one j, take-suc bs j 0 l) (block-list-append (take j bs) (byte bs j ∷ []))
+
 -- one turn of writing elements
-pub block-list-more : (l bs : List ℕ) (i at : ℕ) → i < length bs → at ≡ 13 + 2 * i
+pub block-list-put : (l bs : List ℕ) (i at : ℕ) → i < length bs → at ≡ 13 + 2 * i
     → set (set (sets l 13 (blockListBytes (take i bs))) at 0x80) (at + 1) (byte bs i) ≡ sets l 13 (blockListBytes (take (i + 1) bs))
-block-list-more l bs i at h e =
+block-list-put l bs i at h e =
     let n : 13 + length (blockListBytes (take i bs)) ≡ at = omega (arith, length-block-list (take i bs), length-take-le i bs (omega arith)) in
     sym (
-    rw (add-one i, take-suc bs i 0 h, block-list-append)
+    rw (block-list-next bs i h)
     (sets-append (blockListBytes (take i bs)) (0x80 ∷ byte bs i ∷ []) l 13 ∙ rw (n, add-one at))
     )
 

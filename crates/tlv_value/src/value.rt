@@ -2,16 +2,18 @@
 //
 // Every loop here is at a usable address or at the end, and each turn moves on to the next usable address.
 
-use crate::table;
-use crate::walk::Walk;
 use tag::Address;
+use tlv::table;
+use tlv::walk;
+use tlv::walk::Walk;
 ghost use mathlib.Core.Path.{_≡_};
 ghost use mathlib.Core.List.{map};
-ghost use Prim.Native.Nat.{_*_, _<_, _≤_};
-ghost use lib.ListN.{length, getD, take, drop};
+ghost use Prim.Native.Nat.{_-_, _*_, _<_, _≤_};
+ghost use lib.ListN.{length, take, drop};
 ghost use Rattle.tag.specs.Bytes.{byte, overlay, overwrite};
+ghost use Rattle.tlv.specs.Views.Table.{unskipped};
 ghost use Rattle.tlv.specs.Views.Walks.{ahead, Placed, Within, Along};
-ghost use Rattle.tlv.specs.Views.Values.{measured, valueAs, ValueRoom, BlocksMarked};
+ghost use Rattle.tlv_value.specs.Views.Values.{measured, valueAs, ValueRoom, BlocksMarked};
 
 // A value of a given length: `Short` if too few usable bytes are left, else the address of its first byte and whether it is
 // interrupted.
@@ -20,43 +22,29 @@ pub enum Value {
     At(Address, bool),
 }
 
+// How many of the addresses from `at` up to `end` are usable. As in `table::none_skipped`, a compiler can treat many addresses at once.
+fn count_usable(table: &[u16], at: Address, end: Address) -> usize
+    requires { ⌜ (at .0 ≤ end .0) × (end .0 ≤ length (now table)) × (end .0 ≤ 1024) ⌝ }
+    ensures is { λ r. ⌜ r ≡ length (unskipped (now (table .entry)) (at .0) (end .0 - at .0)) ⌝ }
+    ensures few { λ r. ⌜ r ≤ end .0 - at .0 ⌝ }
+{
+    let stop = end.0;
+    let mut a = at.0;
+    let mut n = 0u16;
+    while a < stop {
+        n += (table[a] == 0) as u16;
+        a += 1;
+    }
+    n as usize
+}
+
 // How many usable bytes are still to come.
 pub fn count(w: Walk, table: &[u16]) -> usize
     requires { ⌜ Within (now table) w ⌝ }
     ensures is { λ r. ⌜ r ≡ length (ahead (now (table .entry)) w) ⌝ }
     ensures few { λ r. ⌜ r ≤ 1024 ⌝ }
 {
-    table::count_usable(table, w.at, w.end)
-}
-
-// The usable address that comes after `k` others, or the end if there are at most `k`. Mostly nothing is skipped on the way there,
-// so the code tests that first: one sweep is quicker than going from each usable address to the next.
-pub fn nth(w: Walk, k: usize, table: &[u16]) -> Address
-    requires { ⌜ Within (now table) w ⌝ }
-    ensures is { λ r. ⌜ r .0 ≡ getD (ahead (now (table .entry)) w) k (w .end .0) ⌝ }
-    ensures within { λ r. ⌜ (w .at .0 ≤ r .0) × (r .0 ≤ w .end .0) ⌝ }
-{
-    let end = w.end;
-    let stop = end.0;
-    let here = w.at.0;
-    if stop - here <= k {
-        return end;
-    }
-    if table::none_skipped(table, w.at, Address(here + k + 1)) {
-        return Address(here + k);
-    }
-    let first = table::next_usable(table, w.at, end);
-    let mut a = first.0;
-    let mut left = k;
-    while a < stop {
-        if left == 0 {
-            return Address(a);
-        }
-        let next = table::next_usable(table, Address(a + 1), end);
-        a = next.0;
-        left -= 1;
-    }
-    end
+    count_usable(table, w.at, w.end)
 }
 
 // The next `n` usable bytes as a value. Their addresses rise, so they are consecutive exactly if the first and the last are `n - 1`
@@ -67,7 +55,7 @@ pub fn measure(w: Walk, n: usize, table: &[u16]) -> Value
     ensures room { λ r. ⌜ ValueRoom n (ahead (now (table .entry)) w) r ⌝ }
 {
     let end = w.end;
-    let last = nth(w, n - 1, table);
+    let last = walk::nth(w, n - 1, table);
     let z = last.0;
     if z == end.0 {
         return Value::Short;

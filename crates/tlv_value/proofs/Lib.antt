@@ -1,0 +1,4 @@
+-- Laws that the code needs. Nothing here states a rule.
+pub mod Overlays
+pub mod Touches
+pub mod Measured
