@@ -25,7 +25,7 @@ pub record Plan : Type 0 where
 abbrev pub newImage : Plan → List ℕ → List ℕ
 newImage p i = overlay (p .addresses) (p .values) i
 
--- protected: all bytes but those to set
+-- protected (the requirements' word): all bytes but those to set
 abbrev pub protected : Plan → ℕ → Bool
 protected p a = not (isSet (p .addresses) (p .values) a)
 

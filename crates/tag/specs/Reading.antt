@@ -18,7 +18,7 @@ pub record Report : Type 0 where
   pub content : Content
   pub bytes : List ℕ
   pub address : ℕ
-  -- a skipped address lies between the message's first and last byte
+  -- interrupted (the requirements' word): a skipped address lies between the message's first and last byte
   pub interrupted : Bool
   pub writable : Bool
 

@@ -21,7 +21,7 @@ allowedArea first n r = true
 abbrev pub covers : Area → ℕ → Bool
 covers r a = leb (r .start) a && ltb a (r .start + r .size)
 
--- the usable addresses that the area leaves
+-- the usable addresses (the requirements' word) that the area leaves
 unfoldable pub without : Area → List ℕ → List ℕ
 without r [] = []
 without r (a ∷ us) = elim (covers r a) [ true ↦ without r us | false ↦ a ∷ without r us ]

@@ -13,7 +13,7 @@ abbrev pub usable : Located → List ℕ
 usable (refuse r) = []
 usable (located us ms) = us
 
--- u usable bytes have room for a message of n bytes, with its length
+-- a length n fits (the requirements' word): u usable bytes have room for a message of n bytes, with its length
 unfoldable pub fitsIn : ℕ → ℕ → Bool
 fitsIn n u = cond (leb n 254) (leb (1 + n) u) (leb (3 + n) u)
 

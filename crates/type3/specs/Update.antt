@@ -9,6 +9,7 @@ use Rattle.tag.specs.Bytes.{byte, run, overlay}
 use Rattle.tag.specs.Plan.{Plan}
 use Rattle.type3.specs.AttributeInformation.{steadySum, nmaxbOf}
 
+-- a length n fits (the requirements' word): the blocks 1 to Nmaxb have room for it
 abbrev pub fits : List ℕ → ℕ → Bool
 fits i n = leb n (16 * nmaxbOf i)
 
