@@ -9,34 +9,10 @@ compile_error!("libzanfirotta.a is missing: run `rt staticlib zanfirotta` at the
 #[path = "../tests/reference/mod.rs"]
 mod reference;
 
-use std::arch::global_asm;
 use std::hint::black_box;
 use std::time::Instant;
 
 use zanfirotta::{type2, type3};
-
-/// How many bytes lie before the library's code in this program, from the environment variable
-/// PADDING. Where a loop lies in a cache line changes some rows by a third, and the linker decides
-/// that.
-const PADDING: usize = match option_env!("PADDING") {
-    Some(digits) => number(digits.as_bytes()),
-    None => 0,
-};
-
-global_asm!(".globl padding", "padding: .skip {}", "ret", const PADDING);
-
-extern "C" {
-    fn padding();
-}
-
-const fn number(digits: &[u8]) -> usize {
-    let (mut n, mut i) = (0, 0);
-    while i < digits.len() {
-        n = 10 * n + (digits[i] - b'0') as usize;
-        i += 1;
-    }
-    n
-}
 
 const RUNS: usize = 301;
 /// A run should take about this long.
@@ -256,8 +232,6 @@ fn image3(blocks: usize, nbw: u8) -> Vec<u8> {
 }
 
 fn main() {
-    // The linker leaves out what nothing refers to.
-    black_box(padding as unsafe extern "C" fn());
     println!("| tag                          | call   | library ns   | reference ns |  ratio |");
     println!("|------------------------------|--------|--------------|--------------|--------|");
 
