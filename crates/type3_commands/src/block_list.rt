@@ -59,6 +59,9 @@ pub fn blocks_of(numbers: [usize; commands::MOST_BLOCKS]) -> [Block; commands::M
     ]
 }
 
+// The highest block that a command can list: an element has one byte for the number.
+const HIGHEST: usize = 255;
+
 // Whether the block is among `blocks`.
 fn has(blocks: &[usize], block: usize) -> bool
     ensures { λ r. ⌜ r ≡ has block (now (blocks .entry)) ⌝ }
@@ -104,7 +107,7 @@ fn listable_in_any_order(blocks: &[usize], nmaxb: usize) -> bool
         if nmaxb < block {
             return false;
         }
-        if 255 < block {
+        if HIGHEST < block {
             return false;
         }
         if has(&blocks[i + 1..], block) {
@@ -120,7 +123,7 @@ fn listable_in_any_order(blocks: &[usize], nmaxb: usize) -> bool
 pub(crate) fn listable(blocks: &[usize], nmaxb: usize) -> bool
     ensures { λ r. ⌜ r ≡ listable nmaxb (now (blocks .entry)) ⌝ }
 {
-    let most = numbers::smaller(nmaxb, 255);
+    let most = numbers::smaller(nmaxb, HIGHEST);
     if rises(blocks, most) {
         return true;
     }
