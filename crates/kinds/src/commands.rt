@@ -43,12 +43,6 @@ pub fn take_command(
 {
     match kind {
         Kind::Type2(e) => type2::model::take_command(work, command),
-        Kind::Type3(nbw, nmaxb) => type3_commands::model::take_command(
-            work,
-            idm,
-            command,
-            nbw,
-            nmaxb,
-        ),
+        Kind::Type3(nbw, nmaxb) => type3_model::model::take_command(work, idm, command, nbw, nmaxb),
     }
 }

@@ -4,5 +4,3 @@ pub mod BlockLists
 pub mod Rising
 pub mod Encoding
 pub mod Decoding
-pub mod Storing
-pub mod Modelling

@@ -18,7 +18,7 @@ ghost use Rattle.type3_commands.specs.CodecContracts.{blockNumbers, bloc
 pub const ELEMENT: usize = 2;
 
 // Where the number of the first block is: in its element, after 80h.
-pub(crate) const FIRST_NUMBER: usize = commands::FRONT + 1;
+pub const FIRST_NUMBER: usize = commands::FRONT + 1;
 
 // The element of a block.
 pub fn element(block: u8) -> [u8; ELEMENT]

@@ -27,7 +27,7 @@ ghost use Rattle.type3_commands.specs.Views.Framing.{isCommand, PutAsked
 pub const MOST_BLOCKS: usize = 8;
 
 // Where a command has its block count.
-pub(crate) const COUNT: usize = 12;
+pub const COUNT: usize = 12;
 
 // The bytes of a command before its block list; the count is the last of them.
 pub const FRONT: usize = COUNT + 1;
@@ -210,7 +210,7 @@ fn blocks_fit(bytes: &[u8], nmaxb: usize) -> bool
 }
 
 // Whether the bytes are a well-formed command.
-pub(crate) fn is_command(bytes: &[u8], idm: &[u8; 8], nbw: usize, nmaxb: usize) -> bool
+pub fn is_command(bytes: &[u8], idm: &[u8; 8], nbw: usize, nmaxb: usize) -> bool
     ensures { λ r. ⌜ r ≡ isCommand (decode (now (idm .entry)) nbw nmaxb (now (bytes .entry))) ⌝ }
 {
     if is_framed(bytes, idm, nbw) {

@@ -1,9 +1,7 @@
-// The write command of Type 3 tags: its bytes, the codec, and the tag as a model that takes it.
+// The write command of Type 3 tags: its block list and its codec.
 
 pub mod block_list;
 pub mod commands;
-pub mod model;
-mod stores;
 
 use tag::Block;
 

@@ -56,7 +56,7 @@ pub extern "C" fn zan_type3_judge(image: &[u8], message: &[u8], idm: &[u8; 8], l
 pub extern "C" fn zan_type3_model(image: &mut [u8], idm: &[u8; 8], command: &[u8]) -> u64
     ensures { λ r. ⌜ TookToC (type3 (now (idm .entry))) (now (image .entry)) (now (command .entry)) r (now (image .exit)) ⌝ }
 {
-    let answer = type3_commands::model::model(image, idm, command);
+    let answer = type3_model::model::model(image, idm, command);
     answers::storing(answer)
 }
 

@@ -1,6 +1,6 @@
 -- `commands::take_command` meets its contract. Assumes nothing.
 use Rattle.type2.proofs.Modelling as two
-use Rattle.type3_commands.proofs.Modelling as three
+use Rattle.type3_model.proofs.Modelling as three
 use borrow.Author.Needs.{needs}
 use Rattle.kinds.proofs.commands.take_command.Statement.{statement}
 use Rattle.kinds.proofs.commands.take_command.Tie as tie

@@ -6,8 +6,8 @@ use borrow.Author.Needs.{needs}
 use lib.ListN.{length, take, drop, length-drop, replicate}
 use lib.Seq.{sets, length-take-le}
 use Rattle.tag.proofs.Storing.{copied}
-use Rattle.type3_commands.proofs.stores.store_sixteen.Statement.{statement}
-use Rattle.type3_commands.proofs.stores.store_sixteen.Tie as tie
+use Rattle.type3_model.proofs.stores.store_sixteen.Statement.{statement}
+use Rattle.type3_model.proofs.stores.store_sixteen.Tie as tie
 
 returns : tie.Need-returns
 returns c =

@@ -10,11 +10,11 @@ use lib.Seq.{sets, drop-drop, getD-drop}
 use Rattle.tag.specs.Bytes.{byte}
 use Rattle.tag.specs.Stores.{puts, stores}
 use Rattle.type3.specs.Codec.{listable, decode, storesOf, commandOf}
 use Rattle.type3_commands.specs.Views.InPlace.{numbers}
 use Rattle.type3_commands.specs.Views.Framing.{isCommand, Framed}
-use Rattle.type3_commands.specs.Views.Model.{Storable, storesFrom}
+use Rattle.type3_model.specs.Views.Model.{Storable, storesFrom}
 use Rattle.type3_commands.proofs.BlockLists.{listable-each, length-numbers}
 use Rattle.type3_commands.proofs.Decoding.{frame, decode-carried}
 
 -- one number more
 numbers-next : (b : ℕ) (bytes : List ℕ) → 0 < b → numbers b bytes ≡ byte bytes 1 ∷ numbers (b - 1) (drop 2 bytes)

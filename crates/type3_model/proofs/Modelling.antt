@@ -17,8 +17,8 @@ use Rattle.tag.proofs.Logic.{true-false}
 use Rattle.type3.specs.AttributeInformation.{nmaxbOf, attributeInformation, attributeChecks}
 use Rattle.type3.specs.Codec.{Decoded, undecoded, decoded, decode, storesOf, commandOf}
 use Rattle.type3.specs.Type3.{type3}
 use Rattle.type3_commands.specs.Views.Framing.{isCommand}
-use Rattle.type3_commands.specs.Views.Model.{decodeFor}
+use Rattle.type3_model.specs.Views.Model.{decodeFor}
 use Rattle.type3.proofs.Message.{unread, passes-reads}
 
 -- ---- which commands are taken

@@ -1,19 +1,19 @@
 // What a well-formed command stores, read from its bytes in place. The element of block k is at 13 + 2k, its data after the block
 // list.
 
-use crate::block_list;
-use crate::commands;
 use tag::Block;
 use tag::numbers;
 use tag::slices;
 use type3::read;
+use type3_commands::block_list;
+use type3_commands::commands;
 ghost use mathlib.Core.Path.{_≡_};
 ghost use Prim.Native.Nat.{_+_, _*_, _<_, _≤_};
 ghost use lib.ListN.{length, take, drop};
 ghost use lib.Seq.{sets};
 ghost use Rattle.tag.specs.Bytes.{byte};
 ghost use Rattle.tag.specs.Stores.{puts};
-ghost use Rattle.type3_commands.specs.Views.Model.{Storable, storesFrom};
+ghost use Rattle.type3_model.specs.Views.Model.{Storable, storesFrom};
 
 // Stores sixteen bytes of `from` in `to`. They go through a local array, which the compiler knows to lie apart from both slices; so
 // it copies them with one load and one store.

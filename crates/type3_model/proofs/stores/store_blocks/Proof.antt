@@ -8,10 +8,10 @@ use lib.ListN.{length, take, drop}
 use lib.Seq.{length-sets}
 use Rattle.tag.specs.Bytes.{byte}
 use Rattle.tag.specs.Stores.{puts}
-use Rattle.type3_commands.specs.Views.Model.{storesFrom}
-use Rattle.type3_commands.proofs.Storing.{puts-next, puts-end}
-use Rattle.type3_commands.proofs.stores.store_blocks.Statement.{statement}
-use Rattle.type3_commands.proofs.stores.store_blocks.Tie as tie
+use Rattle.type3_model.specs.Views.Model.{storesFrom}
+use Rattle.type3_model.proofs.Storing.{puts-next, puts-end}
+use Rattle.type3_model.proofs.stores.store_blocks.Statement.{statement}
+use Rattle.type3_model.proofs.stores.store_blocks.Tie as tie
 
 abbrev Inv-loop : tie.InvT-loop
 Inv-loop command image₀ count k₀ image k =

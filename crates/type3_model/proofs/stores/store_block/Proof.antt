@@ -5,8 +5,8 @@ use borrow.Author.Needs.{needs}
 use lib.ListN.{take, drop}
 use lib.Seq.{sets}
 use Rattle.tag.specs.Bytes.{byte}
-use Rattle.type3_commands.proofs.stores.store_block.Statement.{statement}
-use Rattle.type3_commands.proofs.stores.store_block.Tie as tie
+use Rattle.type3_model.proofs.stores.store_block.Statement.{statement}
+use Rattle.type3_model.proofs.stores.store_block.Tie as tie
 
 returns : tie.Need-returns
 returns c =

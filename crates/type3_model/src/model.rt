@@ -1,19 +1,19 @@
 // A Type 3 tag as a model that takes one command a call.
 
-use crate::commands;
 use crate::stores;
 use tag::Address;
 use tag::ModelAnswer;
 use tag::refusals;
 use type3::read;
+use type3_commands::commands;
 ghost use mathlib.Core.Path.{_≡_};
 ghost use lib.ListN.{length};
 ghost use Rattle.tag.specs.Stores.{tagAfter};
 ghost use Rattle.tag.specs.Contracts.{Took};
 ghost use Rattle.type3.specs.Codec.{commandOf};
 ghost use Rattle.type3_commands.specs.Views.Framing.{isCommand};
 ghost use Rattle.type3.specs.Type3.{type3};
-ghost use Rattle.type3_commands.specs.Views.Model.{decodeFor};
+ghost use Rattle.type3_model.specs.Views.Model.{decodeFor};
 
 // Stores what the command says and answers true, if the command is well formed for this Nbw and this Nmaxb and blocks 0 to Nmaxb
 // lie in the image. Otherwise stores nothing and answers false.

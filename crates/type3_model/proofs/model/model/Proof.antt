@@ -8,11 +8,11 @@ use Rattle.tag.specs.Answers.{storingOf}
 use Rattle.tag.specs.Model.{imageAfter}
 use Rattle.type3.specs.AttributeInformation.{nmaxbOf}
 use Rattle.type3.specs.Codec.{decode, commandOf}
 use Rattle.type3_commands.specs.Views.Framing.{isCommand}
 use Rattle.type3.proofs.Reading.{fault-some, fault-none, fine-long, attested}
-use Rattle.type3_commands.proofs.Modelling.{decode-by, malformed-is, model-refused, model-malformed, model-stored}
-use Rattle.type3_commands.proofs.model.model.Statement.{statement}
-use Rattle.type3_commands.proofs.model.model.Tie as tie
+use Rattle.type3_model.proofs.Modelling.{decode-by, malformed-is, model-refused, model-malformed, model-stored}
+use Rattle.type3_model.proofs.model.model.Statement.{statement}
+use Rattle.type3_model.proofs.model.model.Tie as tie
 
 returns : tie.Need-returns
 returns c =

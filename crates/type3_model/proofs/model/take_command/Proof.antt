@@ -6,12 +6,12 @@ use borrow.Author.Tests.{not-true, not-false}
 use lib.ListN.{length}
 use Rattle.tag.specs.Stores.{tagAfter}
 use Rattle.type3.specs.Codec.{commandOf}
 use Rattle.type3_commands.specs.Views.Framing.{isCommand}
 use Rattle.type3_commands.proofs.Decoding.{decode-refused}
-use Rattle.type3_commands.proofs.Storing.{command-storable, command-stores}
-use Rattle.type3_commands.proofs.Modelling.{decode-past, decode-inside}
-use Rattle.type3_commands.proofs.model.take_command.Statement.{statement}
-use Rattle.type3_commands.proofs.model.take_command.Tie as tie
+use Rattle.type3_model.proofs.Storing.{command-storable, command-stores}
+use Rattle.type3_model.proofs.Modelling.{decode-past, decode-inside}
+use Rattle.type3_model.proofs.model.take_command.Statement.{statement}
+use Rattle.type3_model.proofs.model.take_command.Tie as tie
 
 returns : tie.Need-returns
 returns c =

@@ -1,0 +1,2 @@
+-- Views of the model of Type 3 tags.
+pub mod Model
