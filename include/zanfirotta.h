@@ -43,7 +43,8 @@ enum zan_refusal {
                                                bytes; Type 3: not a multiple of 16, under 16 or
                                                over 4,096 */
     ZAN_REFUSED_NOT_NDEF = 2,               /* Type 2: byte 12 is not E1h; Type 3: wrong checksum */
-    ZAN_REFUSED_UNKNOWN_VERSION = 3,        /* version byte is not 10h */
+    ZAN_REFUSED_UNKNOWN_VERSION = 3,        /* major version, the high nibble of the version byte,
+                                               is not 1 */
     ZAN_REFUSED_BAD_ACCESS = 4,             /* Type 2: byte 15 neither 00h nor 0Fh; Type 3:
                                                WriteFlag neither 00h nor 0Fh, RWFlag neither 00h
                                                nor 01h, or Nbr 0 */

@@ -89,7 +89,7 @@ pub enum RefusalNumber {
     ImageSize = 1,
     /// Type 2: byte 12 is not E1h. Type 3: the checksum is wrong.
     NotNdef = 2,
-    /// The version byte is not 10h.
+    /// The major version, the high nibble of the version byte, is not 1.
     UnknownVersion = 3,
     /// Type 2: byte 15 is neither 00h nor 0Fh. Type 3: a flag is unknown, or Nbr is 0.
     BadAccess = 4,

@@ -17,6 +17,8 @@ const WHOLE: u64 = 20_000;
 
 /// What the two types have in common for these tests.
 trait Type {
+    /// The address of the version byte.
+    const VERSION: usize;
     /// The bytes of our list, by the library.
     fn write(&self, image: &[u8], message: &[u8]) -> Vec<u8>;
     /// The same by the reference.
@@ -34,6 +36,8 @@ trait Type {
 struct Type2;
 
 impl Type for Type2 {
+    const VERSION: usize = 13;
+
     fn write(&self, image: &[u8], message: &[u8]) -> Vec<u8> {
         let mut list = vec![0; type2::LIST_MAX];
         let count = type2::write(image, message, &mut list).unwrap();
@@ -78,6 +82,8 @@ struct Type3 {
 }
 
 impl Type for Type3 {
+    const VERSION: usize = 0;
+
     fn write(&self, image: &[u8], message: &[u8]) -> Vec<u8> {
         let mut list = vec![0; type3::LIST_MAX];
         let count = type3::write(image, message, &self.idm, &mut list).unwrap();
@@ -186,7 +192,7 @@ fn run<T: Type>(
     image: impl Fn(&mut Rng) -> Vec<u8>,
     message_and_room: impl Fn(&[u8]) -> (Vec<u8>, usize),
 ) {
-    let (mut done, mut foreign, mut rewritten, mut cuts) = (0, 0, 0, 0);
+    let (mut done, mut foreign, mut rewritten, mut not_1_0, mut cuts) = (0, 0, 0, 0, 0);
     for index in 0.. {
         if done == lists {
             break;
@@ -212,9 +218,10 @@ fn run<T: Type>(
         done += 1;
         foreign += (list != tag.reference_list(&image, &message)) as u64;
         rewritten += !old.is_empty() as u64;
+        not_1_0 += (image[T::VERSION] != 0x10) as u64;
     }
-    println!("{name} lists {done}, of them foreign {foreign}, over an old message {rewritten}, cuts {cuts}");
-    assert!(foreign >= lists / 3 && rewritten >= lists / 8);
+    println!("{name} lists {done}, of them foreign {foreign}, over an old message {rewritten}, not 1.0 {not_1_0}, cuts {cuts}");
+    assert!(foreign >= lists / 3 && rewritten >= lists / 8 && not_1_0 >= lists / 8);
 }
 
 fn type2(lists: u64) {

@@ -66,6 +66,16 @@ fn type3_every_length() {
     type3::every_length();
 }
 
+#[test]
+fn type2_every_version() {
+    type2::every_version();
+}
+
+#[test]
+fn type3_every_version() {
+    type3::every_version();
+}
+
 /// An answer of the library in the terms of the reference.
 fn plain<T>(answer: Result<T, Refusal>) -> Result<T, reference::Refusal> {
     answer.map_err(|refusal| {

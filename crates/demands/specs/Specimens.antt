@@ -1,10 +1,11 @@
--- The thirteen specimen tags that the requirements mark P, as one table under one claim. Each row gives the bytes of a tag, a
--- question and the answer that the requirements state. The checker computes every answer from the definitions, by `refl`.
+-- The thirteen specimen tags that the requirements mark P, and those of the requests, as one table under one claim. Each row gives
+-- the bytes of a tag, a question and the answer that the requirements state. The checker computes every answer from the definitions,
+-- by `refl`.
 -- Assumes nothing.
 use mathlib.Core.Path.{_≡_, refl}
 use mathlib.Core.Bool.{Bool, true, false, _&&_, cond}
 use mathlib.Core.List.{List, [], _∷_, _++_}
-use Prim.Native.Nat.{ℕ, _-_}
+use Prim.Native.Nat.{ℕ, _+_, _-_}
 use lib.ListN.{length, take, replicate}
 use Rattle.tag.specs.Bytes.{byte, same}
 use Rattle.tag.specs.Reading.{Content, message, empty, being-written, Answer, refusal, answer, answerOf}
@@ -28,18 +29,24 @@ use Rattle.type3.specs.Type3.{type3}
 abbrev pub tag2 : ℕ → List ℕ → List ℕ
 tag2 n bytes = take n (replicate 12 0x00 ++ bytes ++ replicate n 0x00)
 
--- a Type 2 tag of 64 bytes, size 6; its data area of 48 bytes begins with these
+-- a Type 2 tag of 64 bytes, size 6, given its version byte; its data area of 48 bytes begins with these
+abbrev smallOf : ℕ → List ℕ → List ℕ
+smallOf version bytes = tag2 64 (0xE1 ∷ version ∷ 0x06 ∷ 0x00 ∷ bytes)
+
 abbrev pub small : List ℕ → List ℕ
-small bytes = tag2 64 (0xE1 ∷ 0x10 ∷ 0x06 ∷ 0x00 ∷ bytes)
+small = smallOf 0x10
 
 -- one of 280 bytes, size 33; u of the 264 data bytes follow the type byte of a message TLV, and all before it are NULL TLVs
 abbrev large : ℕ → List ℕ
 large u = tag2 280 (0xE1 ∷ 0x10 ∷ 0x21 ∷ 0x00 ∷ replicate (263 - u) 0x00 ++ 0x03 ∷ [])
 
--- a Type 3 tag with thirteen blocks after block 0, given WriteFlag and the checksum's low byte; Ln is 35
+-- a Type 3 tag with thirteen blocks after block 0, given its version byte, WriteFlag and the checksum's low byte; Ln is 35
+abbrev tag3Of : ℕ → ℕ → ℕ → List ℕ
+tag3Of version flag sum =
+    version ∷ 0x04 ∷ 0x01 ∷ 0x00 ∷ 0x0D ∷ 0x00 ∷ 0x00 ∷ 0x00 ∷ 0x00 ∷ flag ∷ 0x01 ∷ 0x00 ∷ 0x00 ∷ 0x23 ∷ 0x00 ∷ sum ∷ replicate 208 0x00
+
 abbrev pub tag3 : ℕ → ℕ → List ℕ
-tag3 flag sum =
-    0x10 ∷ 0x04 ∷ 0x01 ∷ 0x00 ∷ 0x0D ∷ 0x00 ∷ 0x00 ∷ 0x00 ∷ 0x00 ∷ flag ∷ 0x01 ∷ 0x00 ∷ 0x00 ∷ 0x23 ∷ 0x00 ∷ sum ∷ replicate 208 0x00
+tag3 = tag3Of 0x10
 
 -- a message of n bytes
 abbrev some : ℕ → List ℕ
@@ -125,6 +132,13 @@ row2 i q e = record { kind = type2; image = i; question = q; expected = e }
 abbrev row3 : List ℕ → Question → Outcome → Row
 row3 i q e = record { kind = type3 (replicate 8 0x00); image = i; question = q; expected = e }
 
+-- a tag that holds a message, with this version byte, is read
+abbrev version2 : ℕ → Outcome → Row
+version2 v e = row2 (smallOf v (0x03 ∷ 0x03 ∷ 0xD0 ∷ 0x00 ∷ 0x00 ∷ 0xFE ∷ [])) read e
+
+abbrev version3 : ℕ → Outcome → Row
+version3 v e = row3 (tag3Of v 0x00 (0x36 + v)) read e
+
 -- is every answer the one expected
 pub holds : List Row → Bool
 unfolding picks writing splitList fault judge allowedArea without longBy lengthBy passValue areaBy controlBy find locateBy locate reading fitsIn lengthField decode message3.announceBy message3.reading codec3.blockListOf codec3.decodeBy codec3.decode
@@ -167,6 +181,21 @@ table =
     -- the empty list on a tag that reads as the message, and on another
     ∷ row2 (small (0x03 ∷ 0x03 ∷ 0xD0 ∷ 0x00 ∷ 0x00 ∷ 0xFE ∷ [])) (judge-list (0xD0 ∷ 0x00 ∷ 0x00 ∷ []) []) (accepts 0)
     ∷ row2 (small (0x03 ∷ 0x00 ∷ 0xFE ∷ [])) (judge-list (0xD0 ∷ 0x00 ∷ 0x00 ∷ []) []) (refuses-at 23 0)
+    -- E1, Type 2: versions 11h and 1Fh read; 00h, 01h, 0Fh and 20h get 3
+    ∷ version2 0x11 (reads message 18 3 false true)
+    ∷ version2 0x1F (reads message 18 3 false true)
+    ∷ version2 0x00 (refuses 3)
+    ∷ version2 0x01 (refuses 3)
+    ∷ version2 0x0F (refuses 3)
+    ∷ version2 0x20 (refuses 3)
+    -- E1, Type 3: the same; 20h with a wrong checksum gets 2
+    ∷ version3 0x11 (reads message 16 35 false true)
+    ∷ version3 0x1F (reads message 16 35 false true)
+    ∷ version3 0x00 (refuses 3)
+    ∷ version3 0x01 (refuses 3)
+    ∷ version3 0x0F (refuses 3)
+    ∷ version3 0x20 (refuses 3)
+    ∷ row3 (tag3Of 0x20 0x00 0x57) read (refuses 2)
     ∷ []
 
 -- every answer of the table is the one that the requirements state

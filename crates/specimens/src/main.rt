@@ -1,5 +1,5 @@
 // Runs specimens through the code and prints one line for each. They are the specimens that are not marked P, the detection
-// examples of source document 001, appendix C, empty lists, and foreign lists with each fault from 20 to 23.
+// examples of source document 001, appendix C, empty lists, foreign lists with each fault from 20 to 23, and those of the requests.
 
 mod print;
 mod type2_tags;
@@ -100,10 +100,49 @@ fn foreign_lists() {
     judge_foreign(b"broken off", b"\xA2\x05\x01\xFE\x00\x00");
 }
 
+// E1: versions on each side of the limits. A Type 3 tag's checksum is tested first.
+fn versions() {
+    type2_tags::read(b"version 00h", b"\xE1\x00\x06\x00\x03\x03\xD0\x00\x00\xFE");
+    type2_tags::read(b"version 01h", b"\xE1\x01\x06\x00\x03\x03\xD0\x00\x00\xFE");
+    type2_tags::read(b"version 0Fh", b"\xE1\x0F\x06\x00\x03\x03\xD0\x00\x00\xFE");
+    type2_tags::read(b"version 11h", b"\xE1\x11\x06\x00\x03\x03\xD0\x00\x00\xFE");
+    type2_tags::read(b"version 1Fh", b"\xE1\x1F\x06\x00\x03\x03\xD0\x00\x00\xFE");
+    type2_tags::read(b"version 20h", b"\xE1\x20\x06\x00\x03\x03\xD0\x00\x00\xFE");
+    type3_tags::read(
+        b"Type 3, version 00h",
+        b"\x00\x04\x01\x00\x0D\x00\x00\x00\x00\x00\x01\x00\x00\x03\x00\x16",
+    );
+    type3_tags::read(
+        b"Type 3, version 01h",
+        b"\x01\x04\x01\x00\x0D\x00\x00\x00\x00\x00\x01\x00\x00\x03\x00\x17",
+    );
+    type3_tags::read(
+        b"Type 3, version 0Fh",
+        b"\x0F\x04\x01\x00\x0D\x00\x00\x00\x00\x00\x01\x00\x00\x03\x00\x25",
+    );
+    type3_tags::read(
+        b"Type 3, version 11h",
+        b"\x11\x04\x01\x00\x0D\x00\x00\x00\x00\x00\x01\x00\x00\x03\x00\x27",
+    );
+    type3_tags::read(
+        b"Type 3, version 1Fh",
+        b"\x1F\x04\x01\x00\x0D\x00\x00\x00\x00\x00\x01\x00\x00\x03\x00\x35",
+    );
+    type3_tags::read(
+        b"Type 3, version 20h",
+        b"\x20\x04\x01\x00\x0D\x00\x00\x00\x00\x00\x01\x00\x00\x03\x00\x36",
+    );
+    type3_tags::read(
+        b"Type 3, version 20h, wrong checksum",
+        b"\x20\x04\x01\x00\x0D\x00\x00\x00\x00\x00\x01\x00\x00\x03\x00\x37",
+    );
+}
+
 fn main() {
     interrupted();
     appendix_c();
     lengths();
     empty_lists();
     foreign_lists();
+    versions();
 }

@@ -12,6 +12,14 @@ fn lay(attributes: &[u8], image: &mut [u8]) {
     slices::store(attributes, 0, image);
 }
 
+pub fn read(name: &[u8], attributes: &[u8]) {
+    let mut image = [0u8; 224];
+    lay(attributes, &mut image);
+    print::name(name);
+    let answer = type3::read::read(&image);
+    print::reading(answer, type3::read::shown(&image, answer));
+}
+
 pub fn write(name: &[u8], attributes: &[u8], message: &[u8]) {
     let mut image = [0u8; 224];
     lay(attributes, &mut image);

@@ -1,9 +1,9 @@
--- The version of a tag that the library reads.
+-- Which versions of tags the library reads.
 -- Assumes nothing.
 use mathlib.Core.Bool.{Bool}
-use Prim.Native.Nat.{ℕ}
+use Prim.Native.Nat.{ℕ, _/_}
 use lib.Dec.{eqb}
 
--- the version byte is 10h
+-- is the major version, the high nibble of the version byte, 1 (02, E1)
 abbrev pub knownVersion : ℕ → Bool
-knownVersion v = eqb v 0x10
+knownVersion v = eqb (v / 16) 1

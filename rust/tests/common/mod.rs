@@ -179,6 +179,22 @@ pub fn hex(bytes: &[u8]) -> String {
     bytes.iter().map(|byte| format!("{byte:02X} ")).collect()
 }
 
+/// The version byte of a tag that is meant to read: often 10h, else any with the same major version.
+pub fn version(rng: &mut Rng) -> u8 {
+    match rng.below(3) {
+        0 => rng.between(0x11, 0x1F) as u8,
+        _ => 0x10,
+    }
+}
+
+/// The version byte of a damaged tag: often one next to a limit.
+pub fn damaged_version(rng: &mut Rng) -> u8 {
+    match rng.below(3) {
+        0 => rng.byte(),
+        _ => rng.pick(&[0x00, 0x01, 0x0F, 0x1F, 0x20, 0x21]),
+    }
+}
+
 /// The length of a message to write, with the boundaries often: `old` is the length of the
 /// message on the tag, `room` the longest that fits.
 pub fn message_len(rng: &mut Rng, old: usize, room: usize) -> usize {

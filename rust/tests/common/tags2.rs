@@ -1,7 +1,7 @@
 //! Type 2 tags to test with: the specimens, and random ones, valid or damaged.
 
 use super::layout2::Layout;
-use super::Rng;
+use super::{damaged_version, version, Rng};
 use crate::reference::type2;
 
 /// Past the last address of any image.
@@ -75,7 +75,7 @@ pub fn valid(rng: &mut Rng) -> Vec<u8> {
         _ => most,
     };
     let access = if rng.percent(94) { 0x00 } else { 0x0F };
-    image[12..16].copy_from_slice(&[0xE1, 0x10, size as u8, access]);
+    image[12..16].copy_from_slice(&[0xE1, version(rng), size as u8, access]);
     let mut layout = Layout::new(image, size);
 
     let before = match rng.below(8) {
@@ -123,7 +123,7 @@ fn message_tlv(rng: &mut Rng, layout: &mut Layout) {
 /// A tag full of control TLVs before its message TLV.
 pub fn crowded(rng: &mut Rng, areas: usize) -> Vec<u8> {
     let mut image = rng.bytes(1024);
-    image[12..16].copy_from_slice(&[0xE1, 0x10, 126, 0x00]);
+    image[12..16].copy_from_slice(&[0xE1, version(rng), 126, 0x00]);
     let mut layout = Layout::new(image, 126);
     let tail = 16 + 5 * areas + 2;
     for _ in 0..areas {
@@ -145,7 +145,7 @@ pub fn damaged(rng: &mut Rng) -> Vec<u8> {
     for _ in 0..rng.between(1, 2) {
         match rng.below(14) {
             0 => image[12] = rng.byte(),
-            1 => image[13] = rng.byte(),
+            1 => image[13] = damaged_version(rng),
             2 => image[15] = rng.byte(),
             3 => image[14] = rng.byte(),
             4 => image[14] = ((image.len() - 16) / 8 + rng.below(3)) as u8,

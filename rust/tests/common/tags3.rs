@@ -1,6 +1,6 @@
 //! Type 3 tags to test with: the specimens, and random ones, valid or damaged.
 
-use super::Rng;
+use super::{damaged_version, version, Rng};
 use crate::reference::type3;
 
 /// An attribute information block with the right checksum.
@@ -97,6 +97,8 @@ pub fn valid(rng: &mut Rng) -> Vec<u8> {
         read_write,
         ln as u32,
     ));
+    image[0] = version(rng);
+    seal(&mut image);
     if rng.percent(30) {
         let reserved = match rng.below(3) {
             0 => vec![0xFF; 4],
@@ -115,7 +117,7 @@ pub fn damaged(rng: &mut Rng) -> Vec<u8> {
     let nmaxb = u16::from_be_bytes([image[3], image[4]]) as usize;
     for _ in 0..rng.between(1, 2) {
         match rng.below(13) {
-            0 => image[0] = rng.byte(),
+            0 => image[0] = damaged_version(rng),
             1 => image[1] = rng.pick(&[0, 0, 1]),
             2 => image[9] = rng.pick(&[0x01, 0x0E, 0xF0, 0xFF, 0x0F]),
             3 => image[10] = rng.pick(&[0x02, 0x0F, 0xFF, 0x01]),

@@ -34,6 +34,39 @@ pub fn every_length() {
     tally.expect(&[0, 7, 8, 9, 11], 3);
 }
 
+/// Every version byte, for each call that reads the tag.
+pub fn every_version() {
+    let mut tally = Tally::new("type2 versions");
+    let (message, command) = ([0xD0, 0x00, 0x01], [0xA2, 4, 0x03, 0x00, 0xD0, 0x00]);
+    for version in 0..=255 {
+        let mut image = tags2::plain(64, 6, &[0x03, 0x03, 0xD0, 0x00, 0x00, 0xFE]);
+        image[13] = version;
+        let expected = type2::read(&image, &mut []);
+        let got = zanfirotta::type2::read(&image, &mut []);
+        same(0, &plain(got.map(read_answer)), &expected, &[&image]);
+        assert_eq!(expected.is_ok(), version / 16 == 1);
+        tally.add(&expected);
+
+        let (mut list, mut wanted) = ([0xCC; 18], [0xCC; 18]);
+        let expected = type2::write(&image, &message, &mut wanted);
+        let got = plain(zanfirotta::type2::write(&image, &message, &mut list));
+        same(0, &(got, list), &(expected, wanted), &[&image]);
+        tally.add(&expected);
+
+        let expected = type2::judge(&image, &message, &list);
+        let got = plain(zanfirotta::type2::judge(&image, &message, &list));
+        same(0, &got, &expected, &[&image]);
+        tally.add(&expected);
+
+        let (mut tag, mut wanted) = (image.clone(), image.clone());
+        let expected = type2::model(&mut wanted, &command);
+        let got = plain(zanfirotta::type2::model(&mut tag, &command));
+        same(0, &(got, tag), &(expected, wanted), &[&image]);
+        tally.add(&expected);
+    }
+    tally.expect(&[0, 3], 4 * 16);
+}
+
 pub fn read(cases: u64) {
     let mut tally = Tally::new("type2 read");
     for index in 0..cases {
@@ -65,6 +98,7 @@ pub fn read(cases: u64) {
         tally.note("empty", expected.is_ok_and(|a| a.content == Content::Empty));
         tally.note("interrupted", expected.is_ok_and(|a| a.interrupted));
         tally.note("read-only", expected.is_ok_and(|a| !a.writable));
+        tally.note("not 1.0", expected.is_ok() && image[13] != 0x10);
     }
     tally.expect(&[0, 1, 2, 3, 4, 5, 6, 7, 8, 13], cases / 200);
 }
@@ -90,6 +124,7 @@ pub fn write(cases: u64) {
         tally.note("exact room", expected.is_ok() && message.len() == room);
         let gap = expected.is_ok_and(|n| interrupted_after(&image, &wanted.slice()[..6 * n]));
         tally.note("interrupted", gap);
+        tally.note("not 1.0", expected.is_ok() && image[13] != 0x10);
     }
     tally.expect(&[0, 1, 2, 3, 4, 5, 6, 7, 8, 9, 10, 11, 12], cases / 200);
 }
@@ -122,6 +157,7 @@ pub fn judge(cases: u64) {
         tally.note("interrupted", gap);
         let late = expected.is_err_and(|refusal| refusal.position > 0);
         tally.note("refused at a later command", late);
+        tally.note("not 1.0", expected.is_ok() && image[13] != 0x10);
     }
     let expected = [0, 1, 2, 3, 4, 5, 6, 7, 8, 9, 10, 11, 20, 21, 22, 23];
     tally.expect(&expected, cases / 200);
@@ -142,6 +178,7 @@ pub fn model(cases: u64) {
         same(index, &got, &expected, &[&image, &command]);
         same_buffers(index, &tag, &wanted, &[&image, &command]);
         tally.add(&expected);
+        tally.note("not 1.0", expected.is_ok() && image[13] != 0x10);
     }
     tally.expect(&[0, 1, 2, 3, 4, 5, 6, 7, 8, 20], cases / 200);
 }

@@ -38,6 +38,48 @@ pub fn every_length() {
     tally.expect(&[0, 9, 10, 11], 16);
 }
 
+/// Every version byte, for each call that reads the tag; and that the checksum is tested first.
+pub fn every_version() {
+    let mut tally = Tally::new("type3 versions");
+    let (message, our_idm) = ([0xD0, 0x00, 0x01], [1, 2, 3, 4, 5, 6, 7, 8]);
+    let command = &lists3::our_bytes(&tags3::default(), &message, &our_idm)[..31];
+    for version in 0..=255 {
+        let mut image = tags3::default();
+        image[0] = version;
+        tags3::seal(&mut image);
+        let expected = type3::read(&image);
+        let got = zanfirotta::type3::read(&image);
+        same(0, &plain(got.map(read_answer)), &expected, &[&image]);
+        assert_eq!(expected.is_ok(), version / 16 == 1);
+        tally.add(&expected);
+
+        let (mut list, mut wanted) = ([0xCC; 93], [0xCC; 93]);
+        let expected = type3::write(&image, &message, &our_idm, &mut wanted);
+        let got = plain(zanfirotta::type3::write(
+            &image, &message, &our_idm, &mut list,
+        ));
+        same(0, &(got, list), &(expected, wanted), &[&image]);
+        tally.add(&expected);
+
+        let expected = type3::judge(&image, &message, &our_idm, &list);
+        let got = plain(zanfirotta::type3::judge(&image, &message, &our_idm, &list));
+        same(0, &got, &expected, &[&image]);
+        tally.add(&expected);
+
+        let (mut tag, mut wanted) = (image.clone(), image.clone());
+        let expected = type3::model(&mut wanted, &our_idm, command);
+        let got = plain(zanfirotta::type3::model(&mut tag, &our_idm, command));
+        same(0, &(got, tag), &(expected, wanted), &[&image]);
+        tally.add(&expected);
+
+        image[15] ^= 1;
+        let got = plain(zanfirotta::type3::read(&image).map(read_answer));
+        same(0, &got, &type3::read(&image), &[&image]);
+        tally.add(&got);
+    }
+    tally.expect(&[0, 2, 3], 4 * 16);
+}
+
 pub fn read(cases: u64) {
     let mut tally = Tally::new("type3 read");
     for index in 0..cases {
@@ -59,6 +101,7 @@ pub fn read(cases: u64) {
         tally.note("empty", reads_as(Content::Empty));
         tally.note("being written", reads_as(Content::BeingWritten));
         tally.note("not writable", expected.is_ok_and(|a| !a.writable));
+        tally.note("not 1.0", expected.is_ok() && image[0] != 0x10);
     }
     tally.expect(&[0, 1, 2, 3, 4, 5, 7], cases / 200);
 }
@@ -81,6 +124,7 @@ pub fn write(cases: u64) {
         same_buffers(index, &list, &wanted, &[&image, &message]);
         tally.add(&expected);
         tally.note("exact room", expected.is_ok() && message.len() == room);
+        tally.note("not 1.0", expected.is_ok() && image[0] != 0x10);
     }
     tally.expect(&[0, 1, 2, 3, 4, 5, 7, 9, 10, 11, 12], cases / 200);
 }
@@ -102,6 +146,7 @@ pub fn judge(cases: u64) {
         tally.note("foreign accepted", expected.is_ok() && foreign);
         let late = expected.is_err_and(|refusal| refusal.position > 0);
         tally.note("refused at a later command", late);
+        tally.note("not 1.0", expected.is_ok() && image[0] != 0x10);
     }
     let expected = [0, 1, 2, 3, 4, 5, 7, 9, 10, 11, 20, 21, 22, 23];
     tally.expect(&expected, cases / 200);
@@ -123,6 +168,7 @@ pub fn model(cases: u64) {
         same(index, &plain(got), &expected, &[&image, &command]);
         same_buffers(index, &tag, &wanted, &[&image, &command]);
         tally.add(&expected);
+        tally.note("not 1.0", expected.is_ok() && image[0] != 0x10);
     }
     tally.expect(&[0, 1, 2, 3, 4, 5, 7, 20], cases / 200);
 }

@@ -1,7 +1,8 @@
-//! The rules of `docs/01-scope.md` in ordinary Rust.
+//! The rules of `docs/01-scope.md` in ordinary Rust, with what `docs/02-change-requests.md` has
+//! changed: E1.
 //!
-//! This reference was written from that page alone, without a look at the verified code, so the two
-//! can be tested against each other. It is also the baseline of the speed measurements.
+//! This reference was written from these pages alone, without a look at the verified code, so the
+//! two can be tested against each other. It is also the baseline of the speed measurements.
 //!
 //! Every function takes what the verified one takes: slices in, an answer out, and `&mut [u8]` for
 //! the caller's buffer. A refusal changes no byte of that buffer.
@@ -33,6 +34,11 @@ impl Refusal {
             position: position as u64,
         }
     }
+}
+
+/// Whether a tag with this version byte is read: its major version is 1.
+pub fn known_version(version: u8) -> bool {
+    version >> 4 == 1
 }
 
 /// What a tag reads as. The discriminants are the numbers of the C interface.

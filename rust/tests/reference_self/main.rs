@@ -1,5 +1,5 @@
-//! The reference by itself: the specimens of docs/01-scope.md ('the page' in these files), and
-//! consistency over random cases. Needs no archive.
+//! The reference by itself: the specimens of docs/01-scope.md ('the page' in these files) and of
+//! docs/02-change-requests.md, and consistency over random cases. Needs no archive.
 
 #[path = "../common/mod.rs"]
 mod common;

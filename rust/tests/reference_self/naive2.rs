@@ -1,6 +1,6 @@
-//! The naive form of docs/01-scope.md for Type 2, to check the reference. It is as near to the
-//! words as possible and without regard to speed. Addresses are tested one by one, and every cut is
-//! read from the start.
+//! The naive form of docs/01-scope.md, with E1 of docs/02-change-requests.md, for Type 2, to check
+//! the reference. It is as near to the words as possible and without regard to speed. Addresses are
+//! tested one by one, and every cut is read from the start.
 
 use std::collections::BTreeSet;
 
@@ -66,7 +66,7 @@ pub fn read(image: &[u8]) -> Result<Tag, u8> {
     if image[12] != 0xE1 {
         return Err(2);
     }
-    if image[13] != 0x10 {
+    if !(0x10..=0x1F).contains(&image[13]) {
         return Err(3);
     }
     if image[15] != 0x00 && image[15] != 0x0F {

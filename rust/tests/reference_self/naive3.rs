@@ -1,6 +1,6 @@
-//! The naive form of docs/01-scope.md for Type 3, to check the reference. It is as near to the
-//! words as possible and without regard to speed. Addresses are tested one by one, and every cut is
-//! read from the start.
+//! The naive form of docs/01-scope.md, with E1 of docs/02-change-requests.md, for Type 3, to check
+//! the reference. It is as near to the words as possible and without regard to speed. Addresses are
+//! tested one by one, and every cut is read from the start.
 
 use std::collections::BTreeSet;
 
@@ -16,7 +16,7 @@ pub fn read(image: &[u8]) -> Result<(bool, usize, bool), u8> {
     if (0..14).map(at).sum::<usize>() != 256 * at(14) + at(15) {
         return Err(2);
     }
-    if at(0) != 0x10 {
+    if !(0x10..=0x1F).contains(&at(0)) {
         return Err(3);
     }
     if at(9) != 0 && at(9) != 0x0F || at(10) != 0 && at(10) != 1 || at(1) == 0 {

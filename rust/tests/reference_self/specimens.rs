@@ -1,4 +1,5 @@
-//! The reference on the specimens of docs/01-scope.md, and on tags as they leave the factory.
+//! The reference on the specimens of docs/01-scope.md and of docs/02-change-requests.md, and on tags
+//! as they leave the factory.
 
 use crate::common::tags2::{defaults, plain, with_usable};
 use crate::common::tags3;
@@ -110,6 +111,28 @@ fn type3_specimens() {
     let mut image = type3_image();
     image[15] = 0x47;
     assert_eq!(type3::read(&image), refused(2));
+}
+
+/// E1: the high nibble of the version byte has to be 1. A Type 3 tag's checksum is tested first.
+#[test]
+fn versions() {
+    for version in 0..=255 {
+        let mut image = plain(64, 6, &[0x03, 0x00, 0xFE]);
+        image[13] = version;
+        let mut image3 = type3_image();
+        image3[0] = version;
+        assert_eq!(type3::read(&image3).is_ok(), version == 0x10);
+        tags3::seal(&mut image3);
+        if version / 16 == 1 {
+            assert_eq!(read2(&image).unwrap().content, Content::Empty);
+            assert_eq!(type3::read(&image3).unwrap().length, 35);
+            assert!(write2(&image, 46).is_ok());
+            assert!(type3::write(&image3, &[7; 208], &IDM, &mut [0; 8000]).is_ok());
+        } else {
+            assert_eq!(read2(&image), refused(3));
+            assert_eq!(type3::read(&image3), refused(3));
+        }
+    }
 }
 
 #[test]

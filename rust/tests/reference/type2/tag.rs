@@ -1,7 +1,7 @@
 //! Type 2: reading, which is the tests 1 to 5, the walk to the message TLV, and the message.
 
 use super::{BLOCK, DATA_START, MAX_IMAGE, TERMINATOR};
-use crate::reference::{Content, ReadAnswer, Refusal};
+use crate::reference::{known_version, Content, ReadAnswer, Refusal};
 
 /// The walk over the data area. `skip` marks the addresses that a control TLV has taken out.
 struct Walk<'a> {
@@ -105,7 +105,7 @@ impl<'a> Tag<'a> {
         if image[12] != 0xE1 {
             return Err(Refusal::new(2));
         }
-        if image[13] != 0x10 {
+        if !known_version(image[13]) {
             return Err(Refusal::new(3));
         }
         let writable = match image[15] {

@@ -1,7 +1,7 @@
 //! Type 3: reading, by the attribute information in block 0.
 
 use super::{BEING_WRITTEN, BLOCK, MAX_IMAGE, WRITE_FLAG};
-use crate::reference::{Content, ReadAnswer, Refusal};
+use crate::reference::{known_version, Content, ReadAnswer, Refusal};
 
 /// What block 0 says.
 #[derive(Clone, Copy, Debug)]
@@ -22,7 +22,7 @@ impl AttributeInformation {
         if image[14..16] != checksum(image) {
             return Err(Refusal::new(2));
         }
-        if image[0] != 0x10 {
+        if !known_version(image[0]) {
             return Err(Refusal::new(3));
         }
         let (nbr, nbw) = (image[1], image[2]);
