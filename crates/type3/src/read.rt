@@ -193,10 +193,7 @@ pub fn attribute_information(image: &[u8]) -> Checked
     ensures is { λ r. ⌜ checkedAs r ≡ firstOf (attributeChecks (length (now (image .entry))) (attributeInformation (now (image .entry)))) ⌝ }
     ensures known { λ r. ⌜ Known (now (image .entry)) r ⌝ }
 {
-    if !is_whole(image.len()) {
-        return Checked::Refused(refusals::IMAGE_SIZE);
-    }
-    let refusal = block_fault(image);
+    let refusal = fault(image);
     if refusal != refusals::NONE {
         return Checked::Refused(refusal);
     }
