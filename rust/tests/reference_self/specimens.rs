@@ -121,7 +121,9 @@ fn versions() {
         image[13] = version;
         let mut image3 = type3_image();
         image3[0] = version;
-        assert_eq!(type3::read(&image3).is_ok(), version == 0x10);
+        if version != 0x10 {
+            assert_eq!(type3::read(&image3), refused(2));
+        }
         tags3::seal(&mut image3);
         if version / 16 == 1 {
             assert_eq!(read2(&image).unwrap().content, Content::Empty);
