@@ -132,7 +132,7 @@ row2 i q e = record { kind = type2; image = i; question = q; expected = e }
 abbrev row3 : List ℕ → Question → Outcome → Row
 row3 i q e = record { kind = type3 (replicate 8 0x00); image = i; question = q; expected = e }
 
--- a tag that holds a message, with this version byte, is read
+-- a row: a tag that holds a message and has this version byte is read
 abbrev version2 : ℕ → Outcome → Row
 version2 v e = row2 (smallOf v (0x03 ∷ 0x03 ∷ 0xD0 ∷ 0x00 ∷ 0x00 ∷ 0xFE ∷ [])) read e
 
