@@ -8,82 +8,15 @@ compile_error!("libzanfirotta.a is missing: run `rt staticlib zanfirotta` at the
 
 #[path = "../tests/reference/mod.rs"]
 mod reference;
+#[path = "speed/timing.rs"]
+mod timing;
 
 use std::hint::black_box;
-use std::time::Instant;
 
+use timing::compare;
 use zanfirotta::{type2, type3};
 
-const RUNS: usize = 301;
-/// A run should take about this long.
-const NANOSECONDS: f64 = 50_000.0;
-
 const IDM: [u8; 8] = [0x01, 0x2E, 0x45, 0x76, 0xBA, 0x12, 0x34, 0x56];
-
-/// The buffers that a call may write to.
-struct Buffers {
-    image: Vec<u8>,
-    gathered: Vec<u8>,
-    list: Vec<u8>,
-}
-
-impl Buffers {
-    fn new(image: &[u8]) -> Self {
-        Buffers {
-            image: image.to_vec(),
-            gathered: vec![0; 4096],
-            list: vec![0; 8192],
-        }
-    }
-
-    fn clear(&mut self, image: &[u8]) {
-        self.image.copy_from_slice(image);
-        self.gathered.fill(0);
-        self.list.fill(0);
-    }
-}
-
-/// One run: nanoseconds for a call.
-fn run(calls: usize, image: &[u8], buffers: &mut Buffers, call: &dyn Fn(&mut Buffers)) -> f64 {
-    buffers.clear(image);
-    let start = Instant::now();
-    for _ in 0..calls {
-        call(buffers);
-    }
-    start.elapsed().as_nanos() as f64 / calls as f64
-}
-
-fn median(mut times: Vec<f64>) -> f64 {
-    times.sort_by(f64::total_cmp);
-    times[times.len() / 2]
-}
-
-/// Times both and prints a line of the table.
-fn compare(
-    tag: &str,
-    operation: &str,
-    image: &[u8],
-    library: &dyn Fn(&mut Buffers),
-    reference: &dyn Fn(&mut Buffers),
-) {
-    let mut buffers = Buffers::new(image);
-    let mut calls = |call| {
-        let once = (0..5).map(|_| run(1, image, &mut buffers, call));
-        let once = once.fold(f64::INFINITY, f64::min);
-        (NANOSECONDS / once.max(1.0)).clamp(1.0, 5_000.0) as usize
-    };
-    let (library_calls, reference_calls) = (calls(library), calls(reference));
-    let (mut library_times, mut reference_times) = (Vec::new(), Vec::new());
-    for _ in 0..RUNS {
-        library_times.push(run(library_calls, image, &mut buffers, library));
-        reference_times.push(run(reference_calls, image, &mut buffers, reference));
-    }
-    let (library, reference) = (median(library_times), median(reference_times));
-    println!(
-        "| {tag:<28} | {operation:<6} | {library:>12.0} | {reference:>12.0} | {:>6.2} |",
-        library / reference
-    );
-}
 
 fn type2(tag: &str, image: &[u8], message: &[u8]) {
     let mut list = vec![0; type2::LIST_MAX];

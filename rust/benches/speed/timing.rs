@@ -1,0 +1,72 @@
+//! Times two calls against each other, in turn, and prints the medians.
+
+use std::time::Instant;
+
+const RUNS: usize = 301;
+/// A run should take about this long.
+const NANOSECONDS: f64 = 50_000.0;
+
+/// The buffers that a call may write to.
+pub struct Buffers {
+    pub image: Vec<u8>,
+    pub gathered: Vec<u8>,
+    pub list: Vec<u8>,
+}
+
+impl Buffers {
+    fn new(image: &[u8]) -> Self {
+        Buffers {
+            image: image.to_vec(),
+            gathered: vec![0; 4096],
+            list: vec![0; 8192],
+        }
+    }
+
+    fn clear(&mut self, image: &[u8]) {
+        self.image.copy_from_slice(image);
+        self.gathered.fill(0);
+        self.list.fill(0);
+    }
+}
+
+/// One run: nanoseconds for a call.
+fn run(calls: usize, image: &[u8], buffers: &mut Buffers, call: &dyn Fn(&mut Buffers)) -> f64 {
+    buffers.clear(image);
+    let start = Instant::now();
+    for _ in 0..calls {
+        call(buffers);
+    }
+    start.elapsed().as_nanos() as f64 / calls as f64
+}
+
+fn median(mut times: Vec<f64>) -> f64 {
+    times.sort_by(f64::total_cmp);
+    times[times.len() / 2]
+}
+
+/// Times both and prints a line of the table.
+pub fn compare(
+    tag: &str,
+    operation: &str,
+    image: &[u8],
+    library: &dyn Fn(&mut Buffers),
+    reference: &dyn Fn(&mut Buffers),
+) {
+    let mut buffers = Buffers::new(image);
+    let mut calls = |call| {
+        let once = (0..5).map(|_| run(1, image, &mut buffers, call));
+        let once = once.fold(f64::INFINITY, f64::min);
+        (NANOSECONDS / once.max(1.0)).clamp(1.0, 5_000.0) as usize
+    };
+    let (library_calls, reference_calls) = (calls(library), calls(reference));
+    let (mut library_times, mut reference_times) = (Vec::new(), Vec::new());
+    for _ in 0..RUNS {
+        library_times.push(run(library_calls, image, &mut buffers, library));
+        reference_times.push(run(reference_calls, image, &mut buffers, reference));
+    }
+    let (library, reference) = (median(library_times), median(reference_times));
+    println!(
+        "| {tag:<28} | {operation:<6} | {library:>12.0} | {reference:>12.0} | {:>6.2} |",
+        library / reference
+    );
+}
