@@ -1,7 +1,7 @@
 -- The codecs lose nothing: decoding undoes encoding, and encoding undoes decoding.
 -- Assumes nothing.
 use mathlib.Core.Path.{_≡_, refl, sym, ap, _∙_}
-use mathlib.Core.Bool.{Bool, true, false}
+use mathlib.Core.Bool.{Bool, true, false, _&&_}
 use mathlib.Core.List.{List}
 use Prim.Native.Nat.{ℕ, _+_, _*_, _≤_}
 use native.Mathlib.Omega.{arith}
@@ -11,12 +11,14 @@ use lib.ListN.{length, take}
 use lib.Seq.{length-take-le, take-all}
 use Rattle.tag.specs.Refusals.{malformed-command}
 use Rattle.tag.specs.TagType.{refused-output, output, fitted}
-use Rattle.tag.proofs.Logic.{nope}
+use Rattle.tag.proofs.Logic.{and-l, and-r, and-both, nope}
 use Rattle.type2.specs.Codec as codec2
 use Rattle.type2.proofs.Codec as laws2
 use Rattle.type3.specs.Codec as codec3
 use Rattle.type3.proofs.Codec as laws3
-use Rattle.demands.specs.Demand2.{Codec2, Codec3}
+use Rattle.type6.specs.Codec as codec6
+use Rattle.type6.proofs.Codec as laws6
+use Rattle.demands.specs.Demand2.{Codec2, Codec3, Codec6}
 use Rattle.demands.proofs.Demand2.{fitted-is}
 
 pub codec-2 : Codec2
@@ -72,3 +74,32 @@ codec-3 idm eight = record { decode-encode = there; encode-decode = back }
         let all-bytes : take (16 * length bs) bytes ≡ bytes = take-all (16 * length bs) bytes (omega (arith, n)) in
         rw (le-leb (length bs) (length bs) (omega arith), all-blocks, all-bytes, q, le-leb (length (codec3.commandBytes idm bs bytes)) room m)
         (ap (λ x. output (13 + 18 * length bs) x) (sym u) ∙ ap (λ x. output x all) (sym k ∙ ap length (sym u)))
+
+pub codec-6 : Codec6
+codec-6 = record { decode-encode = there; encode-decode = back }
+  where
+    there : (z blocks b : ℕ) (bytes : List ℕ) (room n : ℕ) (all : List ℕ) → z ≤ length bytes
+        → codec6.encode z blocks b bytes room ≡ output n all
+        → (codec6.decode z blocks all ≡ codec6.decoded b (take z bytes)) × (n ≡ length all)
+    there z blocks b bytes room n all l e = go (codec6.sizeDefined z && codec6.nameable blocks b) refl
+      where
+        go : (t : Bool) → codec6.sizeDefined z && codec6.nameable blocks b ≡ t
+            → (codec6.decode z blocks all ≡ codec6.decoded b (take z bytes)) × (n ≡ length all)
+        go false q = let f : refused-output malformed-command ≡ output n all = rw q at e in absurd (nope (cc))
+        go true q =
+            let size = and-l (codec6.sizeDefined z) (codec6.nameable blocks b) q in
+            let named = and-r (codec6.sizeDefined z) (codec6.nameable blocks b) q in
+            let whole : length (take z bytes) ≡ z = length-take-le z bytes l in
+            let f : fitted room (3 + z) (codec6.commandBytes b (take z bytes)) ≡ output n all = rw q at e in
+            let (k, u) = fitted-is room (3 + z) n (codec6.commandBytes b (take z bytes)) all f in
+            (rw (← u) (laws6.decode-encode z blocks b (take z bytes) size named whole), omega (arith, ap length u))
+
+    back : (z blocks : ℕ) (all : List ℕ) (b : ℕ) (bytes : List ℕ) (room : ℕ) → length all ≤ room
+        → codec6.decode z blocks all ≡ codec6.decoded b bytes → codec6.encode z blocks b bytes room ≡ output (length all) all
+    back z blocks all b bytes room l e =
+        let (size, named, n, u) = laws6.encode-decode z blocks all b bytes e in
+        let k : length (codec6.commandBytes b bytes) ≤ room = omega (arith, ap length u) in
+        let count : 3 + z ≡ length all = omega (arith, ap length u) in
+        let every : take z bytes ≡ bytes = take-all z bytes (omega arith) in
+        rw (every, and-both size named, le-leb (length (codec6.commandBytes b bytes)) room k)
+        (ap (λ x. output (3 + z) x) (sym u) ∙ ap (λ x. output x all) count)

@@ -1,7 +1,7 @@
--- Calls of `encode` and `decode` that meet their contracts lose nothing, for both types.
+-- Calls of `encode` and `decode` that meet their contracts lose nothing, for each type.
 -- Assumes nothing.
 use mathlib.Core.Path.{_≡_, refl, sym, ap, _∙_}
-use mathlib.Core.Bool.{Bool, true, false}
+use mathlib.Core.Bool.{Bool, true, false, _&&_}
 use mathlib.Core.List.{List}
 use Prim.Native.Nat.{ℕ, _*_, _≤_}
 use native.Mathlib.Omega.{arith}
@@ -14,7 +14,7 @@ use Rattle.tag.specs.declared.CountAnswer.the-variants as counted
 use Rattle.tag.specs.Bytes.{overwrite}
 use Rattle.tag.specs.Refusals.{refusalAt, malformed-command}
 use Rattle.tag.specs.TagType.{refused-output, output}
-use Rattle.tag.proofs.Logic.{nope}
+use Rattle.tag.proofs.Logic.{and-l, nope}
 use Rattle.type2.specs.declared.Command as command2
 use Rattle.type2.specs.declared.commands.Decoded as decoded2
 use Rattle.type2.specs.Codec as two
@@ -23,9 +23,14 @@ use Rattle.type3_commands.specs.declared.Command as command3
 use Rattle.type3_commands.specs.declared.commands.Decoded as decoded3
 use Rattle.type3.specs.Codec as three
 use Rattle.type3_commands.specs.CodecContracts as views3
-use Rattle.demands.specs.Code2.{codec2, codec3}
+use Rattle.type6.specs.declared.Command as command6
+use Rattle.type6.specs.declared.commands.Decoded as decoded6
+use Rattle.type6.specs.Codec as six
+use Rattle.type6.specs.CodecContracts as views6
+use Rattle.type6.proofs.Codec.{defined-bounds}
+use Rattle.demands.specs.Code2.{codec2, codec3, codec6}
 use Rattle.demands.proofs.Answered.{put-all, put-counted}
-use Rattle.demands.proofs.Codecs.{codec-2, codec-3}
+use Rattle.demands.proofs.Codecs.{codec-2, codec-3, codec-6}
 
 -- the front of a buffer is what was written over it
 front : (n : ℕ) (all buffer out : List ℕ) → out ≡ overwrite all buffer → n ≡ length all → take n out ≡ all
@@ -130,3 +135,46 @@ module _ (idm : List ℕ) (eight : length idm ≡ 8) (nbw nmaxb : ℕ) where
                 (λ x. record { count = x; blocks = views3.blocksOf (overwrite used (replicate 8 0)); bytes = overwrite carried (replicate 128 0) })
                 counted-as,
           )
+
+-- ---- Type 6
+
+module _ (z blocks : ℕ) where
+  read-6 : (d : decoded6.Decoded) → d .refusal ≡ 0 → views6.decodedAs z d ≡ six.decoded (d .command .block .0) (take z (d .command .bytes))
+  read-6 d e = rw (eq-eqb (d .refusal) 0 e)
+
+  none-6 : (d : decoded6.Decoded) (b : ℕ) (bytes : List ℕ) → views6.decodedAs z d ≡ six.decoded b bytes → d .refusal ≡ 0
+  none-6 d b bytes e = go (eqb (d .refusal) 0) refl
+    where
+      go : (x : Bool) → eqb (d .refusal) 0 ≡ x → d .refusal ≡ 0
+      go true q = eqb-true (d .refusal) 0 q
+      go false q = let y : six.undecoded (refusalAt (d .refusal) 0) ≡ six.decoded b bytes = rw q at e in absurd (nope (cc))
+
+  pub back-6 : (all : List ℕ) (d : decoded6.Decoded) → views6.DecodedTo z blocks all d → d .refusal ≡ 0
+      → (buffer out : List ℕ) (r : count.CountAnswer) → length all ≤ length buffer → views6.EncodedTo z blocks (d .command) buffer r out
+      → (r ≡ counted.Count (length all)) × (out ≡ overwrite all buffer)
+  back-6 all d (e, k) none buffer out r l encoded =
+      let b = d .command .block .0 in
+      let carried = take z (d .command .bytes) in
+      let first : take z carried ≡ carried = take-all z carried (omega (arith, length-take z (d .command .bytes))) in
+      let o : six.encode z blocks b carried (length buffer) ≡ output (length all) all
+      = codec-6 .encode-decode z blocks all b carried (length buffer) l (sym e ∙ read-6 d none) in
+      put-all (six.encode z blocks b (d .command .bytes)) buffer out r (length all) all encoded (rw first at o)
+
+  pub there-6 : (c : command6.Command) → length (c .bytes) ≡ 32
+      → (buffer out : List ℕ) (n : ℕ) → views6.EncodedTo z blocks c buffer (counted.Count n) out
+      → (d : decoded6.Decoded) → views6.DecodedTo z blocks (take n out) d → (d .refusal ≡ 0) × (d .command ≡ (codec6 z blocks .used) c)
+  there-6 c long buffer out n encoded d (e, k) =
+      let (all, o, b) = put-counted (six.encode z blocks (c .block .0) (c .bytes)) buffer out n encoded in
+      go all o b (six.sizeDefined z && six.nameable blocks (c .block .0)) refl
+    where
+      go : (all : List ℕ) → six.encode z blocks (c .block .0) (c .bytes) (length buffer) ≡ output n all → out ≡ overwrite all buffer
+          → (x : Bool) → six.sizeDefined z && six.nameable blocks (c .block .0) ≡ x
+          → (d .refusal ≡ 0) × (d .command ≡ (codec6 z blocks .used) c)
+      go all o b false q = let y : refused-output malformed-command ≡ output n all = rw q at o in absurd (nope (cc))
+      go all o b true q =
+          let carried = take z (c .bytes) in
+          let small : z ≤ 32 = defined-bounds z (and-l (six.sizeDefined z) (six.nameable blocks (c .block .0)) q) .1 in
+          let (was, size) = codec-6 .decode-encode z blocks (c .block .0) (c .bytes) (length buffer) n all (omega arith) o in
+          let read : six.decode z blocks (take n out) ≡ six.decoded (c .block .0) carried
+          = ap (six.decode z blocks) (front n all buffer out b size) ∙ was in
+          (none-6 d (c .block .0) carried (e ∙ read), k ∙ ap views6.commandAs read)

@@ -3,6 +3,7 @@ pub mod Demand3
 pub mod Demand2
 pub mod Octets
 pub mod TooLong
+pub mod TooSmall
 pub mod Codecs
 pub mod Answered
 pub mod ByContract

@@ -1,4 +1,4 @@
--- The theorems of demands 2 and 3 by name, for both types of tag. What each says is in `specs/Demand2.antt`, `specs/Demand3.antt`,
+-- The theorems of demands 2 and 3 by name, for each type of tag. What each says is in `specs/Demand2.antt`, `specs/Demand3.antt`,
 -- `specs/Code2.antt` and `specs/ByContract.antt`.
 -- Assumes nothing.
 use mathlib.Core.Path.{_≡_, refl, sym, ap, _∙_}
@@ -24,16 +24,20 @@ use Rattle.type2.proofs.Laws.{type2-laws}
 use Rattle.type3.specs.Type3.{type3}
 use Rattle.type3.proofs.Laws.{type3-laws}
 use Rattle.type3.proofs.Counts.{list-count}
-use Rattle.demands.specs.Demand2.{Demand2, Alike3, TooLong2, TooLong3, Codec2, Codec3, Count2, Count3}
+use Rattle.type6.specs.Type6.{type6}
+use Rattle.type6.proofs.Laws.{suffice-exactly, type6-laws}
+use Rattle.type6.proofs.Counts as counts6
+use Rattle.demands.specs.Demand2.{Demand2, Alike3, Alike6, TooLong2, TooLong3, TooLong6, LargeBlocks6, TooSmall6, Codec2, Codec3, Codec6, Count2, Count3, Count6, MostBytes6}
 use Rattle.demands.specs.Demand3.{Demand3}
 use Rattle.demands.specs.ByContract.{Code3}
-use Rattle.demands.specs.Code2.{codec2, codec3, alike2, count2, count3, Code2}
+use Rattle.demands.specs.Code2.{codec2, codec3, codec6, alike2, count2, count3, count6, Code2}
 use Rattle.demands.proofs.Demand2 as demand2
 use Rattle.demands.proofs.Demand3 as demand3
-use Rattle.demands.proofs.TooLong.{too-long-2, alike-2, too-long-3}
+use Rattle.demands.proofs.TooLong.{too-long-2, alike-2, too-long-3, too-long-6}
+use Rattle.demands.proofs.TooSmall.{too-small-6}
 use Rattle.demands.proofs.ByContract.{wrote-ours, by-contract}
-use Rattle.demands.proofs.Codecs.{codec-2, codec-3}
-use Rattle.demands.proofs.CodecsOfCode.{back-2, there-2, back-3, there-3}
+use Rattle.demands.proofs.Codecs.{codec-2, codec-3, codec-6}
+use Rattle.demands.proofs.CodecsOfCode.{back-2, there-2, back-3, there-3, back-6, there-6}
 use Rattle.demands.proofs.Code2.{written-tells, counted-ready, too-long-answer, unreadable-answer, short-answer}
 
 chained : {A B C : Type 0} → A ↔ B → B ↔ C → A ↔ C
@@ -111,3 +115,45 @@ module _ (idm : List ℕ) (eight : length idm ≡ 8) where
 
   pub type3-code3 : (i m : List ℕ) → Ready (type3 idm) i m → Code3 (type3 idm) i m
   type3-code3 i m r = by-contract (type3 idm) i m (type3-demand3 i m r) (ready-written (type3 idm) i m r)
+
+-- ---- Type 6
+
+pub type6-demand2 : Demand2 type6
+type6-demand2 = demand2.claim type6 type6-laws
+
+pub type6-too-long-exactly : TooLong6
+type6-too-long-exactly = too-long-6
+
+pub type6-large-blocks : LargeBlocks6
+type6-large-blocks = suffice-exactly
+
+pub type6-too-small-exactly : TooSmall6
+type6-too-small-exactly = too-small-6
+
+pub type6-codec : Codec6
+type6-codec = codec-6
+
+pub type6-count : Count6
+type6-count = counts6.list-count
+
+pub type6-most-bytes : MostBytes6
+type6-most-bytes = counts6.list-most
+
+pub type6-code2 : (z blocks : ℕ) (Chosen : ℕ → Type 0) → Code2 type6 (codec6 z blocks) (Alike6 Chosen) count6
+type6-code2 z blocks Chosen = record {
+  written-reads = written-tells type6 type6-laws;
+  counts = λ i m buffer out n w.
+      let r = counted-ready type6 i m buffer out n w in
+      sym (wrote-ours type6 i m (ready-written type6 i m r) buffer out n w .0) ∙ type6-count i m r;
+  too-long-exactly = λ i m a buffer out r w. chained (too-long-answer type6 i m buffer out r w) (type6-too-long-exactly i m a Chosen);
+  refuses = unreadable-answer type6 type6-laws;
+  gathers = short-answer type6;
+  encode-decode = back-6 z blocks;
+  decode-encode = there-6 z blocks;
+}
+
+pub type6-demand3 : (i m : List ℕ) → Ready type6 i m → Demand3 type6 i m
+type6-demand3 = demand3.claim type6 type6-laws
+
+pub type6-code3 : (i m : List ℕ) → Ready type6 i m → Code3 type6 i m
+type6-code3 i m r = by-contract type6 i m (type6-demand3 i m r) (ready-written type6 i m r)

@@ -1,4 +1,4 @@
--- Refusal 11 comes exactly if no image that the requirements compare with reads as the message, for both types.
+-- Refusal 11 comes exactly if no image that the requirements compare with reads as the message, for each type.
 -- Assumes nothing.
 use mathlib.Core.Path.{_≡_, refl, sym, ap, _∙_}
 use mathlib.Core.Bool.{Bool, true, false, not, _||_}
@@ -33,20 +33,25 @@ use Rattle.type3.specs.Update.{fits, blocksFor, addresses, lnSum, values, plan}
 use Rattle.type3.specs.Type3.{type3}
 use Rattle.type3.proofs.Message.{Agrees, bounds, reads-passes}
 use Rattle.type3.proofs.Update as update3
+use Rattle.type6.specs.Container.{fileAt}
+use Rattle.type6.specs.Update as six
+use Rattle.type6.specs.Type6.{type6}
+use Rattle.type6.proofs.Message as message6
+use Rattle.type6.proofs.Update as update6
 use Rattle.demands.specs.Code2.{alike2}
-use Rattle.demands.specs.Demand2.{Octets, Asked, Alike2, TooLong2, Alike3, TooLong3}
+use Rattle.demands.specs.Demand2.{Octets, Asked, Alike2, TooLong2, Alike3, TooLong3, Alike6, TooLong6}
 use Rattle.demands.proofs.Octets.{octets-byte, octets-overlay, octets-append, octets-zeros}
 
 -- ---- for every type: only room decides
 
 module _ (T : TagType) (i m : List ℕ) (a : Asked T i m) where
   roomy : (T .fits) i (length m) ≡ true → Ready T i m
-  roomy f = record { report = a .report; reads-as = a .reads-as; writable = a .writable; some-bytes = a .some-bytes; room = f }
+  roomy f = record { report = a .report; reads-as = a .reads-as; writable = a .writable; some-bytes = a .some-bytes; large-blocks = a .large-blocks; room = f }
 
   cramped : (T .fits) i (length m) ≡ false → writing T i m ≡ refused-write message-too-long
   unfolding writing
   cramped f =
-      let e : firstOf (checksOf T i m (a .report)) ≡ fault message-too-long = rw (ne-eqb (length m) 0 (a .some-bytes)) (rw (a .writable) (rw f)) in
+      let e : firstOf (checksOf T i m (a .report)) ≡ fault message-too-long = rw (ne-eqb (length m) 0 (a .some-bytes)) (rw (a .writable) (rw (a .large-blocks) (rw f))) in
       rw (a .reads-as) (ap (planned ((T .plan) i m)) e)
 
   -- 11 is given exactly if P holds, for any P that holds without room and fails with room
@@ -203,3 +208,35 @@ pub too-long-3 : (idm : List ℕ) → TooLong3 idm
 too-long-3 idm i m a =
     exactly (type3 idm) i m a ((j : List ℕ) → Octets j → Alike3 i j → held (type3 idm) j ≡ holds m → ⊥)
     (λ f j o k h. update3.too-long i m j f (agrees idm i m a j k) h) (with-room-3 idm i m a)
+
+-- ---- Type 6
+
+module _ (i m : List ℕ) (a : Asked type6 i m) (Chosen : ℕ → Type 0) where
+  module _ (f : six.fits i (length m) ≡ true) where
+    has-room-6 : update6.HasRoom i m
+    has-room-6 = record {
+      passes = message6.reads-passes i (ready-reads type6 i m (roomy type6 i m a f));
+      some-bytes = a .some-bytes;
+      room = f;
+    }
+
+    -- NLEN takes two bytes, since an image has at most 8,192
+    values-octets-6 : Octets (six.values m)
+    values-octets-6 =
+        let n : length m < 65536 = omega (arith, update6.inside i m has-room-6, message6.bounds i (has-room-6 .passes) .short) in
+        (omega arith, (omega arith, a .message-octets))
+
+    with-room-6 : ((j : List ℕ) → Octets j → Alike6 Chosen i j → held type6 j ≡ holds m → ⊥) → ⊥
+    with-room-6 none =
+        none (newImage (six.plan i m) i) (octets-overlay (six.addresses (fileAt i) m) (six.values m) i values-octets-6 (a .image-octets))
+        (record {
+          same-length = update6.new-length i m;
+          same-start = update6.new-agrees i m (has-room-6 .passes);
+          same-outside = λ x c o. update6.new-outside i m has-room-6 x o;
+        })
+        (update6.reads-new i m has-room-6)
+
+pub too-long-6 : TooLong6
+too-long-6 i m a Chosen =
+    exactly type6 i m a ((j : List ℕ) → Octets j → Alike6 Chosen i j → held type6 j ≡ holds m → ⊥)
+    (λ f j o k h. update6.too-long i m j f (k .same-start) h) (with-room-6 i m a Chosen)

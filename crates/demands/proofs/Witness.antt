@@ -1,8 +1,10 @@
 -- The premises of the theorems can be met. A specimen tag of each type is ready for a message and meets the premises of the
--- theorems about refusal 11, and the walk finds the message TLV of the Type 2 specimen.
+-- theorems about refusal 11, and the walk finds the message TLV of the Type 2 specimen. Outside a Type 6 file there are addresses to
+-- choose past byte 7, before the file and after it.
 -- Assumes nothing.
 use mathlib.Core.Path.{_≡_, refl}
 use mathlib.Core.Bool.{Bool, true, false, _&&_}
+use mathlib.Core.Logic.{inl, inr}
 use mathlib.Core.List.{List, [], _∷_}
 use Prim.Native.Nat.{ℕ}
 use native.Mathlib.Omega.{arith}
@@ -21,8 +23,11 @@ use Rattle.type2.specs.Memory.{layout}
 use Rattle.type2.specs.Type2.{type2}
 use Rattle.type3.specs.Message as message3
 use Rattle.type3.specs.Type3.{type3}
-use Rattle.demands.specs.Demand2.{Octets, Asked}
-use Rattle.demands.specs.Specimens.{small, tag3}
+use Rattle.type6.specs.Container.{sizeBy, containerBlocks}
+use Rattle.type6.specs.Message as message6
+use Rattle.type6.specs.Type6.{type6}
+use Rattle.demands.specs.Demand2.{Octets, Asked, Outside}
+use Rattle.demands.specs.Specimens.{small, tag3, tag6, card}
 
 -- an empty tag of 64 bytes, and a message of three
 pub ready-2 : Ready type2 (small (0x03 ∷ 0x00 ∷ 0xFE ∷ [])) (0xD0 ∷ 0x00 ∷ 0x00 ∷ [])
@@ -32,6 +37,7 @@ ready-2 = record {
   reads-as = refl;
   writable = refl;
   some-bytes = omega arith;
+  large-blocks = refl;
   room = refl;
 }
 
@@ -43,6 +49,19 @@ ready-3 = record {
   reads-as = refl;
   writable = refl;
   some-bytes = omega arith;
+  large-blocks = refl;
+  room = refl;
+}
+
+-- an empty Type 6 tag with blocks of 4 bytes, and the same message
+pub ready-6 : Ready type6 (card []) (0xD0 ∷ 0x00 ∷ 0x00 ∷ [])
+unfolding sizeBy containerBlocks message6.reading
+ready-6 = record {
+  report = record { content = empty; bytes = []; address = 0; interrupted = false; writable = true };
+  reads-as = refl;
+  writable = refl;
+  some-bytes = omega arith;
+  large-blocks = refl;
   room = refl;
 }
 
@@ -64,6 +83,7 @@ asked-2 = record {
   reads-as = ready-2 .reads-as;
   writable = ready-2 .writable;
   some-bytes = ready-2 .some-bytes;
+  large-blocks = ready-2 .large-blocks;
   image-octets = below-octets (small (0x03 ∷ 0x00 ∷ 0xFE ∷ [])) refl;
   message-octets = below-octets (0xD0 ∷ 0x00 ∷ 0x00 ∷ []) refl;
 }
@@ -80,6 +100,24 @@ asked-3 = record {
   reads-as = ready-3 .reads-as;
   writable = ready-3 .writable;
   some-bytes = ready-3 .some-bytes;
+  large-blocks = ready-3 .large-blocks;
   image-octets = below-octets (tag3 0x00 0x46) refl;
   message-octets = below-octets (0xD0 ∷ 0x00 ∷ 0x00 ∷ []) refl;
 }
+
+pub asked-6 : Asked type6 (card []) (0xD0 ∷ 0x00 ∷ 0x00 ∷ [])
+unfolding below
+asked-6 = record {
+  report = ready-6 .report;
+  reads-as = ready-6 .reads-as;
+  writable = ready-6 .writable;
+  some-bytes = ready-6 .some-bytes;
+  large-blocks = ready-6 .large-blocks;
+  image-octets = below-octets (card []) refl;
+  message-octets = below-octets (0xD0 ∷ 0x00 ∷ 0x00 ∷ []) refl;
+}
+
+-- six blocks of 3 bytes, MAX_LEN 2: the file lies from 9 to 14, so that 8 and 15 are outside
+pub outside-6 : Outside (tag6 18 (0x05 ∷ 0x02 ∷ 0x00 ∷ 0x02 ∷ [])) 8 × Outside (tag6 18 (0x05 ∷ 0x02 ∷ 0x00 ∷ 0x02 ∷ [])) 15
+unfolding sizeBy containerBlocks
+outside-6 = (inl (omega arith), inr (omega arith))

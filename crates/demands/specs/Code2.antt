@@ -33,6 +33,10 @@ use Rattle.type3_commands.specs.declared.commands.Decoded as decoded3
 use Rattle.type3.specs.Update.{blocksFor, blocksPerCommand}
 use Rattle.type3.specs.Type3.{type3}
 use Rattle.type3_commands.specs.CodecContracts as views3
+use Rattle.type6.specs.declared.Command as command6
+use Rattle.type6.specs.declared.commands.Decoded as decoded6
+use Rattle.type6.specs.Container.{blockSize}
+use Rattle.type6.specs.CodecContracts as views6
 use Rattle.demands.specs.Demand3.{ourBytes}
 use Rattle.demands.specs.Demand2.{Octets, Asked, Alike2, Alike3}
 use Rattle.demands.specs.ByContract.{Run}
@@ -87,16 +91,33 @@ codec3 idm nbw nmaxb =
           };
     }
 
+-- the codec of Type 6, which takes the block size and the number of blocks
+abbrev pub codec6 : ℕ → ℕ → CommandCodec
+codec6 z blocks =
+    record {
+      Command = command6.Command;
+      Decoded = decoded6.Decoded;
+      refusal = λ d. d .refusal;
+      command = λ d. d .command;
+      EncodedTo = views6.EncodedTo z blocks;
+      DecodedTo = views6.DecodedTo z blocks;
+      Whole = λ c. length (c .bytes) ≡ 32;
+      used = λ c. record { block = c .block; bytes = overwrite (take z (c .bytes)) (replicate 32 0) };
+    }
+
 -- Type 2: the images that refusal 11 is about; below `end`, an address that is not usable counts as skipped
 abbrev pub alike2 : ℕ → List ℕ → List ℕ → Type 0
 alike2 end i j = (t : ℕ) (us : List ℕ) → messageTlv layout i ≡ found t us → Alike2 end t us i j
 
--- the number of commands: blocks touched + 1 for Type 2, 2 + k/w rounded up for Type 3
+-- the number of commands: blocks touched + 1 for Type 2, 2 + k/w rounded up for Type 3, 1 + (n + 2)/size rounded up for Type 6
 abbrev pub count2 : List ℕ → List ℕ → ℕ
 count2 i m = touched ((type2 .plan) i m) i + 1
 
 abbrev pub count3 : List ℕ → List ℕ → ℕ
 count3 i m = 2 + (blocksFor (length m) + (blocksPerCommand (byte i 2) - 1)) / blocksPerCommand (byte i 2)
+
+abbrev pub count6 : List ℕ → List ℕ → ℕ
+count6 i m = 1 + (2 + length m + (blockSize i - 1)) / blockSize i
 
 -- ---- the claim
 

@@ -4,12 +4,12 @@
 -- Assumes nothing.
 use mathlib.Core.Path.{_≡_}
 use mathlib.Core.Bool.{true, false}
-use mathlib.Core.Logic.{_↔_}
+use mathlib.Core.Logic.{_⊎_, _↔_}
 use mathlib.Core.List.{List, [], _∷_}
 use Prim.Native.Nat.{ℕ, _+_, _-_, _*_, _/_, _<_, _≤_}
 use lib.ListN.{length, take}
 use Rattle.tag.specs.Bytes.{byte, has}
-use Rattle.tag.specs.Refusals.{message-too-long}
+use Rattle.tag.specs.Refusals.{message-too-long, block-too-small}
 use Rattle.tag.specs.Reading.{Report, unreadable, reads, answerOf, tooShort, gatheredInto, shown, holds}
 use Rattle.tag.specs.Plan.{touched, list}
 use Rattle.tag.specs.TagType.{TagType, held, writing, refused-write, output, write, commands}
@@ -21,7 +21,10 @@ use Rattle.type2.specs.Codec as codec2
 use Rattle.type3.specs.Type3.{type3}
 use Rattle.type3.specs.Update.{blocksFor, blocksPerCommand}
 use Rattle.type3.specs.Codec as codec3
-use Rattle.demands.specs.Demand3.{cutOf}
+use Rattle.type6.specs.Container.{blockSize, fileAt, fileRoom}
+use Rattle.type6.specs.Type6.{type6}
+use Rattle.type6.specs.Codec as codec6
+use Rattle.demands.specs.Demand3.{cutOf, ourBytes}
 
 -- ---- for every type of tag
 
@@ -42,12 +45,14 @@ abbrev pub Octets : List ℕ → Type 0
 Octets [] = Unit {0}
 Octets (b ∷ bs) = (b < 256) × Octets bs
 
--- the tag reads and is writable, and the message is not empty: of 1 to 11, only 11 may still come
+-- the tag reads and is writable, its blocks are large enough, and the message is not empty: of writing's refusals on the tag and
+-- the message, only 11 may still come
 pub record Asked (T : TagType) (i m : List ℕ) : Type 0 where
   pub report : Report
   pub reads-as : (T .reading) i ≡ reads report
   pub writable : report .writable ≡ true
   pub some-bytes : length m ≡ 0 → ⊥
+  pub large-blocks : (T .blocks-suffice) i ≡ true
   pub image-octets : Octets i
   pub message-octets : Octets m
 
@@ -73,6 +78,31 @@ abbrev pub TooLong3 : List ℕ → Type 0
 TooLong3 idm = (i m : List ℕ) → Asked (type3 idm) i m
     → (writing (type3 idm) i m ≡ refused-write message-too-long) ↔ ((j : List ℕ) → Octets j → Alike3 i j → held (type3 idm) j ≡ holds m → ⊥)
 
+-- Type 6: images of equal length with the same bytes 0 to 7, and equal at whichever addresses outside the file are chosen
+abbrev pub Outside : List ℕ → ℕ → Type 0
+Outside i a = (a < fileAt i) ⊎ (fileAt i + fileRoom i ≤ a)
+
+pub record Alike6 (Chosen : ℕ → Type 0) (i j : List ℕ) : Type 0 where
+  pub same-length : length j ≡ length i
+  pub same-start : (a : ℕ) → a < 8 → byte j a ≡ byte i a
+  pub same-outside : (a : ℕ) → Chosen a → Outside i a → byte j a ≡ byte i a
+
+-- for every choice: it makes no difference what else outside the file is held equal
+abbrev pub TooLong6 : Type 1
+TooLong6 = (i m : List ℕ) → Asked type6 i m → (Chosen : ℕ → Type 0)
+    → (writing type6 i m ≡ refused-write message-too-long) ↔ ((j : List ℕ) → Octets j → Alike6 Chosen i j → held type6 j ≡ holds m → ⊥)
+
+-- ---- refusal 14, exactly; only Type 6 has it
+
+-- a tag's blocks are large enough, as `Ready` and `Asked` ask, exactly if the block size is 2 or more
+abbrev pub LargeBlocks6 : Type 0
+LargeBlocks6 = (i : List ℕ) → ((type6 .blocks-suffice) i ≡ true) ↔ (2 ≤ blockSize i)
+
+-- where the tag reads and is writable, and the message is not empty, there is no 14 exactly if the block size is 2 or more
+abbrev pub TooSmall6 : Type 0
+TooSmall6 = (i m : List ℕ) (p : Report) → (type6 .reading) i ≡ reads p → p .writable ≡ true → (length m ≡ 0 → ⊥)
+    → (writing type6 i m ≡ refused-write block-too-small → ⊥) ↔ (2 ≤ blockSize i)
+
 -- ---- the codec loses nothing
 
 pub record Codec2 : Type 0 where
@@ -90,6 +120,14 @@ pub record Codec3 (idm : List ℕ) : Type 0 where
   pub encode-decode : (nbw nmaxb : ℕ) (all bs bytes : List ℕ) (room : ℕ) → length all ≤ room
       → codec3.decode idm nbw nmaxb all ≡ codec3.decoded bs bytes → codec3.encode idm nbw nmaxb (length bs) bs bytes room ≡ output (length all) all
 
+-- with blocks of z bytes, a command carries the first z of the bytes
+pub record Codec6 : Type 0 where
+  pub decode-encode : (z blocks b : ℕ) (bytes : List ℕ) (room n : ℕ) (all : List ℕ) → z ≤ length bytes
+      → codec6.encode z blocks b bytes room ≡ output n all
+      → (codec6.decode z blocks all ≡ codec6.decoded b (take z bytes)) × (n ≡ length all)
+  pub encode-decode : (z blocks : ℕ) (all : List ℕ) (b : ℕ) (bytes : List ℕ) (room : ℕ) → length all ≤ room
+      → codec6.decode z blocks all ≡ codec6.decoded b bytes → codec6.encode z blocks b bytes room ≡ output (length all) all
+
 -- ---- the number of commands
 
 -- Type 2: blocks touched + 1
@@ -101,3 +139,11 @@ abbrev pub Count3 : List ℕ → Type 0
 Count3 idm = (i m : List ℕ) → Ready (type3 idm) i m
     → length (list ((type3 idm .plan) i m) i)
     ≡ 2 + (blocksFor (length m) + (blocksPerCommand (byte i 2) - 1)) / blocksPerCommand (byte i 2)
+
+-- Type 6: 1 + (n + 2)/size rounded up
+abbrev pub Count6 : Type 0
+Count6 = (i m : List ℕ) → Ready type6 i m → length (list ((type6 .plan) i m) i) ≡ 1 + (2 + length m + (blockSize i - 1)) / blockSize i
+
+-- and the bytes of its list: a buffer of 256 · 35 bytes is long enough on every tag
+abbrev pub MostBytes6 : Type 0
+MostBytes6 = (i m : List ℕ) → Ready type6 i m → length (ourBytes type6 i m) ≤ 256 * 35

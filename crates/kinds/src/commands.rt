@@ -9,17 +9,19 @@ ghost use Rattle.kinds.specs.Views.Types.{typeOf, Attested};
 
 // How many bytes the first command of the list takes.
 fn span(kind: Kind, idm: &[u8; 8], image: &[u8], list: &[u8]) -> usize
+    requires { ⌜ Attested kind (now image) ⌝ }
     ensures { λ r. ⌜ r ≡ (typeOf kind (now (idm .entry)) .span) (now (image .entry)) (now (list .entry)) ⌝ }
 {
     match kind {
         Kind::Type2(e) => type2::commands::LENGTH,
         Kind::Type3(nbw, nmaxb) => type3_commands::commands::span(list),
+        Kind::Type6(size, blocks) => type6::commands::DATA + size,
     }
 }
 
 // How many bytes the command at `at` takes. A rest that is too short for a command counts as the last one.
 pub fn piece_size(kind: Kind, idm: &[u8; 8], image: &[u8], list: &[u8], at: usize) -> usize
-    requires { ⌜ at < length (now list) ⌝ }
+    requires { ⌜ Attested kind (now image) × (at < length (now list)) ⌝ }
     ensures { λ r. ⌜ Piece (typeOf kind (now (idm .entry))) (now (image .entry)) (now (list .entry)) at r ⌝ }
 {
     let rest = list.len() - at;
@@ -44,5 +46,6 @@ pub fn take_command(
     match kind {
         Kind::Type2(e) => type2::model::take_command(work, command),
         Kind::Type3(nbw, nmaxb) => type3_model::model::take_command(work, idm, command, nbw, nmaxb),
+        Kind::Type6(size, blocks) => type6::model::take_command(work, command, size, blocks),
     }
 }

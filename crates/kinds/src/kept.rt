@@ -22,5 +22,6 @@ pub fn is_kept(
     match kind {
         Kind::Type2(e) => tlv_tag::kept::is_kept(image, work, table, e),
         Kind::Type3(nbw, nmaxb) => type3::kept::is_kept(image, work, message.len()),
+        Kind::Type6(size, blocks) => type6::kept::is_kept(image, work, size, message.len()),
     }
 }

@@ -24,6 +24,19 @@ pub fn read(kind: Kind, idm: &[u8; 8], image: &[u8], gathered: &mut [u8]) -> Rea
     match kind {
         Kind::Type2(e) => type2::read::read(image, gathered),
         Kind::Type3(nbw, nmaxb) => type3::read::read(image),
+        Kind::Type6(size, blocks) => type6::read::read(image),
+    }
+}
+
+// `read`, for `is_safe` alone. With one caller the compiler inlines it where the judge reads the tag after each command; a call would
+// return the answer through memory, and the judge of a full tag would take twice the time.
+fn read_again(kind: Kind, idm: &[u8; 8], image: &[u8], gathered: &mut [u8]) -> ReadAnswer
+    ensures { λ r. ⌜ Read (typeOf kind (now (idm .entry)) .reading) (now (image .entry)) (now (gathered .entry)) r (now (gathered .exit)) ⌝ }
+{
+    match kind {
+        Kind::Type2(e) => type2::read::read(image, gathered),
+        Kind::Type3(nbw, nmaxb) => type3::read::read(image),
+        Kind::Type6(size, blocks) => type6::read::read(image),
     }
 }
 
@@ -40,7 +53,7 @@ pub fn is_safe(
     requires { ⌜ length (now gathered) ≡ 1024 ⌝ }
     ensures { λ r. ⌜ r ≡ readsAs (now (new .entry)) (oldHeld present (now (old .entry))) (held (typeOf kind (now (idm .entry))) (now (image .entry))) ⌝ }
 {
-    let answer = read(kind, idm, image, gathered);
+    let answer = read_again(kind, idm, image, gathered);
     let shown = slices::shown(image, gathered, answer);
     holding::is_safe(answer, shown, new, old, present)
 }

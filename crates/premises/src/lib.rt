@@ -7,7 +7,7 @@ use type3_commands::commands;
 ghost use mathlib.Core.Path.{_≡_};
 ghost use lib.ListN.{length};
 ghost use Rattle.demands.specs.Demand2.{Octets};
-ghost use Rattle.demands.specs.Code2.{codec2, codec3};
+ghost use Rattle.demands.specs.Code2.{codec2, codec3, codec6};
 
 // The elements of a slice of bytes are octets.
 pub fn octets(bytes: &[u8])
@@ -25,7 +25,7 @@ pub fn eight(idm: &[u8; 8])
     octets(idm);
 }
 
-// The arrays of a command have their lengths, for both types.
+// The arrays of a command have their lengths, for each type.
 pub fn whole_type2(command: type2::Command, blocks: usize)
     ensures { λ _. ⌜ (codec2 blocks .Whole) command ⌝ }
 {}
@@ -39,4 +39,8 @@ pub fn whole_type3(command: type3_commands::Command, idm: &[u8; 8], nbw: usize, 
 
 fn eight_blocks(blocks: [Block; commands::MOST_BLOCKS])
     ensures { λ _. ⌜ length blocks ≡ 8 ⌝ }
+{}
+
+pub fn whole_type6(command: type6::Command, size: usize, blocks: usize)
+    ensures { λ _. ⌜ (codec6 size blocks .Whole) command ⌝ }
 {}

@@ -1,7 +1,7 @@
 -- Lists of addresses that rise, and what an overlay at such addresses reads back as. One predicate gives their order, that no
 -- address occurs twice, and their bounds.
 -- Assumes nothing.
-use mathlib.Core.Path.{_≡_, refl}
+use mathlib.Core.Path.{_≡_, refl, ap, _∙_}
 use mathlib.Core.Bool.{true, false, not}
 use mathlib.Core.List.{List, [], _∷_, _++_, map}
 use Prim.Native.Nat.{ℕ, zero, suc, _+_, _<_, _≤_}
@@ -10,7 +10,7 @@ use native.Mathlib.Omega.{arith}
 use borrow.Author.Tests.{ne-eqb}
 use lib.Dec.{eqb}
 use lib.ListN.{length, set, take, drop}
-use lib.Seq.{getD-set-same, getD-set-other}
+use lib.Seq.{getD-set-same, getD-set-other, set-comm}
 use Rattle.tag.specs.Bytes.{byte, run, overlay, isSet}
 use Rattle.tag.proofs.Images.{length-overlay}
 
@@ -80,6 +80,14 @@ module _ (hi : ℕ) where
         map-out (take (length m) us) (overlay us (m ++ r) i) y v (above-take (length m) y us (h .1)),
         overlay-reads m r us i y (h .1) l (omega arith),
       )
+
+  -- a store below them may come first
+  pub overlay-set : (us vs i : List ℕ) (x v : ℕ) → Above x us → set (overlay us vs i) x v ≡ overlay us vs (set i x v)
+  overlay-set [] vs i x v h = refl
+  overlay-set (y ∷ us) [] i x v h = refl
+  overlay-set (y ∷ us) (b ∷ vs) i x v h =
+      set-comm (overlay us vs i) y x b v (λ e. omega (arith, h .0))
+      ∙ ap (λ j. set j y b) (overlay-set us vs i x v (above-less x y us (omega (arith, h .0)) (h .1)))
 
 -- ---- consecutive addresses
 

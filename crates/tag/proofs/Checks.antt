@@ -1,10 +1,12 @@
--- Tests that run in order. The answer is 'fine' exactly if each test passes; a fault is the refusal of one of them.
+-- Tests that run in order. The answer is 'fine' exactly if each test passes; a fault is the refusal of one of them. The code gives the
+-- answer as a number.
 -- Assumes nothing.
-use mathlib.Core.Path.{_≡_, refl, subst}
+use mathlib.Core.Path.{_≡_, refl, ap, subst}
 use mathlib.Core.Bool.{Bool, true, false}
 use mathlib.Core.List.{List, [], _∷_}
-use Prim.Native.Nat.{ℕ, _≤_}
+use Prim.Native.Nat.{ℕ, zero, suc, _≤_}
 use Rattle.tag.specs.Checks.{Check, fine, fault, firstOf}
+use Rattle.tag.specs.Views.Faults.{faultAs}
 use Rattle.tag.proofs.Logic.{nope}
 use Rattle.tag.proofs.Each.{Each}
 
@@ -39,3 +41,12 @@ first-among P (c ∷ cs) h r e = go (c .passes) refl (first-among P cs (h .1) r)
         let s : c .refusal ≡ r = cc in
         subst P s (h .0)
     go true q ih = ih (rw (q, firstOf) at e)
+
+-- ---- the answer as a number
+
+pub fault-some : (r : ℕ) → (r ≡ 0 → ⊥) → faultAs r ≡ fault r
+fault-some zero n = absurd (n refl)
+fault-some (suc r) n = refl
+
+pub fault-none : (r : ℕ) → r ≡ 0 → faultAs r ≡ fine
+fault-none r e = ap faultAs e

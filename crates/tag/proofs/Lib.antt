@@ -19,6 +19,7 @@ pub mod Counts
 pub mod Pieces
 pub mod Turns
 pub mod Laws
+pub mod Deciding
 pub mod Same
 pub mod Storing
 pub mod Filling

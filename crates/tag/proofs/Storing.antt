@@ -1,6 +1,6 @@
--- Bytes stored one after the other: one more byte, and bytes stored at a buffer's front.
+-- Bytes stored one after the other: one more byte, bytes stored at a buffer's front, and bytes set at addresses that follow each other.
 -- Assumes nothing.
-use mathlib.Core.Path.{_≡_, sym, ap, _∙_}
+use mathlib.Core.Path.{_≡_, refl, sym, ap, _∙_}
 use mathlib.Core.List.{List, [], _∷_, _++_, append-nil}
 use Prim.Native.Nat.{ℕ, suc, _+_, _<_, _≤_}
 use native.Mathlib.Numerals.{add-one}
@@ -8,7 +8,8 @@ use native.Mathlib.Nat.{add-zero}
 use native.Mathlib.Omega.{arith}
 use lib.ListN.{length, take, set, drop-of-length-le}
 use lib.Seq.{sets, sets-eq, take-suc, length-take-le}
-use Rattle.tag.specs.Bytes.{byte, overwrite}
+use Rattle.tag.specs.Bytes.{byte, run, overlay, overwrite}
+use Rattle.tag.proofs.Addresses.{above-run, overlay-set}
 
 pub sets-append : {A : Type 0} (xs ys l : List A) (i : ℕ) → sets l i (xs ++ ys) ≡ sets (sets l i xs) (i + length xs) ys
 sets-append [] ys l i = rw add-zero
@@ -36,3 +37,10 @@ copied image work l =
     sets-front image work (omega arith)
     ∙ ap (λ r. image ++ r) (drop-of-length-le work {i = length image} (omega arith))
     ∙ append-nil image
+
+-- an overlay at addresses that follow each other
+pub overlay-run : (vs i : List ℕ) (f : ℕ) → overlay (run f (length vs)) vs i ≡ sets i f vs
+overlay-run [] i f = refl
+overlay-run (v ∷ vs) i f =
+    overlay-set (f + suc (length vs)) (run (suc f) (length vs)) vs i f v (above-run (length vs) f (f + suc (length vs)) (omega arith))
+    ∙ overlay-run vs (set i f v) (suc f)

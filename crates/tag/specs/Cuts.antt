@@ -13,12 +13,14 @@ use Rattle.tag.specs.Stores.{Command, malformed, tagAfter, cut}
 use Rattle.tag.specs.TagType.{TagType}
 use Rattle.tag.specs.Judge.{Task}
 
--- what demand 3 takes for granted: a tag that reads, is writable, and has room for the new, non-empty message
+-- what demand 3 takes for granted: a tag that reads, is writable, has blocks large enough, and has room for the new, non-empty
+-- message
 pub record Ready (T : TagType) (i m : List ℕ) : Type 0 where
   pub report : Report
   pub reads-as : (T .reading) i ≡ reads report
   pub writable : report .writable ≡ true
   pub some-bytes : length m ≡ 0 → ⊥
+  pub large-blocks : (T .blocks-suffice) i ≡ true
   pub room : (T .fits) i (length m) ≡ true
 
 -- the tag reads as none, as the new message, or as the old one, which is what the tag handed in reads as, if any

@@ -74,7 +74,7 @@ taskOf T i m p = record { held = held T; start = i; wanted = m; kept = protected
 abbrev pub task : TagType → List ℕ → List ℕ → Task
 task T i m = taskOf T i m ((T .plan) i m)
 
--- refusals 1 to 11 first, with position 0; then the list's commands
+-- writing's refusals first, with position 0; then the list's commands
 abbrev pub judgeBy : TagType → List ℕ → List ℕ → List ℕ → Writing → Verdict
 judgeBy T i m bytes (refused-write r) = refused r 0
 judgeBy T i m bytes (written p) = judge (taskOf T i m p) 0 i (commands T i bytes)

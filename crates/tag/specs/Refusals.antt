@@ -9,18 +9,18 @@ use lib.Dec.{leb}
 abbrev pub image-size : ℕ
 image-size = 1
 
--- Type 2: byte 12 is not the magic number E1h; Type 3: the checksum is wrong
+-- Type 2: byte 12 is not the magic number E1h; Type 3: the checksum is wrong; Type 6: the first three bytes are not the letters NDE
 abbrev pub not-ndef : ℕ
 not-ndef = 2
 
 abbrev pub unknown-version : ℕ
 unknown-version = 3
 
--- Type 2: the access byte has a value that is not defined; Type 3: WriteFlag, RWFlag or Nbr has one
+-- Types 2 and 6: the access byte has a value that is not defined; Type 3: WriteFlag, RWFlag or Nbr has one
 abbrev pub bad-access : ℕ
 bad-access = 4
 
--- the data area reaches past the image
+-- the data area reaches past the image; Type 6: the image has another length than its blocks, or MAX_LEN is over the blocks left
 abbrev pub bad-data-area : ℕ
 bad-data-area = 5
 
@@ -28,7 +28,7 @@ bad-data-area = 5
 abbrev pub bad-control-tlv : ℕ
 bad-control-tlv = 6
 
--- a TLV runs past the data area or has a bad length form; Type 3: Ln is over 16·Nmaxb
+-- a TLV runs past the data area or has a bad length form; Type 3: Ln is over 16·Nmaxb; Type 6: NLEN is over m, or m is below 0
 abbrev pub bad-length : ℕ
 bad-length = 7
 
@@ -52,6 +52,10 @@ short-buffer = 12
 -- an interrupted message does not fit in the gathering buffer
 abbrev pub short-gathering-buffer : ℕ
 short-gathering-buffer = 13
+
+-- Type 6: blocks of one byte split NLEN over two commands
+abbrev pub block-too-small : ℕ
+block-too-small = 14
 
 abbrev pub malformed-command : ℕ
 malformed-command = 20

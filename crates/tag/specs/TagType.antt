@@ -7,7 +7,7 @@ use Prim.Native.Nat.{ℕ, zero, suc}
 use lib.Dec.{leb, eqb}
 use lib.ListN.{length, take, drop}
 use Rattle.tag.specs.Bytes.{overwrite}
-use Rattle.tag.specs.Refusals.{empty-message, not-writable, message-too-long, short-buffer}
+use Rattle.tag.specs.Refusals.{empty-message, not-writable, block-too-small, message-too-long, short-buffer}
 use Rattle.tag.specs.Checks.{Check, check, Checked, fine, fault, firstOf}
 use Rattle.tag.specs.Reading.{Report, Reading, unreadable, reads, Held, heldOf}
 use Rattle.tag.specs.Stores.{Store, Command}
@@ -17,6 +17,8 @@ use Rattle.tag.specs.Plan.{Plan, list}
 -- field takes it as an argument.
 pub record TagType : Type 0 where
   pub reading : List ℕ → Reading
+  -- are the tag's blocks large enough to write a message; of all types, only Type 6 has some that are not
+  pub blocks-suffice : List ℕ → Bool
   -- has the tag room for a message of n bytes
   pub fits : List ℕ → ℕ → Bool
   -- what writing the message sets; looked at only where writing is not refused
@@ -31,16 +33,17 @@ pub record TagType : Type 0 where
 abbrev pub held : TagType → List ℕ → Held
 held T i = heldOf ((T .reading) i)
 
--- writing is refused with one of 1 to 11, or it has a plan
+-- writing is refused with one of 1 to 11 or with 14, or it has a plan
 pub data Writing : Type 0 where
   refused-write : ℕ → Writing
   written : Plan → Writing
 
--- 9, 10, 11, in this order
+-- 9, 10, 14, 11, in this order
 abbrev pub checksOf : TagType → List ℕ → List ℕ → Report → List Check
 checksOf T i m p =
     check (not (eqb (length m) 0)) empty-message
     ∷ check (p .writable) not-writable
+    ∷ check ((T .blocks-suffice) i) block-too-small
     ∷ check ((T .fits) i (length m)) message-too-long
     ∷ []
 

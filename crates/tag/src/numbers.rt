@@ -1,7 +1,9 @@
 // Numbers from bytes, and small arithmetic.
 
 ghost use mathlib.Core.Path.{_≡_};
+ghost use mathlib.Core.Bool.{_||_};
 ghost use Prim.Native.Nat.{_+_, _*_, _<_, _≤_, min};
+ghost use lib.Dec.{eqb};
 ghost use lib.ListN.{length};
 ghost use Rattle.tag.specs.Bytes.{byte};
 ghost use Rattle.tag.specs.Views.Numbers.{sumTo};
@@ -44,4 +46,14 @@ pub fn smaller(a: usize, b: usize) -> usize
     ensures { λ r. ⌜ r ≡ min a b ⌝ }
 {
     if a < b { a } else { b }
+}
+
+// Is the byte one of these two values?
+pub fn is_one_of(x: u8, a: u8, b: u8) -> bool
+    ensures { λ r. ⌜ r ≡ (eqb x a || eqb x b) ⌝ }
+{
+    if x == a {
+        return true;
+    }
+    x == b
 }

@@ -7,21 +7,21 @@ pub const NONE: u8 = 0;
 // No tag of this type has an image of this length.
 pub const IMAGE_SIZE: u8 = 1;
 
-// Type 2: byte 12 is not the magic number E1h. Type 3: the checksum is wrong.
+// Type 2: byte 12 is not the magic number E1h. Type 3: the checksum is wrong. Type 6: the first three bytes are not the letters NDE.
 pub const NOT_NDEF: u8 = 2;
 
 pub const UNKNOWN_VERSION: u8 = 3;
 
-// Type 2: the access byte has a value that is not defined. Type 3: WriteFlag, RWFlag or Nbr has one.
+// Types 2 and 6: the access byte has a value that is not defined. Type 3: WriteFlag, RWFlag or Nbr has one.
 pub const BAD_ACCESS: u8 = 4;
 
-// The data area reaches past the image.
+// The data area reaches past the image. Type 6: the image has another length than its blocks, or MAX_LEN is over the blocks left.
 pub const BAD_DATA_AREA: u8 = 5;
 
 // A control TLV has a length other than 3 or a reserved nibble.
 pub const BAD_CONTROL_TLV: u8 = 6;
 
-// A TLV runs past the data area or has a bad length form. Type 3: Ln is over 16·Nmaxb.
+// A TLV runs past the data area or has a bad length form. Type 3: Ln is over 16·Nmaxb. Type 6: NLEN is over m, or m is below 0.
 pub const BAD_LENGTH: u8 = 7;
 
 pub const NO_MESSAGE_TLV: u8 = 8;
@@ -38,6 +38,9 @@ pub const SHORT_BUFFER: u8 = 12;
 
 // An interrupted message does not fit in the gathering buffer.
 pub const SHORT_GATHERING_BUFFER: u8 = 13;
+
+// Blocks of one byte split the length of a Type 6 message over two commands.
+pub const BLOCK_TOO_SMALL: u8 = 14;
 
 // The command is not well formed.
 pub const MALFORMED_COMMAND: u8 = 20;

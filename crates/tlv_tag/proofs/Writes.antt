@@ -120,5 +120,6 @@ module _ (K : TlvTag) (laws : TlvLaws K) (command : List ℕ → List ℕ → Co
                 report-writable ((K .writable) j) j ms ∙ tlv.same-writable K laws i us at j (n .same-length) near
                 ∙ sym (placed K i (r .report) (r .reads-as) .1) ∙ r .writable;
             some-bytes = r .some-bytes;
+            large-blocks = refl;
             room = ap (λ vs. fitsIn (length m) (length vs)) same-room ∙ r .room;
           }

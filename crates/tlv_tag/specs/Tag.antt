@@ -1,5 +1,6 @@
 -- A tag with a TLV area as a type of tag, whatever its commands look like.
 -- Assumes nothing.
+use mathlib.Core.Bool.{true}
 use mathlib.Core.List.{List}
 use Prim.Native.Nat.{ℕ}
 use Rattle.tag.specs.Stores.{Store, Command}
@@ -12,6 +13,8 @@ use Rattle.tlv_tag.specs.Update.{fits, plan}
 abbrev pub tagOf : TlvTag → (List ℕ → List ℕ → Command) → (List ℕ → List ℕ → ℕ) → (List Store → List ℕ) → TagType
 tagOf K command span encoded = record {
   reading = reading K;
+  -- no block is too small
+  blocks-suffice = λ i. true;
   fits = fits K;
   plan = plan K;
   command = command;

@@ -4,29 +4,20 @@ use mathlib.Core.Path.{_≡_, refl, sym, ap, _∙_}
 use mathlib.Core.List.{List, [], _∷_, _++_}
 use Prim.Native.Nat.{ℕ, suc, _+_, _<_}
 use native.Mathlib.Numerals.{add-one}
-use native.Mathlib.Omega.{arith}
 use lib.ListN.{length, getD, set, drop}
-use lib.Seq.{set-comm, drop-nil, drop-cons}
+use lib.Seq.{drop-nil, drop-cons}
 use Rattle.tag.specs.Bytes.{overlay}
-use Rattle.tag.proofs.Addresses.{Above, Rising, above-less, above-drop, above-rising, rising-drop}
+use Rattle.tag.proofs.Addresses.{Above, Rising, above-drop, above-rising, rising-drop, overlay-set}
 
 pub overlay-none : (us i : List ℕ) → overlay us [] i ≡ i
 overlay-none [] i = refl
 overlay-none (a ∷ us) i = refl
 
 module _ (hi : ℕ) where
-  -- a store below them may come first
-  overlay-set : (us vs i : List ℕ) (x v : ℕ) → Above hi x us → set (overlay us vs i) x v ≡ overlay us vs (set i x v)
-  overlay-set [] vs i x v h = refl
-  overlay-set (y ∷ us) [] i x v h = refl
-  overlay-set (y ∷ us) (b ∷ vs) i x v h =
-      set-comm (overlay us vs i) y x b v (λ e. omega (arith, h .0))
-      ∙ ap (λ j. set j y b) (overlay-set us vs i x v (above-less hi x y us (omega (arith, h .0)) (h .1)))
-
   -- one byte set, and then the rest
   pub overlay-next : (us vs i : List ℕ) (a k : ℕ) → Above hi a us → k < length vs
       → overlay (a ∷ us) (drop k vs) i ≡ overlay us (drop (k + 1) vs) (set i a (getD vs k 0))
-  overlay-next us vs i a k h l = rw (add-one k, drop-cons vs k 0 l) (overlay-set us (drop (suc k) vs) i a (getD vs k 0) h)
+  overlay-next us vs i a k h l = rw (add-one k, drop-cons vs k 0 l) (overlay-set hi us (drop (suc k) vs) i a (getD vs k 0) h)
 
   -- one part set, and then the other
   pub overlay-append : (us x y i : List ℕ) → Rising hi us → overlay us (x ++ y) i ≡ overlay (drop (length x) us) y (overlay us x i)
@@ -34,7 +25,7 @@ module _ (hi : ℕ) where
   overlay-append (a ∷ us) [] y i h = refl
   overlay-append (a ∷ us) (v ∷ x) y i h =
       ap (λ j. set j a v) (overlay-append us x y i (above-rising hi a us h))
-      ∙ overlay-set (drop (length x) us) y (overlay us x i) a v (above-drop hi a (length x) us h)
+      ∙ overlay-set hi (drop (length x) us) y (overlay us x i) a v (above-drop hi a (length x) us h)
 
   -- three parts set in turn, each at the addresses that the one before it left
   pub overlay-parts : (us vs ws x y z i j k l : List ℕ) → Rising hi us

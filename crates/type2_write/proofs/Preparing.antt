@@ -4,11 +4,12 @@
 use mathlib.Core.Path.{_≡_, refl, sym, ap, _∙_, subst}
 use mathlib.Core.Bool.{Bool}
 use mathlib.Core.List.{List}
-use Prim.Native.Nat.{ℕ, _/_, _≤_}
+use Prim.Native.Nat.{ℕ, _*_, _/_, _≤_}
 use native.Mathlib.Omega.{arith}
-use lib.ListN.{length}
+use lib.ListN.{length, length-set}
 use Rattle.tag.specs.declared.Address.{Address}
 use Rattle.tag.specs.TagType.{refused-write, written, writing, writeBy}
+use Rattle.tag.proofs.Blocks.{Blockwise}
 use Rattle.tlv_tag.specs.declared.prepare.Preparation as code
 use Rattle.tlv_tag.specs.declared.prepare.Preparation.the-variants as answer
 use Rattle.tlv_tag.specs.Update.{lengthAt, planBy}
@@ -27,12 +28,22 @@ use Rattle.type2_write.proofs.Shutting.{length-shut}
 
 -- ---- the list
 
-module _ (us i m new marks : List ℕ) (first : ℕ) (p : Prepared 4 us i m new marks first) (as-long : length new ≡ length i) (long : length i / 4 ≤ length marks) where
+module _ (us i m new marks : List ℕ) (first : ℕ) (p : Prepared 4 us i m new marks first) (as-long : length new ≡ length i)
+    (whole : length i ≡ 4 * (length i / 4)) (long : length i / 4 ≤ length marks) where
+  blockwise : Blockwise (planBy 4 us i m) i
+  blockwise = record {
+    some-size = omega arith;
+    some-width = omega arith;
+    whole = whole;
+    inside = omega (arith, p .first-is, p .inside, whole);
+    closed-length = length-set i (lengthAt us) 0;
+  }
+
   -- the list is the plan's
   prepared-output : (room : ℕ) → guardedOutput room front 4 new marks (first / 4) (shutBytes i first) ≡ writeBy type2 room i (written (planBy 4 us i m))
   prepared-output room =
       ap (λ f. guardedOutput room front 4 new marks (f / 4) (shutBytes i f)) (p .first-is)
-      ∙ plan-output type2 front (planBy 4 us i m) i new marks (shutBytes i (lengthAt us)) (λ s. refl) (omega arith) refl (p .new-is) as-long (λ b l. p .marks-are b (omega arith)) refl room
+      ∙ plan-output type2 front (planBy 4 us i m) i new marks (shutBytes i (lengthAt us)) (λ s l. refl) blockwise refl (p .new-is) as-long (λ b l. p .marks-are b (omega arith)) refl room
 
 -- ---- by the answer
 
@@ -72,5 +83,5 @@ module _ (i m : List ℕ) (end : ℕ) (w : Bool) (h : Inside i end w) where
 
       pub listed-output : (room : ℕ) → guardedOutput room front 4 new marks (a .0 / 4) (shutBytes i (a .0)) ≡ writeBy type2 room i (writing type2 i m)
       listed-output room =
-          prepared-output (there .0) i m new marks (a .0) (there .2) as-long each-marked room
+          prepared-output (there .0) i m new marks (a .0) (there .2) as-long (omega (arith, whole-blocks i (h .sound))) each-marked room
           ∙ ap (writeBy type2 room i) (sym (space-writing i m end w h (there .0) (there .1)))

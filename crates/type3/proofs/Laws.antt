@@ -121,6 +121,7 @@ module _ (idm i m j : List ℕ) (r : Ready (type3 idm) i m) (n : Near (type3 idm
             reads-as = q;
             writable = reads-writable j p q ∙ rw (same-2, same-10) (ready-writable idm i m r);
             some-bytes = r .some-bytes;
+            large-blocks = refl;
             room = rw (same-nmaxb j i near-agrees) (r .room);
           }
 

@@ -17,17 +17,10 @@ use Rattle.tag.proofs.Checks.{fine-all}
 use Rattle.type3.specs.declared.read.AttributeInformation.{AttributeInformation}
 use Rattle.type3.specs.AttributeInformation.{attributeInformation, imageLength, attributeChecks, mayWrite}
 use Rattle.type3.specs.Message.{busy, announced, announceBy, readingOf, reading}
-use Rattle.type3.specs.Views.AttributeInformation.{faultAs, WholeBlocks, Says, Attests, answerFor}
+use Rattle.type3.specs.Views.AttributeInformation.{WholeBlocks, Says, Attests, answerFor}
 use Rattle.type3.proofs.Message.{Passes, bounds, ln-fits, unread}
 
--- ---- the number of the first test that fails
-
-pub fault-some : (r : ℕ) → (r ≡ 0 → ⊥) → faultAs r ≡ fault r
-fault-some zero n = absurd (n refl)
-fault-some (suc r) n = refl
-
-pub fault-none : (r : ℕ) → r ≡ 0 → faultAs r ≡ fine
-fault-none r e = ap faultAs e
+-- ---- what the tests show
 
 pub whole-blocks : (i : List ℕ) → imageLength (length i) ≡ true → WholeBlocks i
 whole-blocks i e = let (blocks, least, most) = lengths 16 16 4096 (length i) e in record { least = least; most = most; blocks = blocks }

@@ -1,5 +1,6 @@
 -- Type 3 as a type of tag, for the IDm that the caller states.
 -- Assumes nothing.
+use mathlib.Core.Bool.{true}
 use mathlib.Core.List.{List}
 use Prim.Native.Nat.{ℕ}
 use Rattle.tag.specs.Bytes.{byte}
@@ -13,6 +14,8 @@ use Rattle.type3.specs.Codec.{decode, commandOf, span, encoded}
 abbrev pub type3 : List ℕ → TagType
 type3 idm = record {
   reading = reading;
+  -- no block is too small
+  blocks-suffice = λ i. true;
   fits = fits;
   plan = plan;
   command = λ i bytes. commandOf (decode idm (byte i 2) (nmaxbOf i) bytes);

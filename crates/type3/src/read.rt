@@ -10,18 +10,18 @@ use tag::refusals;
 use tag::slices;
 use tag::version;
 ghost use mathlib.Core.Path.{_≡_};
-ghost use mathlib.Core.Bool.{false, _||_};
+ghost use mathlib.Core.Bool.{false};
 ghost use mathlib.Core.List.{[]};
 ghost use Prim.Native.Nat.{_≤_};
-ghost use lib.Dec.{eqb};
 ghost use lib.ListN.{length, drop};
 ghost use Rattle.tag.specs.Checks.{firstOf};
+ghost use Rattle.tag.specs.Views.Faults.{faultAs};
 ghost use Rattle.tag.specs.Reading.{answer};
 ghost use Rattle.tag.specs.Answers.{contentOf};
 ghost use Rattle.tag.specs.Contracts.{Read, Showed};
 ghost use Rattle.type3.specs.AttributeInformation.{attributeInformation, imageLength, flagsDefined, attributeChecks, mayWrite};
 ghost use Rattle.type3.specs.Message.{reading};
-ghost use Rattle.type3.specs.Views.AttributeInformation.{WholeBlocks, checkedAs, faultAs, Says, Known, reportAs, answerFor};
+ghost use Rattle.type3.specs.Views.AttributeInformation.{WholeBlocks, checkedAs, Says, Known, reportAs, answerFor};
 
 // The bytes of a block.
 pub const BLOCK_SIZE: usize = 16;
@@ -68,25 +68,15 @@ pub enum Checked {
     Fine(AttributeInformation),
 }
 
-// Is the byte one of two values?
-fn is_either(x: u8, a: u8, b: u8) -> bool
-    ensures { λ r. ⌜ r ≡ (eqb x a || eqb x b) ⌝ }
-{
-    if x == a {
-        return true;
-    }
-    x == b
-}
-
 // Whether WriteFlag, RWFlag and Nbr have defined values.
 fn flags_defined(image: &[u8]) -> bool
     requires { ⌜ 16 ≤ length (now image) ⌝ }
     ensures { λ r. ⌜ r ≡ flagsDefined (attributeInformation (now (image .entry))) ⌝ }
 {
-    if !is_either(image[WRITE_FLAG], 0x00, 0x0F) {
+    if !numbers::is_one_of(image[WRITE_FLAG], 0x00, 0x0F) {
         return false;
     }
-    if !is_either(image[RW_FLAG], 0x00, 0x01) {
+    if !numbers::is_one_of(image[RW_FLAG], 0x00, 0x01) {
         return false;
     }
     image[NBR] != 0

@@ -3,7 +3,7 @@
 use mathlib.Core.Path.{_≡_}
 use mathlib.Core.Bool.{false, cond}
 use mathlib.Core.List.{List}
-use Prim.Native.Nat.{ℕ, zero, suc, _+_, _*_, _%_, _≤_}
+use Prim.Native.Nat.{ℕ, _+_, _*_, _%_, _≤_}
 use lib.Dec.{eqb}
 use lib.ListN.{length}
 use Rattle.tag.specs.declared.Report.{Report}
@@ -21,11 +21,6 @@ use Rattle.type3.specs.AttributeInformation.{nmaxbOf, attributeInformati
 abbrev pub checkedAs : code.Checked → Checked
 checkedAs (checked.Refused r) = fault r
 checkedAs (checked.Fine a) = fine
-
--- a refusal as the checks have it; 0 is none
-abbrev pub faultAs : ℕ → Checked
-faultAs zero = fine
-faultAs (suc r) = fault (suc r)
 
 -- a whole number of blocks, 16 to 4,096 bytes
 pub record WholeBlocks (i : List ℕ) : Type 0 where

@@ -14,8 +14,8 @@ returns c =
     let at-start = at-span .before .before .before .before in
     let a = at-start .args in
     let T = typeOf (a .kind) (a .idm .now) in
-    let e = span-rest T (a .image .now) (a .list .now) (a .at) (at-start .pre) (at-span .span .result) (at-span .span .ensures) in
-    piece-rest T (a .image .now) (a .list .now) (a .at) (at-start .pre) (omega (arith, e))
+    let e = span-rest T (a .image .now) (a .list .now) (a .at) (at-start .pre .1) (at-span .span .result) (at-span .span .ensures) in
+    piece-rest T (a .image .now) (a .list .now) (a .at) (at-start .pre .1) (omega (arith, e))
 
 returns-2 : tie.Need-returns-2
 returns-2 c =
@@ -23,9 +23,9 @@ returns-2 c =
     let at-start = at-span .before .before .before .before in
     let a = at-start .args in
     let T = typeOf (a .kind) (a .idm .now) in
-    let e = span-rest T (a .image .now) (a .list .now) (a .at) (at-start .pre) (at-span .span .result) (at-span .span .ensures) in
+    let e = span-rest T (a .image .now) (a .list .now) (a .at) (at-start .pre .1) (at-span .span .result) (at-span .span .ensures) in
     let some = some-span (a .kind) (a .idm .now) (a .image .now) (drop (a .at) (a .list .now)) in
-    piece-span T (a .image .now) (a .list .now) (a .at) (at-start .pre) (at-span .span .result) e (omega (arith, e, some)) (omega arith)
+    piece-span T (a .image .now) (a .list .now) (a .at) (at-start .pre .1) (at-span .span .result) e (omega (arith, e, some)) (omega arith)
 
 pub piece-size-spec : {M : Type 1} → statement M
 piece-size-spec =

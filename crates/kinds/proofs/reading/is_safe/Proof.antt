@@ -10,11 +10,11 @@ use Rattle.kinds.proofs.reading.is_safe.Tie as tie
 returns : tie.Need-returns
 returns c =
     let at-shown = c .before in
-    let at-read = at-shown .before .before .before .before in
-    let at-slices = at-read .before .before in
+    let at-read-again = at-shown .before .before .before .before in
+    let at-slices = at-read-again .before .before in
     let at-start = at-slices .before .before .before .before in
     let a = at-start .args in
-    let r = at-read .read in
+    let r = at-read-again .read-again in
     let shown = at-shown .shown in
     c .is-safe .ensures
     ∙ ap (readsAs (a .new .now) (oldHeld (a .present) (a .old .now)))

@@ -1,9 +1,9 @@
 -- `reading::read` meets its contract. Assumes nothing.
-use mathlib.Core.Path.{sym, _∙_}
-use lib.ListN.{length}
-use Rattle.tag.proofs.Showing.{plain-answer, plain-buffer}
-use Rattle.type3.specs.Message.{reading}
-use Rattle.type3.proofs.Holding.{plain}
+use Rattle.type3.specs.Message as three
+use Rattle.type3.proofs.Holding as three-held
+use Rattle.type6.specs.Message as six
+use Rattle.type6.proofs.Holding as six-held
+use Rattle.kinds.proofs.EachKind.{plain-read}
 use borrow.Author.Needs.{needs}
 use Rattle.kinds.proofs.reading.read.Statement.{statement}
 use Rattle.kinds.proofs.reading.read.Tie as tie
@@ -18,10 +18,15 @@ returns-2 : tie.Need-returns-2
 returns-2 c =
     let at-kind2 = c .before .before in
     let at-start = at-kind2 .before .before .before .before in
-    let a = at-start .args in
-    let i = a .image .now in
-    rw (at-kind2 .kind2 .given .1)
-    (c .read2 .ensures .0 ∙ plain-answer (reading i) (plain i) 0 (length (a .gathered .now)), sym (plain-buffer (reading i) (plain i) (a .gathered .now)))
+    let i = at-start .args .image .now in
+    rw (at-kind2 .kind2 .given .1) (plain-read three.reading i (at-start .args .gathered .now) (c .read2 .result) (three-held.plain i) (c .read2 .ensures))
+
+returns-3 : tie.Need-returns-3
+returns-3 c =
+    let at-kind3 = c .before .before in
+    let at-start = at-kind3 .before .before .before .before in
+    let i = at-start .args .image .now in
+    rw (at-kind3 .kind3 .given .1) (plain-read six.reading i (at-start .args .gathered .now) (c .read3 .result) (six-held.plain i) (c .read3 .ensures))
 
 pub read-spec : {M : Type 1} → statement M
 read-spec =
@@ -32,5 +37,8 @@ read-spec =
     (λ c. search needs)
     (λ c κs. search needs)
     (λ c. search needs)
+    (λ c κs. search needs)
+    (λ c. search needs)
     returns
-    returns-2)
+    returns-2
+    returns-3)

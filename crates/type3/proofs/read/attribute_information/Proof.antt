@@ -1,7 +1,8 @@
 -- `read::attribute_information` meets its contract. Assumes nothing.
 use mathlib.Core.Path.{sym, _∙_}
 use borrow.Author.Needs.{needs}
-use Rattle.type3.proofs.Reading.{fault-some, fault-none, fine-long, attested}
+use Rattle.tag.proofs.Checks.{fault-some, fault-none}
+use Rattle.type3.proofs.Reading.{fine-long, attested}
 use Rattle.type3.proofs.read.attribute_information.Statement.{statement}
 use Rattle.type3.proofs.read.attribute_information.Tie as tie
 

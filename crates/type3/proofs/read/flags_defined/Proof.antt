@@ -6,21 +6,21 @@ use Rattle.type3.proofs.read.flags_defined.Statement.{statement}
 use Rattle.type3.proofs.read.flags_defined.Tie as tie
 
 returns : tie.Need-returns
-returns c = rw (sym (c .before .is-either .ensures) ∙ not-true _ (c .if1 .taken))
+returns c = rw (sym (c .before .is-one-of .ensures) ∙ not-true _ (c .if1 .taken))
 
 returns-2 : tie.Need-returns-2
 returns-2 c =
-    let first = c .before .before .before .before .is-either .ensures in
-    rw (sym first ∙ not-false _ (c .before .before .before .if1 .left), sym (c .before .is-either2 .ensures) ∙ not-true _ (c .if2 .taken))
+    let first = c .before .before .before .before .is-one-of .ensures in
+    rw (sym first ∙ not-false _ (c .before .before .before .if1 .left), sym (c .before .is-one-of2 .ensures) ∙ not-true _ (c .if2 .taken))
 
 returns-3 : tie.Need-returns-3
 returns-3 c =
     let at-if2 = c .before in
-    let at-is-either2 = at-if2 .before in
-    let at-if1 = at-is-either2 .before .before in
-    let at-is-either = at-if1 .before in
-    let first = at-is-either .is-either .ensures in
-    let second = at-is-either2 .is-either2 .ensures in
+    let at-is-one-of2 = at-if2 .before in
+    let at-if1 = at-is-one-of2 .before .before in
+    let at-is-one-of = at-if1 .before in
+    let first = at-is-one-of .is-one-of .ensures in
+    let second = at-is-one-of2 .is-one-of2 .ensures in
     rw (sym first ∙ not-false _ (at-if1 .if1 .left), sym second ∙ not-false _ (at-if2 .if2 .left))
 
 pub flags-defined-spec : {M : Type 1} → statement M

@@ -3,7 +3,8 @@ use mathlib.Core.Path.{sym, _∙_}
 use borrow.Author.Needs.{needs}
 use Rattle.tag.proofs.Showing.{gathered-none}
 use Rattle.type3.specs.Message.{reading}
-use Rattle.type3.proofs.Reading.{fault-some, fault-none, fine-long, attested, answer-refused, answer-known}
+use Rattle.tag.proofs.Checks.{fault-some, fault-none}
+use Rattle.type3.proofs.Reading.{fine-long, attested, answer-refused, answer-known}
 use Rattle.type3.proofs.read.read.Statement.{statement}
 use Rattle.type3.proofs.read.read.Tie as tie
 

@@ -6,10 +6,11 @@ use Rattle.tag.specs.Bytes.{byte}
 use Rattle.tag.specs.Stores.{tagAfter}
 use Rattle.tag.specs.Answers.{storingOf}
 use Rattle.tag.specs.Model.{imageAfter}
+use Rattle.tag.proofs.Checks.{fault-some, fault-none}
 use Rattle.type3.specs.AttributeInformation.{nmaxbOf}
 use Rattle.type3.specs.Codec.{decode, commandOf}
 use Rattle.type3_commands.specs.Views.Framing.{isCommand}
-use Rattle.type3.proofs.Reading.{fault-some, fault-none, fine-long, attested}
+use Rattle.type3.proofs.Reading.{fine-long, attested}
 use Rattle.type3_model.proofs.Modelling.{decode-by, malformed-is, model-refused, model-malformed, model-stored}
 use Rattle.type3_model.proofs.model.model.Statement.{statement}
 use Rattle.type3_model.proofs.model.model.Tie as tie

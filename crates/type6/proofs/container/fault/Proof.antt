@@ -1,0 +1,27 @@
+-- `container::fault` meets its contract. Assumes nothing.
+use mathlib.Core.Path.{_∙_}
+use borrow.Author.Needs.{needs}
+use Rattle.type6.proofs.Reading.{too-few, too-many, length-passes}
+use Rattle.type6.proofs.container.fault.Statement.{statement}
+use Rattle.type6.proofs.container.fault.Tie as tie
+
+returns : tie.Need-returns
+returns c = too-few (c .before .before .args .image .now) (c .if1 .taken)
+
+returns-2 : tie.Need-returns-2
+returns-2 c = too-many (c .before .before .before .args .image .now) (c .before .if1 .left) (c .if2 .taken)
+
+returns-3 : tie.Need-returns-3
+returns-3 c =
+    let at-if2 = c .before in
+    let at-if1 = at-if2 .before in
+    c .container-fault .ensures ∙ length-passes (at-if1 .before .before .args .image .now) (at-if1 .if1 .left) (at-if2 .if2 .left)
+
+pub fault-spec : {M : Type 1} → statement M
+fault-spec =
+    tie.close
+    (tie.spec
+    returns
+    returns-2
+    (λ c κs. search needs)
+    returns-3)

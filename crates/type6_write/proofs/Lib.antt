@@ -1,0 +1,4 @@
+-- Laws of the writer of Type 6 tags.
+pub mod Laying
+pub mod Marking
+pub mod Preparing

@@ -1,0 +1,89 @@
+-- `write::write_on` meets its contract. Assumes nothing.
+use mathlib.Core.Path.{sym, ap, subst, _∙_}
+use Prim.Native.Nat.{_≤_}
+use native.Mathlib.Omega.{arith}
+use borrow.Author.Needs.{needs}
+use lib.ListN.{length}
+use lib.Seq.{length-take-le}
+use Rattle.tag.specs.TagType.{writeBy, outputInto}
+use Rattle.tag.specs.Answers.{countOf}
+use Rattle.type6.specs.Type6.{type6}
+use Rattle.type6.specs.Views.Container.{checkedAs, Readable, Known}
+use Rattle.type6.proofs.Deciding.{writing-unread}
+use Rattle.type6_write.proofs.write.write_on.Statement.{statement}
+use Rattle.type6_write.proofs.write.write_on.Tie as tie
+
+-- the container that was found
+found : (c : tie.After-known-told2) →
+    let at-c = c .before in
+    let at-read-container = at-c .before .before in
+    let at-slices = at-read-container .before .before in
+    let at-start = at-slices .before .before .before .before in
+    Readable (at-start .args .image .now) (at-c .c .given .0 .0)
+found c =
+    let at-c = c .before in
+    let at-read-container = at-c .before .before in
+    let at-slices = at-read-container .before .before in
+    let at-start = at-slices .before .before .before .before in
+    let g = at-c .c .given in
+    let t = at-read-container .read-container .ensures in
+    record { passes = sym (t .0) ∙ ap checkedAs (g .1); known = subst (Known (at-start .args .image .now)) (g .1) (t .1) }
+
+long-enough : (c : tie.After-known-told2) →
+    let at-read-container = c .before .before .before in
+    let at-slices = at-read-container .before .before in
+    let at-start = at-slices .before .before .before .before in
+    length (at-start .args .image .now) ≤ length (at-start .args .new .now)
+long-enough c =
+    let at-read-container = c .before .before .before in
+    let at-slices = at-read-container .before .before in
+    let at-start = at-slices .before .before .before .before in
+    omega (arith, found c .known .short, at-start .pre .0)
+
+slice-relend-prefix-write-readable : tie.Need-slice-relend-prefix-write-readable
+slice-relend-prefix-write-readable c = long-enough c
+
+slice-aggregate-write-readable : tie.Need-slice-aggregate-write-readable
+slice-aggregate-write-readable c =
+    let at-known-told2 = c .before in
+    let at-read-container = at-known-told2 .before .before .before in
+    let at-slices = at-read-container .before .before in
+    let at-start = at-slices .before .before .before .before in
+    let a = at-start .args in
+    sym (length-take-le (length (a .image .now)) (a .new .now) (long-enough at-known-told2))
+
+write-readable-requires : tie.Need-write-readable-requires
+write-readable-requires c κs =
+    let at-known-told2 = c .before .before .before in
+    let at-read-container = at-known-told2 .before .before .before in
+    let at-slices = at-read-container .before .before in
+    let at-start = at-slices .before .before .before .before in
+    let a = at-start .args in
+    (found at-known-told2, length-take-le (length (a .image .now)) (a .new .now) (long-enough at-known-told2), at-start .pre .1)
+
+returns : tie.Need-returns
+returns c =
+    let at-r = c .before in
+    let at-read-container = at-r .before .before in
+    let at-slices = at-read-container .before .before in
+    let at-start = at-slices .before .before .before .before in
+    let a = at-start .args in
+    let g = at-r .r .given in
+    let e = writing-unread (a .image .now) (a .message .now) (g .0 .0) (sym (at-read-container .read-container .ensures .0) ∙ ap checkedAs (g .1)) in
+    (sym (ap (λ v. countOf (writeBy type6 (length (a .list .now)) (a .image .now) v)) e), sym (ap (λ v. outputInto (a .list .now) (writeBy type6 (length (a .list .now)) (a .image .now) v)) e))
+
+pub write-on-spec : {M : Type 1} → statement M
+write-on-spec =
+    tie.close
+    (tie.spec
+    (λ c κs. search needs)
+    (λ c. search needs)
+    (λ c. search needs)
+    slice-relend-prefix-write-readable
+    slice-aggregate-write-readable
+    write-readable-requires
+    returns
+    (λ c. search needs)
+    (λ c. search needs)
+    (λ c. search needs)
+    (λ c. search needs))

@@ -1,0 +1,2 @@
+-- Views of the writer of Type 6 tags.
+pub mod Listing
