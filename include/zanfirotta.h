@@ -1,7 +1,7 @@
 /*
- * The C interface of Zanfirotta, which reads and writes NFC Type 2 and Type 3 tag images so that a
- * write that breaks off leaves the old message, none, or the new one. The rules are in
- * docs/01-scope.md.
+ * The C interface of Zanfirotta, which reads and writes NFC Type 2, Type 3 and Type 6 tag images so
+ * that a write that breaks off leaves the old message, none, or the new one. The rules are in
+ * docs/01-scope.md and docs/02-change-requests.md.
  *
  * No function allocates or keeps a pointer. Each returns a uint64_t:
  *
@@ -41,18 +41,24 @@ enum zan_refusal {
     ZAN_OK = 0,
     ZAN_REFUSED_IMAGE_SIZE = 1,             /* Type 2: not a multiple of 4, under 64 or over 1,024
                                                bytes; Type 3: not a multiple of 16, under 16 or
-                                               over 4,096 */
-    ZAN_REFUSED_NOT_NDEF = 2,               /* Type 2: byte 12 is not E1h; Type 3: wrong checksum */
+                                               over 4,096; Type 6: under 8 or over 8,192 */
+    ZAN_REFUSED_NOT_NDEF = 2,               /* Type 2: byte 12 is not E1h; Type 3: wrong checksum;
+                                               Type 6: bytes 0 to 2 are not NDE */
     ZAN_REFUSED_UNKNOWN_VERSION = 3,        /* major version, the high nibble of the version byte,
-                                               is not 1 */
+                                               is not 1; Type 6: version byte is not 10h */
     ZAN_REFUSED_BAD_ACCESS = 4,             /* Type 2: byte 15 neither 00h nor 0Fh; Type 3:
                                                WriteFlag neither 00h nor 0Fh, RWFlag neither 00h
-                                               nor 01h, or Nbr 0 */
-    ZAN_REFUSED_BAD_DATA_AREA = 5,          /* data area reaches past the image */
+                                               nor 01h, or Nbr 0; Type 6: byte 6 neither 00h nor
+                                               FFh */
+    ZAN_REFUSED_BAD_DATA_AREA = 5,          /* data area reaches past the image; Type 6: image not
+                                               of blocks * block size bytes, or MAX_LEN over the
+                                               blocks after the container */
     ZAN_REFUSED_BAD_CONTROL_TLV = 6,        /* control TLV with a length other than 3 or a reserved
                                                nibble */
     ZAN_REFUSED_BAD_LENGTH = 7,             /* TLV runs past the data area or has a bad length form;
-                                               Type 3: Ln over 16 * Nmaxb, whatever WriteFlag says */
+                                               Type 3: Ln over 16 * Nmaxb, whatever WriteFlag says;
+                                               Type 6: MAX_LEN * block size under 2, or NLEN over
+                                               that less 2 */
     ZAN_REFUSED_NO_MESSAGE_TLV = 8,         /* Type 2: no message TLV */
     ZAN_REFUSED_EMPTY_MESSAGE = 9,          /* message to write has length 0 */
     ZAN_REFUSED_NOT_WRITABLE = 10,          /* tag is not writable */
@@ -60,6 +66,7 @@ enum zan_refusal {
     ZAN_REFUSED_SHORT_BUFFER = 12,          /* buffer too short for the list, or for the command */
     ZAN_REFUSED_SHORT_GATHERING_BUFFER = 13, /* gathering buffer too short for an interrupted
                                                message */
+    ZAN_REFUSED_BLOCK_TOO_SMALL = 14,       /* Type 6, writing and judging: block size 1 */
     ZAN_REFUSED_MALFORMED_COMMAND = 20,     /* command is not well formed */
     ZAN_REFUSED_PROTECTED_BYTE = 21,        /* command changes a protected byte */
     ZAN_REFUSED_MISREAD = 22,               /* after the command the tag is refused, or reads
@@ -94,6 +101,18 @@ typedef struct zan_report {
 #define ZAN_TYPE2_GATHERED_MAX 1024
 #define ZAN_TYPE3_COMMAND_MAX (13 + 18 * 8)
 #define ZAN_TYPE3_LIST_MAX (257 * (13 + 18))
+#define ZAN_TYPE6_IMAGE_MAX 8192
+#define ZAN_TYPE6_BLOCK_MAX 32
+#define ZAN_TYPE6_COMMAND_MAX (3 + ZAN_TYPE6_BLOCK_MAX)
+#define ZAN_TYPE6_LIST_MAX (256 * ZAN_TYPE6_COMMAND_MAX)
+
+/*
+ * What a Type 6 image of at least 8 bytes says of its tag: the block size, the number of blocks, and
+ * so the length of a command.
+ */
+#define ZAN_TYPE6_BLOCK_SIZE(image) ((size_t)(image)[5] % 32 + 1)
+#define ZAN_TYPE6_BLOCKS(image) ((size_t)(image)[4] + 1)
+#define ZAN_TYPE6_COMMAND(image) (3 + ZAN_TYPE6_BLOCK_SIZE(image))
 
 /*
  * Reads a Type 2 tag and fills in *report. An interrupted message is copied to the front of
@@ -190,6 +209,50 @@ uint64_t zan_type3_encode(uint64_t count, const uint64_t blocks[8], const uint8_
 uint64_t zan_type3_decode(const uint8_t *bytes, size_t bytes_len, const uint8_t idm[8],
                           uint64_t nbw, uint64_t nmaxb, uint64_t *count, uint64_t blocks[8],
                           uint8_t data[128]);
+
+/*
+ * Reads a Type 6 tag and fills in *report. The message is never interrupted, and the content is
+ * never ZAN_CONTENT_BEING_WRITTEN. Returns 0, or refusal 1 to 5 or 7.
+ */
+uint64_t zan_type6_read(const uint8_t *image, size_t image_len, zan_report *report);
+
+/*
+ * Fills list with the commands (Write Single Block) that write the message on a Type 6 tag,
+ * ZAN_TYPE6_COMMAND(image) bytes each. Returns the number of commands as its count, or refusal 1 to
+ * 5, 7, 9, 10, 14, 11 or 12; they are tested in this order.
+ */
+uint64_t zan_type6_write(const uint8_t *image, size_t image_len, const uint8_t *message,
+                         size_t message_len, uint8_t *list, size_t list_len);
+
+/*
+ * Checks that a list, whoever made it, writes the message on a Type 6 tag safely. Returns the
+ * number of commands as its count, or refusal 1 to 5, 7, 9, 10, 14, 11, or 20 to 23; they are
+ * tested in this order.
+ */
+uint64_t zan_type6_judge(const uint8_t *image, size_t image_len, const uint8_t *message,
+                         size_t message_len, const uint8_t *list, size_t list_len);
+
+/*
+ * Does to the image what a Type 6 tag does with one command: stores its block, protected or not.
+ * Returns 0, or refusal 1 to 5, 7 or 20.
+ */
+uint64_t zan_type6_model(uint8_t *image, size_t image_len, const uint8_t *command,
+                         size_t command_len);
+
+/*
+ * Writes the command that stores data in a block to the front of bytes, for a tag of so many blocks
+ * of block_size bytes; only the first block_size bytes of data are used. Returns the number of
+ * bytes as its count, or refusal 12 or 20. A block size under 1 or over 32 is 20.
+ */
+uint64_t zan_type6_encode(uint64_t block, const uint8_t data[32], uint64_t block_size,
+                          uint64_t blocks, uint8_t *bytes, size_t bytes_len);
+
+/*
+ * Takes one command apart into *block and the front of data, for a tag of so many blocks of
+ * block_size bytes; the rest of data keeps its contents. Returns 0, or refusal 20.
+ */
+uint64_t zan_type6_decode(const uint8_t *bytes, size_t bytes_len, uint64_t block_size,
+                          uint64_t blocks, uint64_t *block, uint8_t data[32]);
 
 #ifdef __cplusplus
 }

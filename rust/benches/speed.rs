@@ -14,7 +14,7 @@ mod timing;
 use std::hint::black_box;
 
 use timing::compare;
-use zanfirotta::{type2, type3};
+use zanfirotta::{type2, type3, type6};
 
 const IDM: [u8; 8] = [0x01, 0x2E, 0x45, 0x76, 0xBA, 0x12, 0x34, 0x56];
 
@@ -144,6 +144,61 @@ fn type3(tag: &str, image: &[u8], message: &[u8]) {
     );
 }
 
+fn type6(tag: &str, image: &[u8], message: &[u8]) {
+    let mut list = vec![0; type6::LIST_MAX];
+    let count = type6::write(image, message, &mut list).expect("the message fits");
+    let len = type6::command_len(type6::block_size(image).expect("a container"));
+    list.truncate(count * len);
+    let command = &list[count / 2 * len..(count / 2 + 1) * len];
+    assert_eq!(type6::judge(image, message, &list), Ok(count));
+
+    compare(
+        tag,
+        "read",
+        image,
+        &|_| {
+            let _ = black_box(type6::read(black_box(image)));
+        },
+        &|_| {
+            let _ = black_box(reference::type6::read(black_box(image)));
+        },
+    );
+    compare(
+        tag,
+        "write",
+        image,
+        &|b| {
+            let _ = black_box(type6::write(black_box(image), message, &mut b.list));
+        },
+        &|b| {
+            let list = &mut b.list;
+            let _ = black_box(reference::type6::write(black_box(image), message, list));
+        },
+    );
+    compare(
+        tag,
+        "judge",
+        image,
+        &|_| {
+            let _ = black_box(type6::judge(black_box(image), message, &list));
+        },
+        &|_| {
+            let _ = black_box(reference::type6::judge(black_box(image), message, &list));
+        },
+    );
+    compare(
+        tag,
+        "model",
+        image,
+        &|b| {
+            let _ = black_box(type6::model(black_box(&mut b.image), command));
+        },
+        &|b| {
+            let _ = black_box(reference::type6::model(black_box(&mut b.image), command));
+        },
+    );
+}
+
 /// A Type 2 image with `data` from 16 on.
 fn image2(len: usize, data: &[u8]) -> Vec<u8> {
     let mut image = vec![0; len];
@@ -161,6 +216,18 @@ fn image3(blocks: usize, nbw: u8) -> Vec<u8> {
     image[..14].copy_from_slice(&block);
     let sum: u16 = block.iter().map(|&byte| byte as u16).sum();
     image[14..16].copy_from_slice(&sum.to_be_bytes());
+    image
+}
+
+/// A Type 6 image whose message fills all blocks after the container.
+fn image6(blocks: usize, size: usize) -> Vec<u8> {
+    let mut image = vec![0x5A; blocks * size];
+    let container = 8usize.div_ceil(size);
+    let max_len = blocks - container;
+    image[..4].copy_from_slice(b"NDE\x10");
+    image[4..8].copy_from_slice(&[(blocks - 1) as u8, (size - 1) as u8, 0x00, max_len as u8]);
+    let nlen = (max_len * size - 2) as u16;
+    image[container * size..][..2].copy_from_slice(&nlen.to_le_bytes());
     image
 }
 
@@ -201,4 +268,11 @@ fn main() {
     type3("3: 14 blocks, Nbw 1", &image3(14, 1), &[0xD1; 208]);
     type3("3: 256 blocks, Nbw 1", &image3(256, 1), &[0xD1; 4080]);
     type3("3: 256 blocks, Nbw 8", &image3(256, 8), &[0xD1; 4080]);
+
+    type6("6: 64 bytes, blocks of 4", &image6(16, 4), &[0xD1; 54]);
+    type6(
+        "6: 8,192 bytes, blocks of 32",
+        &image6(256, 32),
+        &[0xD1; 8158],
+    );
 }

@@ -1,10 +1,10 @@
-//! Reading and writing NFC Type 2 and Type 3 tag images so that a write that breaks off leaves
-//! the old message, none, or the new one.
+//! Reading and writing NFC Type 2, Type 3 and Type 6 tag images so that a write that breaks off
+//! leaves the old message, none, or the new one.
 //!
 //! These are safe wrappers over the verified library (`libzanfirotta.a`); the rules are in
-//! `docs/01-scope.md`. Nothing here allocates: an image, a message and a list are slices, and a
-//! result that needs room goes into a buffer that the caller passes in. A refusal changes no byte
-//! of that buffer.
+//! `docs/01-scope.md` and `docs/02-change-requests.md`. Nothing here allocates: an image, a message
+//! and a list are slices, and a result that needs room goes into a buffer that the caller passes
+//! in. A refusal changes no byte of that buffer.
 //!
 //! ```
 //! use zanfirotta::type2;
@@ -39,6 +39,7 @@
 mod ffi;
 pub mod type2;
 pub mod type3;
+pub mod type6;
 
 /// The calls in the shape of the C interface, with its answers as numbers. For the tests.
 #[doc(hidden)]
@@ -46,7 +47,7 @@ pub mod raw {
     pub use crate::ffi::{
         type2_decode, type2_encode, type2_judge, type2_model, type2_read, type2_write,
         type3_command_len, type3_decode, type3_encode, type3_judge, type3_model, type3_read,
-        type3_write,
+        type3_write, type6_decode, type6_encode, type6_judge, type6_model, type6_read, type6_write,
     };
 }
 
@@ -80,25 +81,31 @@ pub struct Refusal {
     pub position: Option<usize>,
 }
 
-/// The refusals; the discriminants are the numbers of `docs/01-scope.md`.
+/// The refusals; the discriminants are the numbers of `docs/01-scope.md` and of
+/// `docs/02-change-requests.md`.
 #[derive(Clone, Copy, Debug, PartialEq, Eq, PartialOrd, Ord, Hash)]
 #[non_exhaustive]
 #[repr(u8)]
 pub enum RefusalNumber {
-    /// The image's length is not a multiple of the block size, is too small, or is too large.
+    /// The image is too small or too large; Type 2 and Type 3: or not a whole number of blocks.
     ImageSize = 1,
-    /// Type 2: byte 12 is not E1h. Type 3: the checksum is wrong.
+    /// Type 2: byte 12 is not E1h. Type 3: the checksum is wrong. Type 6: bytes 0 to 2 are not the
+    /// letters NDE.
     NotNdef = 2,
-    /// The major version, the high nibble of the version byte, is not 1.
+    /// The major version, the high nibble of the version byte, is not 1. Type 6: the version byte
+    /// is not 10h.
     UnknownVersion = 3,
-    /// Type 2: byte 15 is neither 00h nor 0Fh. Type 3: a flag is unknown, or Nbr is 0.
+    /// Type 2: byte 15 is neither 00h nor 0Fh. Type 3: a flag is unknown, or Nbr is 0. Type 6: byte
+    /// 6 is neither 00h nor FFh.
     BadAccess = 4,
-    /// The data area reaches past the image.
+    /// The data area reaches past the image. Type 6: the image is not as long as its blocks, or
+    /// MAX_LEN is over the number of blocks after the container.
     BadDataArea = 5,
     /// A control TLV has a length other than 3 or a reserved nibble.
     BadControlTlv = 6,
     /// A TLV runs past the data area or has a bad length form; Type 3: Ln over 16·Nmaxb,
-    /// whatever WriteFlag says.
+    /// whatever WriteFlag says; Type 6: no room for NLEN in MAX_LEN blocks, or NLEN over the room
+    /// left for a message.
     BadLength = 7,
     /// Type 2: no message TLV.
     NoMessageTlv = 8,
@@ -112,6 +119,8 @@ pub enum RefusalNumber {
     ShortBuffer = 12,
     /// The gathering buffer is shorter than an interrupted message.
     ShortGatheringBuffer = 13,
+    /// Type 6: writing and judging need a block size of 2 or more.
+    BlockTooSmall = 14,
     /// A command is not well formed.
     MalformedCommand = 20,
     /// A command changes a protected byte.
@@ -141,7 +150,7 @@ impl Error for UnknownRefusal {}
 /// use zanfirotta::{RefusalNumber, UnknownRefusal};
 ///
 /// assert_eq!(RefusalNumber::try_from(11), Ok(RefusalNumber::MessageTooLong));
-/// assert_eq!(RefusalNumber::try_from(14), Err(UnknownRefusal(14)));
+/// assert_eq!(RefusalNumber::try_from(0), Err(UnknownRefusal(0)));
 /// ```
 impl TryFrom<u8> for RefusalNumber {
     type Error = UnknownRefusal;
@@ -162,6 +171,7 @@ impl TryFrom<u8> for RefusalNumber {
             11 => MessageTooLong,
             12 => ShortBuffer,
             13 => ShortGatheringBuffer,
+            14 => BlockTooSmall,
             20 => MalformedCommand,
             21 => ProtectedByte,
             22 => Misread,
@@ -179,7 +189,7 @@ impl RefusalNumber {
             NotNdef => "not an NDEF tag, or a wrong checksum",
             UnknownVersion => "unknown version",
             BadAccess => "unknown access byte or flags",
-            BadDataArea => "data area past the image",
+            BadDataArea => "data area does not fit the image",
             BadControlTlv => "bad control TLV",
             BadLength => "bad length",
             NoMessageTlv => "no message TLV",
@@ -188,6 +198,7 @@ impl RefusalNumber {
             MessageTooLong => "message too long",
             ShortBuffer => "buffer too short for the command or list",
             ShortGatheringBuffer => "gathering buffer too short",
+            BlockTooSmall => "block size under 2",
             MalformedCommand => "command not well formed",
             ProtectedByte => "command changes a protected byte",
             Misread => "tag misreads after the command",

@@ -12,6 +12,8 @@ mod reference;
 mod type2;
 #[path = "differential/type3.rs"]
 mod type3;
+#[path = "differential/type6.rs"]
+mod type6;
 
 use std::fmt::Debug;
 
@@ -54,6 +56,12 @@ operations! {
     type3_model: type3::model,
     type3_encode: type3::encode,
     type3_decode: type3::decode,
+    type6_read: type6::read,
+    type6_write: type6::write,
+    type6_judge: type6::judge,
+    type6_model: type6::model,
+    type6_encode: type6::encode,
+    type6_decode: type6::decode,
 }
 
 #[test]
@@ -67,6 +75,11 @@ fn type3_every_length() {
 }
 
 #[test]
+fn type6_every_length() {
+    type6::every_length();
+}
+
+#[test]
 fn type2_every_version() {
     type2::every_version();
 }
@@ -74,6 +87,21 @@ fn type2_every_version() {
 #[test]
 fn type3_every_version() {
     type3::every_version();
+}
+
+#[test]
+fn type6_every_version() {
+    type6::every_version();
+}
+
+#[test]
+fn type6_every_block_size() {
+    type6::every_block_size();
+}
+
+#[test]
+fn type6_every_stated_size() {
+    type6::every_stated_size();
 }
 
 /// An answer of the library in the terms of the reference.

@@ -4,6 +4,7 @@
 mod print;
 mod type2_tags;
 mod type3_tags;
+mod type6_tags;
 
 // Four skipped bytes inside the message; 38 usable bytes follow the type byte.
 fn interrupted() {
@@ -138,6 +139,74 @@ fn versions() {
     );
 }
 
+// E2: the examples of source document 003, appendix A, and cards on each side of the limits.
+fn cards() {
+    type6_tags::read(b"A.1", 128, b"NDE\x10\x1F\x03\x00\x1E\x03\x00\xD0\x00\x00");
+    type6_tags::read(
+        b"A.2",
+        128,
+        b"NDE\x10\x1F\x03\x00\x1E\x12\x00\xD1\x01\x0E\x55\x01nfc-forum.org",
+    );
+    type6_tags::read(b"7 bytes", 7, b"NDE\x10\x1F\x03\x00");
+    type6_tags::read(b"NDF", 128, b"NDF\x10\x1F\x03\x00\x1E");
+    type6_tags::read(b"Type 6, version 11h", 128, b"NDE\x11\x1F\x03\x00\x1E");
+    type6_tags::read(b"access 0Fh", 128, b"NDE\x10\x1F\x03\x0F\x1E");
+    type6_tags::read(b"one block short", 124, b"NDE\x10\x1F\x03\x00\x1E");
+    type6_tags::read(b"MAX_LEN 31 of 30", 128, b"NDE\x10\x1F\x03\x00\x1F");
+    type6_tags::read(b"MAX_LEN 0", 128, b"NDE\x10\x1F\x03\x00\x00");
+    type6_tags::read(b"NLEN over m", 128, b"NDE\x10\x1F\x03\x00\x1E\x77\x00");
+    type6_tags::read(
+        b"blocks of 3",
+        15,
+        b"NDE\x10\x04\x02\x00\x02\xAA\x01\x00\xBB",
+    );
+}
+
+// Writing to them, and judging lists for them.
+fn card_lists() {
+    let card = b"NDE\x10\x1F\x03\x00\x1E";
+    let fits = [0xD0u8; 118];
+    type6_tags::write(b"118 bytes of 118", 128, card, &fits);
+    let too_long = [0xD0u8; 119];
+    type6_tags::write(b"119 bytes of 118", 128, card, &too_long);
+    type6_tags::write(
+        b"blocks of 1, too long",
+        11,
+        b"NDE\x10\x0A\x00\x00\x03",
+        b"\xD0\xD0",
+    );
+    type6_tags::write(
+        b"blocks of 1, read-only",
+        11,
+        b"NDE\x10\x0A\x00\xFF\x03",
+        b"\xD0",
+    );
+    type6_tags::judge(
+        b"one command",
+        card,
+        b"\xD0\x01",
+        b"\x02\x21\x02\x02\x00\xD0\x01",
+    );
+    type6_tags::judge(
+        b"flags 04h",
+        card,
+        b"\xD0\x01",
+        b"\x04\x21\x02\x02\x00\xD0\x01",
+    );
+    type6_tags::judge(
+        b"container changed",
+        card,
+        b"\xD0\x01",
+        b"\x02\x21\x00NDF\x10",
+    );
+    type6_tags::judge(
+        b"another length",
+        card,
+        b"\xD0\x01",
+        b"\x02\x21\x02\x01\x00\xD0\x01",
+    );
+}
+
 fn main() {
     interrupted();
     appendix_c();
@@ -145,4 +214,6 @@ fn main() {
     empty_lists();
     foreign_lists();
     versions();
+    cards();
+    card_lists();
 }

@@ -16,6 +16,7 @@ use Rattle.tag.specs.Answers.{Returned, refuses, gives, countOf, storingOf}
 use Rattle.tag.specs.Judge.{Verdict, accepted, refused}
 use Rattle.type2.specs.Codec as two
 use Rattle.type3.specs.Codec as three
+use Rattle.type6.specs.Codec as six
 
 -- a count or a position, above the low byte
 abbrev pub above : ℕ → ℕ
@@ -92,6 +93,19 @@ blocksInto old (three.decoded bs bytes) = overwrite bs old
 abbrev pub blockdataInto : List ℕ → three.Decoded → List ℕ
 blockdataInto old (three.undecoded f) = old
 blockdataInto old (three.decoded bs bytes) = overwrite bytes old
+
+abbrev pub packedDecoded6 : six.Decoded → ℕ
+packedDecoded6 (six.undecoded f) = packedRefusal f
+packedDecoded6 (six.decoded b bytes) = 0
+
+-- the block, and its bytes at the front of the data; the data past them is unchanged, and so is everything after a refusal
+abbrev pub blockInto6 : ℕ → six.Decoded → ℕ
+blockInto6 old (six.undecoded f) = old
+blockInto6 old (six.decoded b bytes) = b
+
+abbrev pub dataInto6 : List ℕ → six.Decoded → List ℕ
+dataInto6 old (six.undecoded f) = old
+dataInto6 old (six.decoded b bytes) = overwrite bytes old
 
 -- how many bytes the first command of a Type 3 list takes; 20 if the list is empty or ends within that command
 abbrev pub packedSpan : List ℕ → ℕ

@@ -3,3 +3,4 @@
 mod answers;
 pub mod type2_calls;
 pub mod type3_calls;
+pub mod type6_calls;

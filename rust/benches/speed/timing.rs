@@ -2,6 +2,8 @@
 
 use std::time::Instant;
 
+use zanfirotta::type6;
+
 const RUNS: usize = 301;
 /// A run should take about this long.
 const NANOSECONDS: f64 = 50_000.0;
@@ -18,7 +20,7 @@ impl Buffers {
         Buffers {
             image: image.to_vec(),
             gathered: vec![0; 4096],
-            list: vec![0; 8192],
+            list: vec![0; type6::LIST_MAX], // the longest of any type
         }
     }
 

@@ -104,9 +104,59 @@ static int type3(void)
     return 0;
 }
 
+/* An empty Type 6 tag of four blocks of four bytes. */
+static void empty6(uint8_t image[16])
+{
+    static const uint8_t container[8] = {0x4E, 0x44, 0x45, 0x10, 3, 3, 0x00, 2};
+
+    memset(image, 0, 16);
+    memcpy(image, container, 8);
+}
+
+static int type6(void)
+{
+    uint8_t image[16], list[ZAN_TYPE6_LIST_MAX], bytes[ZAN_TYPE6_COMMAND_MAX], data[ZAN_TYPE6_BLOCK_MAX] = {1, 2, 3, 4, 5};
+    uint64_t block = 9;
+    zan_report report = {0, 0, 0, 0, 0};
+    size_t len, i;
+
+    empty6(image);
+    len = ZAN_TYPE6_COMMAND(image);
+    HOLDS(len == 7 && ZAN_TYPE6_BLOCK_SIZE(image) == 4 && ZAN_TYPE6_BLOCKS(image) == 4);
+    HOLDS(zan_type6_write(image, 16, message, 3, list, sizeof list) == 3 * 256);
+    HOLDS(zan_type6_write(image, 16, message, 3, list, 20) == ZAN_REFUSED_SHORT_BUFFER);
+    HOLDS(zan_type6_judge(image, 16, message, 3, list, 21) == 3 * 256);
+    HOLDS(zan_type6_judge(image, 16, message, 3, list, 20) == ZAN_REFUSED_MALFORMED_COMMAND + 2 * 256);
+    HOLDS(zan_type6_judge(image, 16, message, 3, list, 14) == ZAN_REFUSED_UNFINISHED + 2 * 256);
+    for (i = 0; i < 3; i++) {
+        HOLDS(zan_type6_model(image, 16, list + len * i, len) == 0);
+        HOLDS(zan_type6_read(image, 16, &report) == 0);
+        HOLDS(report.content == (i < 2 ? ZAN_CONTENT_EMPTY : ZAN_CONTENT_MESSAGE));
+    }
+    HOLDS(zan_type6_model(image, 16, list, 6) == ZAN_REFUSED_MALFORMED_COMMAND);
+    HOLDS(report.address == 10 && report.length == 3 && report.interrupted == 0 && report.writable == 1);
+    HOLDS(zan_type6_read(image, 15, &report) == ZAN_REFUSED_BAD_DATA_AREA && report.length == 3);
+    image[4] = 15;
+    image[5] = 0;
+    HOLDS(zan_type6_write(image, 16, message, 3, list, sizeof list) == ZAN_REFUSED_BAD_LENGTH);
+    image[7] = 8;
+    HOLDS(zan_type6_write(image, 16, message, 3, list, sizeof list) == ZAN_REFUSED_BLOCK_TOO_SMALL);
+    HOLDS(zan_type6_judge(image, 16, message, 3, list, 0) == ZAN_REFUSED_BLOCK_TOO_SMALL);
+
+    HOLDS(zan_type6_encode(5, data, 4, 16, bytes, sizeof bytes) == 7 * 256);
+    HOLDS(memcmp(bytes, "\x02\x21\x05\x01\x02\x03\x04", 7) == 0);
+    HOLDS(zan_type6_encode(5, data, 33, 16, bytes, sizeof bytes) == ZAN_REFUSED_MALFORMED_COMMAND);
+    memset(data, 0xAA, sizeof data);
+    HOLDS(zan_type6_decode(bytes, 7, 4, 16, &block, data) == 0);
+    HOLDS(block == 5 && memcmp(data, "\x01\x02\x03\x04\xAA", 5) == 0);
+    HOLDS(zan_type6_decode(bytes, 7, 4, 5, &block, data) == ZAN_REFUSED_MALFORMED_COMMAND && block == 5);
+    return 0;
+}
+
 int main(void)
 {
     int line = type2();
 
-    return line ? line : type3();
+    line = line ? line : type3();
+    return line ? line : type6();
 }

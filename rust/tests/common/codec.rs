@@ -2,6 +2,7 @@
 
 use super::{lists3, Rng};
 use crate::reference::type3::Command;
+use crate::reference::type6;
 
 pub struct Type2 {
     pub block: u64,
@@ -134,5 +135,70 @@ pub fn type3(rng: &mut Rng) -> Type3 {
         buffer,
         bytes,
         held: random_command(rng),
+    }
+}
+
+pub struct Type6 {
+    pub command: type6::Command,
+    pub block_size: u64,
+    pub blocks: u64,
+    pub buffer: usize,
+    pub bytes: Vec<u8>,
+    /// What the place for the decoded command holds before the call.
+    pub held: type6::Command,
+}
+
+pub fn type6(rng: &mut Rng) -> Type6 {
+    let block_size = match rng.below(10) {
+        0 => rng.pick(&[0, 33, 64, 255, 256, 260, 65_540, (1 << 32) + 4, u64::MAX]),
+        1 => rng.next(),
+        2 | 3 => rng.pick(&[1, 2, 31, 32]),
+        _ => rng.between(1, 32) as u64,
+    };
+    let blocks = match rng.below(8) {
+        0 => rng.pick(&[0, 1, 2, 255, 256, 257, 70_000, u64::MAX]),
+        1 => rng.next(),
+        2 => rng.below(20) as u64,
+        3 | 4 => 256,
+        _ => rng.between(16, 256) as u64,
+    };
+    let block = match rng.below(8) {
+        0 => rng.pick(&[0, 1, 254, 255, 256, 257, 65_540, u64::MAX]),
+        1 => rng.next(),
+        2 => blocks.wrapping_sub(rng.below(3) as u64),
+        3 => blocks.wrapping_add(rng.below(2) as u64),
+        4 => rng.between(250, 256) as u64,
+        _ => rng.below(50) as u64,
+    };
+    let mut random = |block| type6::Command {
+        block,
+        data: rng.bytes(32).try_into().unwrap(),
+    };
+    let (command, held) = (random(block), random(!block));
+    // As many bytes as the low byte of the size says, as far as there are.
+    let size = (block_size % 256).min(40) as usize;
+    let mut bytes = vec![0x02, 0x21, block as u8];
+    bytes.extend(command.data.iter().chain(&held.data).take(size));
+    match rng.below(14) {
+        0 => bytes.truncate(rng.below(bytes.len() + 1)),
+        1 => bytes.push(rng.byte()),
+        2 => bytes[0] = rng.pick(&[0x00, 0x04, 0x12, 0x22, 0x42]),
+        3 => bytes[1] = rng.pick(&[0x20, 0x22, 0x23, 0x24]),
+        4 => bytes[rng.below(2)] ^= 1 << rng.below(8),
+        _ => {}
+    }
+    let buffer = match rng.below(5) {
+        0 => rng.below(size + 4),
+        1 => size + 2,
+        2 => size + 3,
+        _ => size + 3 + rng.below(40),
+    };
+    Type6 {
+        command,
+        block_size,
+        blocks,
+        buffer,
+        bytes,
+        held,
     }
 }

@@ -6,8 +6,10 @@ pub mod codec;
 mod layout2;
 pub mod lists2;
 pub mod lists3;
+pub mod lists6;
 pub mod tags2;
 pub mod tags3;
+pub mod tags6;
 
 use crate::reference::Refusal;
 
@@ -179,7 +181,8 @@ pub fn hex(bytes: &[u8]) -> String {
     bytes.iter().map(|byte| format!("{byte:02X} ")).collect()
 }
 
-/// The version byte of a tag that is meant to read: often 10h, else any with the same major version.
+/// The version byte of a Type 2 or Type 3 tag that is meant to read: often 10h, else any with the
+/// same major version.
 pub fn version(rng: &mut Rng) -> u8 {
     match rng.below(3) {
         0 => rng.between(0x11, 0x1F) as u8,

@@ -1,13 +1,13 @@
 //! What the tests of cuts need of each type of tag.
 
-use zanfirotta::{type2, type3};
+use zanfirotta::{type2, type3, type6};
 
-use crate::common::{lists2, lists3, Rng};
+use crate::common::{lists2, lists3, lists6, Rng};
 
-/// What the two types have in common for these tests.
+/// What the types have in common for these tests.
 pub trait Type {
-    /// The address of the version byte.
-    const VERSION: usize;
+    /// The address of the version byte, if tags of several versions are read.
+    const VERSION: Option<usize>;
     /// The bytes of our list, by the library.
     fn write(&self, image: &[u8], message: &[u8]) -> Vec<u8>;
     /// The same by the reference.
@@ -25,7 +25,7 @@ pub trait Type {
 pub struct Type2;
 
 impl Type for Type2 {
-    const VERSION: usize = 13;
+    const VERSION: Option<usize> = Some(13);
 
     fn write(&self, image: &[u8], message: &[u8]) -> Vec<u8> {
         let mut list = vec![0; type2::LIST_MAX];
@@ -71,7 +71,7 @@ pub struct Type3 {
 }
 
 impl Type for Type3 {
-    const VERSION: usize = 0;
+    const VERSION: Option<usize> = Some(0);
 
     fn write(&self, image: &[u8], message: &[u8]) -> Vec<u8> {
         let mut list = vec![0; type3::LIST_MAX];
@@ -113,6 +113,54 @@ impl Type for Type3 {
 
     fn message(&self, image: &[u8]) -> Option<Vec<u8>> {
         let report = type3::read(image).ok()?;
+        Some(report.message(image, &[]).to_vec())
+    }
+}
+
+pub struct Type6 {
+    pub block_size: usize,
+}
+
+impl Type for Type6 {
+    const VERSION: Option<usize> = None;
+
+    fn write(&self, image: &[u8], message: &[u8]) -> Vec<u8> {
+        let mut list = vec![0; type6::LIST_MAX];
+        let count = type6::write(image, message, &mut list).unwrap();
+        list.truncate(type6::command_len(self.block_size as u64) * count);
+        list
+    }
+
+    fn reference_list(&self, image: &[u8], message: &[u8]) -> Vec<u8> {
+        lists6::ours(image, message).concat()
+    }
+
+    fn foreign(&self, rng: &mut Rng, image: &[u8], message: &[u8]) -> Vec<u8> {
+        lists6::any(rng, image, message)
+    }
+
+    fn judge(&self, image: &[u8], message: &[u8], list: &[u8]) -> Option<usize> {
+        type6::judge(image, message, list).ok()
+    }
+
+    fn model(&self, image: &mut [u8], command: &[u8]) -> bool {
+        type6::model(image, command).is_ok()
+    }
+
+    fn split(&self, list: &[u8]) -> Vec<Vec<u8>> {
+        let commands = type6::commands(list, self.block_size as u64);
+        let commands: Vec<Vec<u8>> = commands.map(<[u8]>::to_vec).collect();
+        assert_eq!(commands, lists6::split(list, self.block_size));
+        commands
+    }
+
+    fn store(&self, image: &mut [u8], command: &[u8]) {
+        let start = self.block_size * command[2] as usize;
+        image[start..start + self.block_size].copy_from_slice(&command[3..]);
+    }
+
+    fn message(&self, image: &[u8]) -> Option<Vec<u8>> {
+        let report = type6::read(image).ok()?;
         Some(report.message(image, &[]).to_vec())
     }
 }

@@ -1,8 +1,9 @@
 //! The rules of `docs/01-scope.md` in ordinary Rust, with what `docs/02-change-requests.md` has
-//! changed: E1.
+//! changed and added: E1, E2.
 //!
-//! This reference was written from these pages alone, without a look at the verified code, so the
-//! two can be tested against each other. It is also the baseline of the speed measurements.
+//! This reference was written from these pages alone (Type 6 also from source document 003),
+//! without a look at the verified code, so the two can be tested against each other. It is also the
+//! baseline of the speed measurements.
 //!
 //! Every function takes what the verified one takes: slices in, an answer out, and `&mut [u8]` for
 //! the caller's buffer. A refusal changes no byte of that buffer.
@@ -11,6 +12,7 @@
 
 pub mod type2;
 pub mod type3;
+pub mod type6;
 
 /// Why an operation was refused: a number of the page's table and, for 20 to 23, the position of
 /// the command at fault (0 for all other numbers).
@@ -36,7 +38,7 @@ impl Refusal {
     }
 }
 
-/// Whether a tag with this version byte is read: its major version is 1.
+/// Whether a Type 2 or Type 3 tag with this version byte is read: its major version is 1.
 pub fn known_version(version: u8) -> bool {
     version >> 4 == 1
 }

@@ -1,8 +1,9 @@
 //! The reference's codec loses nothing, and its model stores exactly the well-formed commands.
 
-use crate::common::{codec, lists2, lists3, message, tags2, tags3, Guarded, Rng, Tally};
-use crate::reference::{type2, type3, Refusal};
-use crate::{naive2, naive3, CASES};
+use crate::common::{codec, lists2, lists3, lists6, message, tags2, tags3, tags6};
+use crate::common::{Guarded, Rng, Tally};
+use crate::reference::{type2, type3, type6, Refusal};
+use crate::{naive2, naive3, naive6, CASES};
 
 #[test]
 fn type2_codec() {
@@ -91,6 +92,56 @@ fn type3_codec() {
 }
 
 #[test]
+fn type6_codec() {
+    let mut encoded = Tally::new("type6 encode");
+    let mut decoded = Tally::new("type6 decode");
+    for index in 0..CASES {
+        let mut rng = Rng::case(14, index);
+        let case = codec::type6(&mut rng);
+        let (block_size, blocks) = (case.block_size, case.blocks);
+        let mut bytes = Guarded::random(&mut rng, case.buffer);
+        let before = bytes.clone();
+        let answer = type6::encode(&case.command, block_size, blocks, bytes.lend());
+        encoded.add(&answer);
+        let block = case.command.block;
+        let named = (1..=32).contains(&block_size) && block < blocks && block <= 255;
+        match answer {
+            Ok(len) => {
+                let size = block_size as usize;
+                assert!(named && len == 3 + size);
+                let (sent, rest) = bytes.slice().split_at(len);
+                assert_eq!(sent[..3], [0x02, 0x21, block as u8]);
+                assert_eq!(sent[3..], case.command.data[..size]);
+                assert_eq!(rest, &before.slice()[len..]);
+                let mut back = case.held;
+                type6::decode(sent, block_size, blocks, &mut back).unwrap();
+                assert_eq!(back.block, block);
+                assert_eq!(back.data[..size], case.command.data[..size]);
+                assert_eq!(back.data[size..], case.held.data[size..]);
+            }
+            Err(refusal) => {
+                let number = if named { 12 } else { 20 };
+                assert_eq!(refusal, Refusal::new(number));
+                assert!(bytes == before);
+            }
+        }
+        let mut read = case.held;
+        let answer = type6::decode(&case.bytes, block_size, blocks, &mut read);
+        decoded.add(&answer);
+        match answer {
+            Ok(()) => {
+                let mut bytes = [0; 35];
+                let len = type6::encode(&read, block_size, blocks, &mut bytes).unwrap();
+                assert_eq!(case.bytes, bytes[..len]);
+            }
+            Err(_) => assert!(read == case.held),
+        }
+    }
+    encoded.expect(&[0, 12, 20], 500);
+    decoded.expect(&[0, 20], 500);
+}
+
+#[test]
 fn type2_model() {
     let mut tally = Tally::new("type2 model");
     for index in 0..CASES {
@@ -144,6 +195,39 @@ fn type3_model() {
                     for (block, data) in parts {
                         expected[16 * block..16 * block + 16].copy_from_slice(data);
                     }
+                    0
+                }
+            },
+        };
+        assert_eq!(
+            answer.map_or_else(|refusal| refusal.number, |()| 0),
+            refusal
+        );
+        assert_eq!(image, expected);
+    }
+    tally.expect(&[0, 1, 2, 3, 4, 5, 7, 20], 100);
+}
+
+#[test]
+fn type6_model() {
+    let mut tally = Tally::new("type6 model");
+    for index in 0..CASES {
+        let mut rng = Rng::case(15, index);
+        let mut image = tags6::any(&mut rng);
+        let (old, room) = tags6::message_and_room(&image);
+        let message = tags6::message(&mut rng, &image, &old, room);
+        let command = lists6::command(&mut rng, &image, &message);
+        let before = image.clone();
+        let answer = type6::model(&mut image, &command);
+        tally.add(&answer);
+        let mut expected = before.clone();
+        let refusal = match naive6::read(&before) {
+            Err(refusal) => refusal,
+            Ok(tag) => match naive6::well_formed(&tag, &command) {
+                None => 20,
+                Some(block) => {
+                    let start = tag.size * block;
+                    expected[start..start + tag.size].copy_from_slice(&command[3..]);
                     0
                 }
             },

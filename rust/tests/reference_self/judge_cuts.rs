@@ -1,8 +1,8 @@
 //! The reference's judge against the naive form, and cuts of accepted lists.
 
-use crate::common::{lists2, lists3, message, tags2, tags3, Rng, Tally};
-use crate::reference::{type2, type3};
-use crate::{naive2, naive3, CASES};
+use crate::common::{lists2, lists3, lists6, message, tags2, tags3, tags6, Rng, Tally};
+use crate::reference::{type2, type3, type6};
+use crate::{naive2, naive3, naive6, CASES};
 
 /// The judge against the naive form. Along the cuts of an accepted list the model follows, and from
 /// every cut writing afresh ends where our list ends.
@@ -91,6 +91,50 @@ fn run3(image: &[u8], message: &[u8], idm: &[u8; 8]) -> Vec<u8> {
     let mut end = image.to_vec();
     for command in lists3::split(&lists3::our_bytes(image, message, idm)) {
         type3::model(&mut end, idm, &command).unwrap();
+    }
+    end
+}
+
+#[test]
+fn type6_judge_and_cuts() {
+    let mut tally = Tally::new("type6 judge");
+    let mut cuts = 0;
+    for index in 0..CASES {
+        let mut rng = Rng::case(13, index);
+        let image = tags6::for_lists(&mut rng);
+        let (old, room) = tags6::message_and_room(&image);
+        let message = tags6::message(&mut rng, &image, &old, room);
+        let list = lists6::any(&mut rng, &image, &message);
+        let answer = type6::judge(&image, &message, &list);
+        tally.add(&answer);
+        assert_eq!(
+            answer,
+            naive6::judge(&image, &message, &list),
+            "case {index}"
+        );
+        if answer.is_err() || !rng.percent(20) {
+            continue;
+        }
+        let end = run6(&image, &message);
+        let mut cut = image.clone();
+        let commands = lists6::split(&list, tags6::block_size(&image));
+        for command in commands.iter().map(Some).chain([None]) {
+            cuts += 1;
+            assert!(run6(&cut, &message) == end, "case {index}");
+            if let Some(command) = command {
+                type6::model(&mut cut, command).unwrap();
+            }
+        }
+        assert_eq!(tags6::message_and_room(&end).0, message);
+    }
+    println!("type6 cuts     {cuts}");
+    tally.expect(&[0, 1, 2, 3, 4, 5, 7, 9, 10, 11, 14, 20, 21, 22, 23], 100);
+}
+
+fn run6(image: &[u8], message: &[u8]) -> Vec<u8> {
+    let mut end = image.to_vec();
+    for command in lists6::ours(image, message) {
+        type6::model(&mut end, &command).unwrap();
     }
     end
 }

@@ -10,8 +10,10 @@ mod codec_model;
 mod judge_cuts;
 mod naive2;
 mod naive3;
+mod naive6;
 mod read_write;
 mod specimens;
+mod specimens6;
 
 /// Random cases of each kind.
 const CASES: u64 = 20_000;

@@ -1,8 +1,9 @@
 //! The reference's reading against the naive form, and what its write lists promise.
 
-use crate::common::{buffer_len, hex, lists2, lists3, message, tags2, tags3, Guarded, Rng, Tally};
-use crate::reference::{type2, type3, Content, Refusal};
-use crate::{naive2, naive3, CASES};
+use crate::common::{buffer_len, hex, lists2, lists3, lists6, message, tags2, tags3, tags6};
+use crate::common::{Guarded, Rng, Tally};
+use crate::reference::{type2, type3, type6, Content, Refusal};
+use crate::{naive2, naive3, naive6, CASES};
 
 /// Reading against the naive form.
 #[test]
@@ -81,6 +82,32 @@ fn type3_read_is_as_the_page_says() {
         ] {
             tally.note(what, answer.is_ok_and(|a| a.content == content));
         }
+    }
+    tally.expect(&[0, 1, 2, 3, 4, 5, 7], 100);
+}
+
+#[test]
+fn type6_read_is_as_the_page_says() {
+    let mut tally = Tally::new("type6 read");
+    for index in 0..CASES {
+        let image = tags6::any(&mut Rng::case(11, index));
+        let answer = type6::read(&image);
+        tally.add(&answer);
+        match (answer, naive6::read(&image)) {
+            (Err(refusal), Err(number)) => assert_eq!(refusal, Refusal::new(number)),
+            (Ok(answer), Ok(tag)) => {
+                let expected = match tag.nlen {
+                    0 => (Content::Empty, 0, 0),
+                    nlen => (Content::Message, tag.file as u64 + 2, nlen as u64),
+                };
+                assert_eq!((answer.content, answer.address, answer.length), expected);
+                assert_eq!((answer.interrupted, answer.writable), (false, tag.writable));
+                assert_eq!(type6::room(&image), Ok(tag.m));
+            }
+            (answer, _) => panic!("{answer:?} for {}", hex(&image)),
+        }
+        tally.note("empty", answer.is_ok_and(|a| a.content == Content::Empty));
+        tally.note("read-only", answer.is_ok_and(|a| !a.writable));
     }
     tally.expect(&[0, 1, 2, 3, 4, 5, 7], 100);
 }
@@ -196,4 +223,54 @@ fn type3_write_keeps_its_promises() {
         assert_eq!((written[..9] == image[..9], written[10]), (true, image[10]));
     }
     tally.expect(&[0, 1, 2, 3, 4, 5, 7, 9, 10, 11, 12], 100);
+}
+
+#[test]
+fn type6_write_keeps_its_promises() {
+    let mut tally = Tally::new("type6 write");
+    for index in 0..CASES {
+        let mut rng = Rng::case(12, index);
+        let image = tags6::for_lists(&mut rng);
+        let (old, room) = tags6::message_and_room(&image);
+        let message = tags6::message(&mut rng, &image, &old, room);
+        let needed = lists6::ours(&image, &message).concat().len();
+        let len = buffer_len(&mut rng, needed);
+        let mut list = Guarded::random(&mut rng, len);
+        let before = list.clone();
+        let answer = type6::write(&image, &message, list.lend());
+        tally.add(&answer);
+        let Ok(count) = answer else {
+            assert!(list == before);
+            continue;
+        };
+        assert!(list.slice()[needed..] == before.slice()[needed..]);
+        let ours = &list.slice()[..needed];
+        assert_eq!(type6::judge(&image, &message, ours), Ok(count));
+
+        // The bytes to set hold what they should, all others what they held.
+        let tag = naive6::read(&image).unwrap();
+        let to_set = naive6::to_set(&tag, message.len());
+        let mut written = image.clone();
+        let commands = lists6::split(ours, tag.size);
+        for command in &commands {
+            type6::model(&mut written, command).unwrap();
+        }
+        for (address, byte) in image.iter().enumerate() {
+            assert!(to_set.contains(&address) || written[address] == *byte);
+        }
+        let (n, start) = (message.len(), tag.file);
+        assert_eq!(written[start..start + 2], [n as u8, (n >> 8) as u8]);
+        assert_eq!(written[start + 2..start + 2 + n], message);
+        // The order: the first block of the file, the other touched blocks rising, the first again.
+        let mut blocks: Vec<usize> = to_set.iter().map(|&a| a / tag.size).collect();
+        blocks.dedup();
+        assert_eq!(count, 1 + (n + 2).div_ceil(tag.size));
+        blocks.push(start / tag.size);
+        let named: Vec<usize> = commands.iter().map(|c| c[2] as usize).collect();
+        assert_eq!((named[0], &named[1..]), (blocks[0], &blocks[1..]));
+        let mut opened = image[start..start + tag.size].to_vec();
+        opened[..2].fill(0);
+        assert_eq!(commands[0][3..], opened);
+    }
+    tally.expect(&[0, 1, 2, 3, 4, 5, 7, 9, 10, 11, 12, 14], 100);
 }
