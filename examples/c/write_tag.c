@@ -1,7 +1,7 @@
 /*
- * Writes a message on a tag in memory, first on a Type 2 tag, then on a Type 3 tag. Asks for the
- * list, has it judged (Type 2 only), gives it to the tag command by command, and reads the tag
- * after each command. See README.md for how to compile.
+ * Writes a message on a tag in memory: on a Type 2 tag, on a Type 3 tag, and on a Type 6 tag. Asks
+ * for the list, has it judged (Type 2 only), gives it to the tag command by command, and reads the
+ * tag after each command. See README.md for how to compile.
  */
 #include <inttypes.h>
 #include <stdio.h>
@@ -98,7 +98,36 @@ static int type3(void)
     return 0;
 }
 
+static int type6(void)
+{
+    uint8_t image[16 * 4] = {0x4E, 0x44, 0x45, 0x10, 15, 3, 0x00, 14};
+    uint8_t list[ZAN_TYPE6_LIST_MAX];
+    size_t len = ZAN_TYPE6_COMMAND(image);
+    zan_report report;
+    uint64_t answer, count;
+
+    answer = zan_type6_write(image, sizeof image, message, sizeof message, list, sizeof list);
+    if (ZAN_REFUSAL(answer))
+        return refused("write", answer);
+    count = ZAN_COUNT(answer);
+
+    printf("Type 6: %" PRIu64 " commands\n", count);
+    for (uint64_t i = 0; i < count; i++) {
+        const uint8_t *command = list + i * len;
+
+        answer = zan_type6_model(image, sizeof image, command, len);
+        if (ZAN_REFUSAL(answer))
+            return refused("model", answer);
+        answer = zan_type6_read(image, sizeof image, &report);
+        if (ZAN_REFUSAL(answer))
+            return refused("read", answer);
+        print_line(command, len, &report);
+    }
+    printf("message at %" PRIu64 ", length %" PRIu64 "\n", report.address, report.length);
+    return 0;
+}
+
 int main(void)
 {
-    return type2() || type3();
+    return type2() || type3() || type6();
 }

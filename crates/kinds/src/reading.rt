@@ -28,8 +28,8 @@ pub fn read(kind: Kind, idm: &[u8; 8], image: &[u8], gathered: &mut [u8]) -> Rea
     }
 }
 
-// `read`, for `is_safe` alone. With one caller the compiler inlines it where the judge reads the tag after each command; a call would
-// return the answer through memory, and the judge of a full tag would take twice the time.
+// The same as `read`, for `is_safe` alone. With one caller the compiler inlines it where the judge reads the tag after each command. A
+// call would return the answer through memory, and the judge of a full Type 3 tag would take twice the time.
 fn read_again(kind: Kind, idm: &[u8; 8], image: &[u8], gathered: &mut [u8]) -> ReadAnswer
     ensures { λ r. ⌜ Read (typeOf kind (now (idm .entry)) .reading) (now (image .entry)) (now (gathered .entry)) r (now (gathered .exit)) ⌝ }
 {

@@ -90,7 +90,7 @@ pub fn encode(command: Command, size: usize, blocks: usize, bytes: &mut [u8]) ->
 }
 
 // Whether the bytes are a well-formed command.
-pub fn is_command(bytes: &[u8], size: usize, blocks: usize) -> bool
+pub(crate) fn is_command(bytes: &[u8], size: usize, blocks: usize) -> bool
     ensures { λ r. ⌜ r ≡ wellFormed size blocks (now (bytes .entry)) ⌝ }
 {
     if !is_defined(size) {

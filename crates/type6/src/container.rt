@@ -90,7 +90,7 @@ fn container_blocks(size: usize) -> Block
 }
 
 // Where the file begins.
-pub fn file_by(size: usize) -> Address
+pub(crate) fn file_by(size: usize) -> Address
     requires { ⌜ (0 < size) × (size ≤ 32) ⌝ }
     ensures { λ r. ⌜ (r .0 ≡ fileBy size) × (r .0 < 40) ⌝ }
 {
@@ -159,7 +159,7 @@ fn container_fault(image: &[u8]) -> u8
 }
 
 // The first of the refusals 1 to 5 and 7; 0 if the tag passes all tests. It returns a number alone, as Type 3's `fault` does.
-pub fn fault(image: &[u8]) -> u8
+pub(crate) fn fault(image: &[u8]) -> u8
     ensures { λ r. ⌜ faultAs r ≡ firstOf (checks (now (image .entry))) ⌝ }
 {
     let n = image.len();
@@ -173,7 +173,7 @@ pub fn fault(image: &[u8]) -> u8
 }
 
 // What the container and NLEN say, on a tag that passes the tests.
-pub fn said(image: &[u8]) -> Container
+pub(crate) fn said(image: &[u8]) -> Container
     requires { ⌜ (8 ≤ length (now image)) × (suc (fileAt (now image)) < length (now image)) × (2 ≤ fileRoom (now image)) ⌝ }
     ensures { λ r. ⌜ Says (now (image .entry)) r ⌝ }
 {
