@@ -120,8 +120,9 @@ fn judge_on(
     )
 }
 
-// Judges a list where writing the message to the tag is not refused. This function only makes the work arrays and passes them as
-// slices. In the function that makes an array, a proof carries all its elements; in one that takes a slice, it does not.
+// Judges a list where writing the message to the tag is not refused. `work` is as long as the image; the type of tag makes it, because
+// the longest images differ. This function only makes the arrays that all types need and passes them as slices. In the function that
+// makes an array, a proof carries all its elements; in one that takes a slice, it does not.
 pub(crate) fn judge_writable(
     kind: Kind,
     idm: &[u8; 8],
@@ -129,11 +130,11 @@ pub(crate) fn judge_writable(
     message: &[u8],
     table: &[u16],
     list: &[u8],
+    work: &mut [u8],
 ) -> JudgeAnswer
-    requires { ⌜ Writable kind (now idm) (now image) (now message) (now table) ⌝ }
+    requires { ⌜ Writable kind (now idm) (now image) (now message) (now table) × (length (now work) ≡ length (now image)) ⌝ }
     ensures { λ r. ⌜ ListJudged (typeOf kind (now (idm .entry))) (now (image .entry)) (now (message .entry)) (now (list .entry)) r ⌝ }
 {
-    let mut work = [0u8; kinds::LONGEST_IMAGE];
     let mut first = [0u8; reading::GATHERED];
     let mut gathered = [0u8; reading::GATHERED];
     judge_on(
@@ -143,7 +144,7 @@ pub(crate) fn judge_writable(
         message,
         table,
         list,
-        &mut work[..image.len()],
+        work,
         &mut first,
         &mut gathered,
     )

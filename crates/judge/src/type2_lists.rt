@@ -22,13 +22,28 @@ ghost use Rattle.tag.specs.Views.Blank.{Blank};
 ghost use Rattle.judge.specs.Views.Type2.{Planned};
 
 // Judges the list once there is room for the message. `w` is the walk after the type byte of the message TLV.
-fn judge_space(image: &[u8], message: &[u8], list: &[u8], w: Walk, table: &[u16]) -> JudgeAnswer
-    requires { ⌜ Planned (now image) (now message) × Room (now image) (now table) (length (now message)) w × (ahead (now table) w ≡ (type2 .plan) (now image) (now message) .addresses) ⌝ }
+fn judge_space(
+    image: &[u8],
+    message: &[u8],
+    list: &[u8],
+    w: Walk,
+    table: &[u16],
+    work: &mut [u8],
+) -> JudgeAnswer
+    requires { ⌜ Planned (now image) (now message) × Room (now image) (now table) (length (now message)) w × (ahead (now table) w ≡ (type2 .plan) (now image) (now message) .addresses) × (length (now work) ≡ length (now image)) ⌝ }
     ensures { λ r. ⌜ ListJudged type2 (now (image .entry)) (now (message .entry)) (now (list .entry)) r ⌝ }
 {
     let extent = kept::extent_of(w, message.len(), table);
     let none = [0u8; 8];
-    lists::judge_writable(Kind::Type2(extent), &none, image, message, table, list)
+    lists::judge_writable(
+        Kind::Type2(extent),
+        &none,
+        image,
+        message,
+        table,
+        list,
+        work,
+    )
 }
 
 // Judges the list for a tag whose data area ends at `end`.
@@ -39,8 +54,9 @@ fn judge_area(
     end: Address,
     writable: bool,
     table: &mut [u16],
+    work: &mut [u8],
 ) -> JudgeAnswer
-    requires { ⌜ Blank 1024 (now table) × Inside (now image) (end .0) writable ⌝ }
+    requires { ⌜ Blank 1024 (now table) × Inside (now image) (end .0) writable × (length (now work) ≡ length (now image)) ⌝ }
     ensures { λ r. ⌜ Judged type2 (now (image .entry)) (now (message .entry)) (now (list .entry)) r ⌝ }
 {
     match space::find_space(
@@ -52,18 +68,33 @@ fn judge_area(
         writable,
     ) {
         Space::Refused(r) => JudgeAnswer::Refused(r, 0),
-        Space::At(w) => judge_space(image, message, list, w, table),
+        Space::At(w) => judge_space(image, message, list, w, table, work),
     }
 }
 
-// Judges the list, with a blank array for the skip table.
-fn judge_with(image: &[u8], message: &[u8], list: &[u8], table: &mut [u16]) -> JudgeAnswer
-    requires { ⌜ Blank 1024 (now table) ⌝ }
+// Judges the list, with a blank array for the skip table and one for the work copy of the tag.
+fn judge_with(
+    image: &[u8],
+    message: &[u8],
+    list: &[u8],
+    table: &mut [u16],
+    work: &mut [u8],
+) -> JudgeAnswer
+    requires { ⌜ Blank 1024 (now table) × (length (now work) ≡ 1024) ⌝ }
     ensures { λ r. ⌜ Judged type2 (now (image .entry)) (now (message .entry)) (now (list .entry)) r ⌝ }
 {
+    let n = image.len();
     match container::data_area(image) {
         DataArea::Refused(r) => JudgeAnswer::Refused(r, 0),
-        DataArea::Inside(end, writable) => judge_area(image, message, list, end, writable, table),
+        DataArea::Inside(end, writable) => judge_area(
+            image,
+            message,
+            list,
+            end,
+            writable,
+            table,
+            &mut work[..n],
+        ),
     }
 }
 
@@ -72,5 +103,6 @@ pub fn judge(image: &[u8], message: &[u8], list: &[u8]) -> JudgeAnswer
     ensures { λ r. ⌜ Judged type2 (now (image .entry)) (now (message .entry)) (now (list .entry)) r ⌝ }
 {
     let mut table = [0u16; container::LONGEST_IMAGE];
-    judge_with(image, message, list, &mut table)
+    let mut work = [0u8; container::LONGEST_IMAGE];
+    judge_with(image, message, list, &mut table, &mut work)
 }

@@ -9,6 +9,8 @@ use type3::read;
 use type3::read::AttributeInformation;
 use type3::read::Checked;
 use type3::space;
+ghost use mathlib.Core.Path.{_≡_};
+ghost use lib.ListN.{length};
 ghost use Rattle.tag.specs.Contracts.{Judged};
 ghost use Rattle.type3.specs.Type3.{type3};
 ghost use Rattle.type3.specs.Views.AttributeInformation.{Readable};
@@ -20,8 +22,9 @@ fn judge_readable(
     message: &[u8],
     idm: &[u8; 8],
     a: AttributeInformation,
+    work: &mut [u8],
 ) -> JudgeAnswer
-    requires { ⌜ Readable (now image) a ⌝ }
+    requires { ⌜ Readable (now image) a × (length (now work) ≡ length (now image)) ⌝ }
     ensures { λ r. ⌜ Judged (type3 (now (idm .entry))) (now (image .entry)) (now (message .entry)) (now (list .entry)) r ⌝ }
 {
     let refusal = space::refusal(a, message.len());
@@ -32,16 +35,32 @@ fn judge_readable(
     let nmaxb = a.nmaxb;
     let kind = Kind::Type3(nbw, nmaxb);
     let table = [0u16; 0];
-    lists::judge_writable(kind, idm, image, message, &table, list)
+    lists::judge_writable(kind, idm, image, message, &table, list, work)
+}
+
+// Judges the list, with an array for the work copy of the tag.
+fn judge_with(
+    image: &[u8],
+    message: &[u8],
+    idm: &[u8; 8],
+    list: &[u8],
+    work: &mut [u8],
+) -> JudgeAnswer
+    requires { ⌜ length (now work) ≡ 4096 ⌝ }
+    ensures { λ r. ⌜ Judged (type3 (now (idm .entry))) (now (image .entry)) (now (message .entry)) (now (list .entry)) r ⌝ }
+{
+    let n = image.len();
+    let checked = read::attribute_information(image);
+    match checked {
+        Checked::Refused(r) => JudgeAnswer::Refused(r, 0),
+        Checked::Fine(a) => judge_readable(list, image, message, idm, a, &mut work[..n]),
+    }
 }
 
 // Judges a list that is to write the message to the tag. The list is the bytes of its commands, laid end to end.
 pub fn judge(image: &[u8], message: &[u8], idm: &[u8; 8], list: &[u8]) -> JudgeAnswer
     ensures { λ r. ⌜ Judged (type3 (now (idm .entry))) (now (image .entry)) (now (message .entry)) (now (list .entry)) r ⌝ }
 {
-    let checked = read::attribute_information(image);
-    match checked {
-        Checked::Refused(n) => JudgeAnswer::Refused(n, 0),
-        Checked::Fine(a) => judge_readable(list, image, message, idm, a),
-    }
+    let mut work = [0u8; read::LONGEST_IMAGE];
+    judge_with(image, message, idm, list, &mut work)
 }

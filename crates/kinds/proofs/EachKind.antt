@@ -1,10 +1,10 @@
--- What holds of every kind: a command takes at least one byte, an image fits in a work array, and the answer of reading and the
--- part shown say what a tag holds. A type without interrupted messages leaves a gathering buffer as it is.
+-- What holds of every kind: a command takes at least one byte, and the answer of reading and the part shown say what a tag holds. A
+-- type without interrupted messages leaves a gathering buffer as it is.
 -- Assumes nothing.
 use mathlib.Core.Path.{_≡_, sym, _∙_}
 use mathlib.Core.Bool.{false}
 use mathlib.Core.List.{List, []}
-use Prim.Native.Nat.{ℕ, _<_, _≤_}
+use Prim.Native.Nat.{ℕ, _<_}
 use native.Mathlib.Omega.{arith}
 use lib.ListN.{length}
 use Rattle.tag.specs.declared.ReadAnswer as code
@@ -18,17 +18,12 @@ use Rattle.type3.proofs.Holding as three
 use Rattle.type6.proofs.Holding as six
 use Rattle.kinds.specs.declared.Kind.{Kind}
 use Rattle.kinds.specs.declared.Kind.the-variants as kind
-use Rattle.kinds.specs.Views.Types.{typeOf, Attested}
+use Rattle.kinds.specs.Views.Types.{typeOf}
 
 pub some-span : (k : Kind) (idm i bytes : List ℕ) → 0 < (typeOf k idm .span) i bytes
 some-span (kind.Type2 e) idm i bytes = omega arith
 some-span (kind.Type3 nbw nmaxb) idm i bytes = omega arith
 some-span (kind.Type6 size blocks) idm i bytes = omega arith
-
-pub short-enough : (k : Kind) (i : List ℕ) → Attested k i → length i ≤ 8192
-short-enough (kind.Type2 e) i h = omega arith
-short-enough (kind.Type3 nbw nmaxb) i h = omega (arith, h .most)
-short-enough (kind.Type6 size blocks) i h = h .short
 
 pub held-read : (k : Kind) (idm i before after : List ℕ) (a : Answer) (part : List ℕ) → length before ≡ 1024
     → a ≡ answerOf (length before) ((typeOf k idm .reading) i) → after ≡ gatheredInto before ((typeOf k idm .reading) i) → part ≡ shown i after a

@@ -7,9 +7,6 @@ pub mod reading;
 
 use tlv_tag::kept::Extent;
 
-// The length of the longest image of any type, in bytes.
-pub const LONGEST_IMAGE: usize = type6::container::LONGEST_IMAGE;
-
 // A type of tag, with what the functions need to know of the tag handed in: for Type 2 the extent of the bytes to set, for Type 3
 // Nbw and Nmaxb, for Type 6 the block size and the number of blocks. The IDm that the caller states is passed next to the kind; only
 // Type 3 uses it.
