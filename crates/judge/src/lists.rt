@@ -9,6 +9,7 @@ use tag::holding;
 use tag::refusals;
 use tag::slices;
 ghost use mathlib.Core.Path.{_≡_};
+ghost use Prim.Native.Nat.{_≤_};
 ghost use lib.ListN.{length};
 ghost use Rattle.tag.specs.Views.Judging.{Tested, ListJudged};
 ghost use Rattle.kinds.specs.Views.Types.{typeOf};
@@ -120,9 +121,9 @@ fn judge_on(
     )
 }
 
-// Judges a list where writing the message to the tag is not refused. `work` is as long as the image; the type of tag makes it, because
-// the longest images differ. This function only makes the arrays that all types need and passes them as slices. In the function that
-// makes an array, a proof carries all its elements; in one that takes a slice, it does not.
+// Judges a list where writing the message to the tag is not refused. The type of tag makes `work`, because the longest images differ;
+// its front holds the work copy. This function only makes the arrays that all types need and passes them as slices. In the function
+// that makes an array, a proof carries all its elements; in one that takes a slice, it does not.
 pub(crate) fn judge_writable(
     kind: Kind,
     idm: &[u8; 8],
@@ -132,7 +133,7 @@ pub(crate) fn judge_writable(
     list: &[u8],
     work: &mut [u8],
 ) -> JudgeAnswer
-    requires { ⌜ Writable kind (now idm) (now image) (now message) (now table) × (length (now work) ≡ length (now image)) ⌝ }
+    requires { ⌜ Writable kind (now idm) (now image) (now message) (now table) × (length (now image) ≤ length (now work)) ⌝ }
     ensures { λ r. ⌜ ListJudged (typeOf kind (now (idm .entry))) (now (image .entry)) (now (message .entry)) (now (list .entry)) r ⌝ }
 {
     let mut first = [0u8; reading::GATHERED];
@@ -144,7 +145,7 @@ pub(crate) fn judge_writable(
         message,
         table,
         list,
-        work,
+        &mut work[..image.len()],
         &mut first,
         &mut gathered,
     )

@@ -30,7 +30,7 @@ fn judge_space(
     table: &[u16],
     work: &mut [u8],
 ) -> JudgeAnswer
-    requires { ⌜ Planned (now image) (now message) × Room (now image) (now table) (length (now message)) w × (ahead (now table) w ≡ (type2 .plan) (now image) (now message) .addresses) × (length (now work) ≡ length (now image)) ⌝ }
+    requires { ⌜ Planned (now image) (now message) × Room (now image) (now table) (length (now message)) w × (ahead (now table) w ≡ (type2 .plan) (now image) (now message) .addresses) × (length (now work) ≡ 1024) ⌝ }
     ensures { λ r. ⌜ ListJudged type2 (now (image .entry)) (now (message .entry)) (now (list .entry)) r ⌝ }
 {
     let extent = kept::extent_of(w, message.len(), table);
@@ -56,7 +56,7 @@ fn judge_area(
     table: &mut [u16],
     work: &mut [u8],
 ) -> JudgeAnswer
-    requires { ⌜ Blank 1024 (now table) × Inside (now image) (end .0) writable × (length (now work) ≡ length (now image)) ⌝ }
+    requires { ⌜ Blank 1024 (now table) × Inside (now image) (end .0) writable × (length (now work) ≡ 1024) ⌝ }
     ensures { λ r. ⌜ Judged type2 (now (image .entry)) (now (message .entry)) (now (list .entry)) r ⌝ }
 {
     match space::find_space(
@@ -83,7 +83,6 @@ fn judge_with(
     requires { ⌜ Blank 1024 (now table) × (length (now work) ≡ 1024) ⌝ }
     ensures { λ r. ⌜ Judged type2 (now (image .entry)) (now (message .entry)) (now (list .entry)) r ⌝ }
 {
-    let n = image.len();
     match container::data_area(image) {
         DataArea::Refused(r) => JudgeAnswer::Refused(r, 0),
         DataArea::Inside(end, writable) => judge_area(
@@ -93,7 +92,7 @@ fn judge_with(
             end,
             writable,
             table,
-            &mut work[..n],
+            work,
         ),
     }
 }

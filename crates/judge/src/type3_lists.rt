@@ -24,7 +24,7 @@ fn judge_readable(
     a: AttributeInformation,
     work: &mut [u8],
 ) -> JudgeAnswer
-    requires { ⌜ Readable (now image) a × (length (now work) ≡ length (now image)) ⌝ }
+    requires { ⌜ Readable (now image) a × (length (now work) ≡ 4096) ⌝ }
     ensures { λ r. ⌜ Judged (type3 (now (idm .entry))) (now (image .entry)) (now (message .entry)) (now (list .entry)) r ⌝ }
 {
     let refusal = space::refusal(a, message.len());
@@ -49,11 +49,10 @@ fn judge_with(
     requires { ⌜ length (now work) ≡ 4096 ⌝ }
     ensures { λ r. ⌜ Judged (type3 (now (idm .entry))) (now (image .entry)) (now (message .entry)) (now (list .entry)) r ⌝ }
 {
-    let n = image.len();
     let checked = read::attribute_information(image);
     match checked {
         Checked::Refused(r) => JudgeAnswer::Refused(r, 0),
-        Checked::Fine(a) => judge_readable(list, image, message, idm, a, &mut work[..n]),
+        Checked::Fine(a) => judge_readable(list, image, message, idm, a, work),
     }
 }
 

@@ -23,7 +23,7 @@ fn judge_readable(
     c: Container,
     work: &mut [u8],
 ) -> JudgeAnswer
-    requires { ⌜ Readable (now image) c × (length (now work) ≡ length (now image)) ⌝ }
+    requires { ⌜ Readable (now image) c × (length (now work) ≡ 8192) ⌝ }
     ensures { λ r. ⌜ Judged type6 (now (image .entry)) (now (message .entry)) (now (list .entry)) r ⌝ }
 {
     let refusal = space::refusal(c, message.len());
@@ -43,11 +43,10 @@ fn judge_with(image: &[u8], message: &[u8], list: &[u8], work: &mut [u8]) -> Jud
     requires { ⌜ length (now work) ≡ 8192 ⌝ }
     ensures { λ r. ⌜ Judged type6 (now (image .entry)) (now (message .entry)) (now (list .entry)) r ⌝ }
 {
-    let n = image.len();
     let checked = container::read_container(image);
     match checked {
         Checked::Refused(r) => JudgeAnswer::Refused(r, 0),
-        Checked::Fine(c) => judge_readable(image, message, list, c, &mut work[..n]),
+        Checked::Fine(c) => judge_readable(image, message, list, c, work),
     }
 }
 

@@ -52,7 +52,6 @@ module _ (z g : ℕ) (m : List ℕ) (pos : 0 < z) (past : 8 ≤ z * g) where
   -- a touched block holds a byte of the file
   touch-in : (b : ℕ) → touch b ≡ true → (z * g < z * b + z) × (z * b < z * g + (2 + length m))
   touch-in b e =
-      let f = z * g in
       let (y, lo, hi, q) = touch-bounds z (z * g + (2 + length m)) (z * g - 1) (addresses (z * g) m) (values m) b
       (omega arith, (omega arith, above-run (length m) (suc (z * g)) (z * g + (2 + length m)) (omega arith))) e in
       let (from, to) = in-block z b y .0 q in
@@ -132,7 +131,6 @@ module _ (i m : List ℕ) (r : Ready type6 i m) where
   -- a list buffer that is long enough for every tag
   pub list-most : length (listBytes type6 (plan i m) i) ≤ 256 * 35
   list-most =
-      let b = bounds i (ready-room i m r .passes) in
       let n : length (list (plan i m) i) ≤ 256 = omega (arith, list-count i m r, few-blocks i m r, containerBlocks-some) in
       rw list-bytes (product (length (list (plan i m) i)) (3 + blockSize i) n (omega (arith, size-bounds (byte i 5))))
     where

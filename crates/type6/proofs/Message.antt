@@ -65,7 +65,6 @@ blocks-by z b n p e = rw e (mul-div-cancel-left b p)
 
 pub bounds : (i : List ℕ) → Passes i → Bounds i
 bounds i c =
-    let z = blockSize i in
     let p : 0 < blockSize i = size-bounds (byte i 5) .0 in
     let n : length i ≡ blockSize i * blockCount i = eqb-true (length i) (blockSize i * blockCount i) (c .1 .1 .1 .1 .0) in
     let file : fileBlock i + byte i 7 ≤ blockCount i = leb-true (fileBlock i + byte i 7) (blockCount i) (c .1 .1 .1 .1 .1 .0) in

@@ -1,4 +1,5 @@
 -- `type2_lists::judge_space` meets its contract. Assumes nothing.
+use native.Mathlib.Omega.{arith}
 use borrow.Author.Needs.{needs}
 use Rattle.tag.proofs.Laws.{written-ready, ready-reads}
 use Rattle.type2.specs.Type2.{type2}
@@ -20,7 +21,7 @@ judge-writable-requires c κs =
         protects = covered i m (a .table .now) (a .w) (e .result) (at-start .pre .1) (at-start .pre .2) (e .ensures .0) (e .ensures .1);
         reads = ready-reads type2 i m (written-ready type2 i m ((type2 .plan) i m) (at-start .pre .0 .plan-is) .0);
       },
-      at-start .pre .3,
+      omega (arith, at-start .pre .0 .short, at-start .pre .3),
     )
 
 pub judge-space-spec : {M : Type 1} → statement M

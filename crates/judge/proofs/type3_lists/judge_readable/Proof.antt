@@ -40,7 +40,7 @@ judge-writable-requires c κs =
         protects = omega (arith, k .says .nmaxb-is, leb-true (length m) (16 * nmaxbOf i) (ready .room));
         reads = ready-reads (type3 (a .idm .now)) i m ready;
       },
-      at-start .pre .1,
+      omega (arith, k .whole .most, at-start .pre .1),
     )
 
 returns-2 : tie.Need-returns-2

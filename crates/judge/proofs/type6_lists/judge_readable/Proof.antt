@@ -47,7 +47,7 @@ judge-writable-requires c κs =
         protects = omega (arith, file, k .says .file-is, k .says .capacity-is, k .inside, leb-true (length m) (capacity i) (ready .room));
         reads = ready-reads type6 i m ready;
       },
-      at-start .pre .1,
+      omega (arith, k .short, at-start .pre .1),
     )
 
 returns-2 : tie.Need-returns-2

@@ -26,12 +26,7 @@ returns c =
     other-length i (z .result) _ (b .result) (c .if1 .taken) ∙ sizes-are i (z .result) (b .result) _ (z .ensures .0) (b .ensures .0) refl
 
 add-if2 : tie.Need-add-if2
-add-if2 c =
-    let at-wide = c .before .before in
-    let at-if1 = at-wide .before .before in
-    let at-blocks-by = at-if1 .before in
-    let z = at-blocks-by .before .before .size-by in
-    omega (arith, c .before .container-blocks .ensures .1)
+add-if2 c = omega (arith, c .before .container-blocks .ensures .1)
 
 returns-2 : tie.Need-returns-2
 returns-2 c =
