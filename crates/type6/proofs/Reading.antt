@@ -1,6 +1,6 @@
 -- What the code finds in a container: the tests by the numbers that it has, and the answer of reading.
 -- Assumes nothing.
-use mathlib.Core.Path.{_≡_, refl, sym, ap, _∙_}
+use mathlib.Core.Path.{_≡_, refl, sym, ap, subst, _∙_}
 use mathlib.Core.Bool.{Bool, false, cond, _||_, true}
 use mathlib.Core.List.{List}
 use Prim.Native.Nat.{ℕ, zero, suc, _+_, _-_, _*_, _<_, _≤_}
@@ -17,9 +17,11 @@ use Rattle.tag.specs.Reading.{empty, message, refusal, answer, answerOf, reads}
 use Rattle.tag.proofs.Checks.{fine-all}
 use Rattle.tag.proofs.Chunks.{rounded-up}
 use Rattle.type6.specs.declared.container.Container.{Container}
+use Rattle.type6.specs.declared.container.Checked as code
+use Rattle.type6.specs.declared.container.Checked.the-variants as checked
 use Rattle.type6.specs.Container.{letters, blockSize, blockCount, containerBlocks, fileBy, fileAt, fileRoom, nlenAt, nlen, fileChecks, sizeChecks, checks, mayWrite}
 use Rattle.type6.specs.Message.{reportOf, reading}
-use Rattle.type6.specs.Views.Container.{Says, Attests, answerFor}
+use Rattle.type6.specs.Views.Container.{checkedAs, Says, Attests, Readable, Known, answerFor}
 use Rattle.type6.proofs.Message.{size-bounds, Passes, bounds, unread, passes-reads}
 
 -- ---- where the file is
@@ -52,25 +54,26 @@ file-inside z b x n e l = let k : z * (containerBlocks z + x) ≤ z * b = mul-le
 
 -- ---- the tests of the sizes, and of the file
 
-module _ (i : List ℕ) (z x : ℕ) where
-  pub no-room : z * x < 2 → fault 7 ≡ firstOf (fileChecks i z x)
-  no-room l = rw (lt-leb 2 (z * x) l)
+-- NLEN, in a file of room bytes at f
+module _ (i : List ℕ) (f room : ℕ) where
+  pub no-room : room < 2 → fault 7 ≡ firstOf (fileChecks i f room)
+  no-room l = rw (lt-leb 2 room l)
 
-  pub nlen-over : 2 ≤ z * x → z * x - 2 < nlenAt (fileBy z) i → fault 7 ≡ firstOf (fileChecks i z x)
-  nlen-over r l = rw (le-leb 2 (z * x) r, lt-leb (nlenAt (fileBy z) i) (z * x - 2) l)
+  pub nlen-over : 2 ≤ room → room - 2 < nlenAt f i → fault 7 ≡ firstOf (fileChecks i f room)
+  nlen-over r l = rw (le-leb 2 room r, lt-leb (nlenAt f i) (room - 2) l)
 
-  pub nlen-within : 2 ≤ z * x → nlenAt (fileBy z) i ≤ z * x - 2 → fine ≡ firstOf (fileChecks i z x)
-  nlen-within r l = rw (le-leb 2 (z * x) r, le-leb (nlenAt (fileBy z) i) (z * x - 2) l)
+  pub nlen-within : 2 ≤ room → nlenAt f i ≤ room - 2 → fine ≡ firstOf (fileChecks i f room)
+  nlen-within r l = rw (le-leb 2 room r, le-leb (nlenAt f i) (room - 2) l)
 
-  module _ (b : ℕ) where
-    pub other-length : (length i ≡ z * b → ⊥) → fault 5 ≡ firstOf (sizeChecks i z b x)
-    other-length n = rw (ne-eqb (length i) (z * b) n)
+module _ (i : List ℕ) (z b x : ℕ) where
+  pub other-length : (length i ≡ z * b → ⊥) → fault 5 ≡ firstOf (sizeChecks i z b x)
+  other-length n = rw (ne-eqb (length i) (z * b) n)
 
-    pub past-blocks : length i ≡ z * b → b < containerBlocks z + x → fault 5 ≡ firstOf (sizeChecks i z b x)
-    past-blocks e l = rw (eq-eqb (length i) (z * b) e, lt-leb (containerBlocks z + x) b l)
+  pub past-blocks : length i ≡ z * b → b < containerBlocks z + x → fault 5 ≡ firstOf (sizeChecks i z b x)
+  past-blocks e l = rw (eq-eqb (length i) (z * b) e, lt-leb (containerBlocks z + x) b l)
 
-    pub sizes-pass : length i ≡ z * b → containerBlocks z + x ≤ b → firstOf (fileChecks i z x) ≡ firstOf (sizeChecks i z b x)
-    sizes-pass e l = rw (eq-eqb (length i) (z * b) e, le-leb (containerBlocks z + x) b l)
+  pub sizes-pass : length i ≡ z * b → containerBlocks z + x ≤ b → firstOf (fileChecks i (fileBy z) (z * x)) ≡ firstOf (sizeChecks i z b x)
+  sizes-pass e l = rw (eq-eqb (length i) (z * b) e, le-leb (containerBlocks z + x) b l)
 
 -- by the numbers that the code has
 pub sizes-are : (i : List ℕ) (z b x : ℕ) → z ≡ blockSize i → b ≡ blockCount i → x ≡ byte i 7
@@ -133,6 +136,15 @@ module _ (i : List ℕ) (e : firstOf (checks i) ≡ fine) where
         nlen-fits = omega (arith, s .nlen-is, s .capacity-is, b .nlen-fits);
       }
 
+-- ---- a container that was read
+
+-- the first test that fails gives the refusal
+pub refused-by : (i : List ℕ) (r : code.Checked) (n : ℕ) → checkedAs r ≡ firstOf (checks i) → r ≡ checked.Refused n → firstOf (checks i) ≡ fault n
+refused-by i r n e q = sym e ∙ ap checkedAs q
+
+pub readable : (i : List ℕ) (r : code.Checked) (c : Container) → checkedAs r ≡ firstOf (checks i) → Known i r → r ≡ checked.Fine c → Readable i c
+readable i r c e k q = record { passes = sym e ∙ ap checkedAs q; known = subst (Known i) q k }
+
 -- ---- the answer
 
 -- a test that fails gives its refusal
@@ -140,10 +152,11 @@ pub answer-refused : (i : List ℕ) (r : ℕ) → firstOf (checks i) ≡ fault r
 answer-refused i r e = ap (answerOf 0) (unread i r e)
 
 -- the container and NLEN say the rest
-pub answer-known : (i : List ℕ) (c : Container) → firstOf (checks i) ≡ fine → Attests i c → answerFor c ≡ answerOf 0 (reading i)
-answer-known i c e k =
+pub answer-known : (i : List ℕ) (c : Container) → Readable i c → answerFor c ≡ answerOf 0 (reading i)
+answer-known i c h =
+    let k = h .known in
     rw (k .says .nlen-is, k .says .file-is, k .says .writable-is) (go (nlen i) (omega (arith, k .inside, k .nlen-fits, k .says .nlen-is, k .says .file-is)))
-    ∙ sym (ap (answerOf 0) (passes-reads i (fine-all (checks i) e)))
+    ∙ sym (ap (answerOf 0) (passes-reads i (fine-all (checks i) (h .passes))))
   where
     w : Bool
     w = mayWrite i

@@ -56,19 +56,20 @@ nlenAt f i = byte i f + 256 * byte i (suc f)
 abbrev pub nlen : List ℕ → ℕ
 nlen i = nlenAt (fileAt i) i
 
--- refusal 7, by the block size z and MAX_LEN x. A file of less than two bytes has no m, so that is tested before NLEN
+-- refusal 7, for a file of room bytes at f. One of less than two bytes has no m, so that is tested before NLEN
 abbrev pub fileChecks : List ℕ → ℕ → ℕ → List Check
-fileChecks i z x =
-    check (leb 2 (z * x)) bad-length
-    ∷ check (leb (nlenAt (fileBy z) i) (z * x - 2)) bad-length
+fileChecks i f room =
+    check (leb 2 room) bad-length
+    ∷ check (leb (nlenAt f i) (room - 2)) bad-length
     ∷ []
 
--- refusal 5, with b blocks: another length of the image, or a file that reaches past it; then 7
+-- refusal 5, by the block size z, the number of blocks b and MAX_LEN x: another length of the image, or a file that reaches past
+-- it; then 7
 abbrev pub sizeChecks : List ℕ → ℕ → ℕ → ℕ → List Check
 sizeChecks i z b x =
     check (eqb (length i) (z * b)) bad-data-area
     ∷ check (leb (containerBlocks z + x) b) bad-data-area
-    ∷ fileChecks i z x
+    ∷ fileChecks i (fileBy z) (z * x)
 
 -- refusals 1 to 5 and 7. The version is exactly 10h: the rule that Types 2 and 3 share is not Type 6's
 abbrev pub checks : List ℕ → List Check

@@ -10,9 +10,8 @@ ghost use Prim.Native.Nat.{suc, _+_, _*_, _%_, _<_, _≤_};
 ghost use lib.ListN.{length, take, drop};
 ghost use Rattle.tag.specs.Bytes.{byte, same};
 ghost use Rattle.tag.specs.Checks.{firstOf};
-ghost use Rattle.tag.specs.Views.Faults.{faultAs};
 ghost use Rattle.type6.specs.Container.{letters, sizeBy, blockSize, blockCount, containerBlocks, fileBy, fileAt, fileRoom, nlenAt, fileChecks, sizeChecks, checks};
-ghost use Rattle.type6.specs.Views.Container.{checkedAs, Says, Known};
+ghost use Rattle.type6.specs.Views.Container.{foundAs, FoundAt, checkedAs, Says, Known};
 
 // How many bytes the container has, and so how many an image has at least.
 const LENGTH: usize = 8;
@@ -53,10 +52,17 @@ pub struct Container {
     pub writable: bool,
 }
 
-// The answer of the tests: the first that fails gives its refusal.
+// What the container says, or the refusal of the first test that fails.
 pub enum Checked {
     Refused(u8),
     Fine(Container),
+}
+
+// The answer of the tests: the first that fails gives its refusal; else it is where the file begins. `said` takes that, so that
+// nothing is divided by the block size twice.
+enum Found {
+    Refused(u8),
+    At(Address),
 }
 
 // Whether the image opens with the letters of a Type 6 tag.
@@ -107,79 +113,81 @@ fn nlen_at(image: &[u8], file: Address) -> usize
     numbers::wide(image[at]) + 256 * numbers::wide(image[at + 1])
 }
 
-// Refusal 7; 0 for none. The file has `most` blocks, which lie in the image.
-fn file_fault(image: &[u8], size: usize, most: usize) -> u8
-    requires { ⌜ (0 < size) × (size ≤ 32) × (most < 256) × (fileBy size + size * most ≤ length (now image)) ⌝ }
-    ensures { λ r. ⌜ faultAs r ≡ firstOf (fileChecks (now (image .entry)) size most) ⌝ }
+// Refusal 7, or the file. It has `room` bytes, which lie in the image.
+fn check_nlen(image: &[u8], file: Address, room: usize) -> Found
+    requires { ⌜ file .0 + room ≤ length (now image) ⌝ }
+    ensures is { λ r. ⌜ foundAs r ≡ firstOf (fileChecks (now (image .entry)) (file .0) room) ⌝ }
+    ensures at { λ r. ⌜ FoundAt (file .0) r ⌝ }
 {
-    let room = size * most;
     if room < NLEN {
-        return refusals::BAD_LENGTH;
+        return Found::Refused(refusals::BAD_LENGTH);
     }
-    let file = file_by(size);
     if room - NLEN < nlen_at(image, file) {
-        return refusals::BAD_LENGTH;
+        return Found::Refused(refusals::BAD_LENGTH);
     }
-    refusals::NONE
+    Found::At(file)
 }
 
-// Refusal 5, and then that of `file_fault`.
-fn size_fault(image: &[u8]) -> u8
+// Refusal 5, and then what `check_nlen` answers.
+fn check_sizes(image: &[u8]) -> Found
     requires { ⌜ 8 ≤ length (now image) ⌝ }
-    ensures { λ r. ⌜ faultAs r ≡ firstOf (sizeChecks (now (image .entry)) (blockSize (now (image .entry))) (blockCount (now (image .entry))) (byte (now (image .entry)) 7)) ⌝ }
+    ensures is { λ r. ⌜ foundAs r ≡ firstOf (sizeChecks (now (image .entry)) (blockSize (now (image .entry))) (blockCount (now (image .entry))) (byte (now (image .entry)) 7)) ⌝ }
+    ensures at { λ r. ⌜ FoundAt (fileAt (now (image .entry))) r ⌝ }
 {
     let size = size_by(image[SIZE]);
     let blocks = blocks_by(image[BLOCKS]);
     if image.len() != size * blocks {
-        return refusals::BAD_DATA_AREA;
+        return Found::Refused(refusals::BAD_DATA_AREA);
     }
     let most = numbers::wide(image[MAX_LEN]);
-    let taken = container_blocks(size);
-    if blocks < taken.0 + most {
-        return refusals::BAD_DATA_AREA;
+    let first = container_blocks(size);
+    if blocks < first.0 + most {
+        return Found::Refused(refusals::BAD_DATA_AREA);
     }
-    file_fault(image, size, most)
+    let file = first.address(size);
+    check_nlen(image, file, size * most)
 }
 
-// Refusals 2 to 4, and then those of `size_fault`.
-fn container_fault(image: &[u8]) -> u8
+// Refusals 2 to 4, and then what `check_sizes` answers.
+fn check_front(image: &[u8]) -> Found
     requires { ⌜ 8 ≤ length (now image) ⌝ }
-    ensures { λ r. ⌜ faultAs r ≡ firstOf (drop 1 (checks (now (image .entry)))) ⌝ }
+    ensures is { λ r. ⌜ foundAs r ≡ firstOf (drop 1 (checks (now (image .entry)))) ⌝ }
+    ensures at { λ r. ⌜ FoundAt (fileAt (now (image .entry))) r ⌝ }
 {
     if !has_letters(image) {
-        return refusals::NOT_NDEF;
+        return Found::Refused(refusals::NOT_NDEF);
     }
     if image[VERSION] != 0x10 {
-        return refusals::UNKNOWN_VERSION;
+        return Found::Refused(refusals::UNKNOWN_VERSION);
     }
     if !numbers::is_one_of(image[ACCESS], 0x00, 0xFF) {
-        return refusals::BAD_ACCESS;
+        return Found::Refused(refusals::BAD_ACCESS);
     }
-    size_fault(image)
+    check_sizes(image)
 }
 
-// The first of the refusals 1 to 5 and 7; 0 if the tag passes all tests. It returns a number alone, as Type 3's `fault` does.
-pub(crate) fn fault(image: &[u8]) -> u8
-    ensures { λ r. ⌜ faultAs r ≡ firstOf (checks (now (image .entry))) ⌝ }
+// Where the file begins, or the first of the refusals 1 to 5 and 7.
+fn find_file(image: &[u8]) -> Found
+    ensures is { λ r. ⌜ foundAs r ≡ firstOf (checks (now (image .entry))) ⌝ }
+    ensures at { λ r. ⌜ FoundAt (fileAt (now (image .entry))) r ⌝ }
 {
     let n = image.len();
     if n < LENGTH {
-        return refusals::IMAGE_SIZE;
+        return Found::Refused(refusals::IMAGE_SIZE);
     }
     if LONGEST_IMAGE < n {
-        return refusals::IMAGE_SIZE;
+        return Found::Refused(refusals::IMAGE_SIZE);
     }
-    container_fault(image)
+    check_front(image)
 }
 
 // What the container and NLEN say, on a tag that passes the tests.
-pub(crate) fn said(image: &[u8]) -> Container
-    requires { ⌜ (8 ≤ length (now image)) × (suc (fileAt (now image)) < length (now image)) × (2 ≤ fileRoom (now image)) ⌝ }
+fn said(image: &[u8], file: Address) -> Container
+    requires { ⌜ (8 ≤ length (now image)) × (file .0 ≡ fileAt (now image)) × (suc (fileAt (now image)) < length (now image)) × (2 ≤ fileRoom (now image)) ⌝ }
     ensures { λ r. ⌜ Says (now (image .entry)) r ⌝ }
 {
     let size = size_by(image[SIZE]);
     let blocks = blocks_by(image[BLOCKS]);
-    let file = file_by(size);
     let most = numbers::wide(image[MAX_LEN]);
     let capacity = size * most - NLEN;
     let nlen = nlen_at(image, file);
@@ -194,15 +202,14 @@ pub(crate) fn said(image: &[u8]) -> Container
     }
 }
 
-// What the container says, or the first of the refusals 1 to 5 and 7: `fault` and `said` in one, for writing and judging.
+// What the container and NLEN say, or the first of the refusals 1 to 5 and 7.
 pub fn read_container(image: &[u8]) -> Checked
     ensures is { λ r. ⌜ checkedAs r ≡ firstOf (checks (now (image .entry))) ⌝ }
     ensures known { λ r. ⌜ Known (now (image .entry)) r ⌝ }
 {
-    let refusal = fault(image);
-    if refusal != refusals::NONE {
-        return Checked::Refused(refusal);
+    let found = find_file(image);
+    match found {
+        Found::Refused(r) => Checked::Refused(r),
+        Found::At(file) => Checked::Fine(said(image, file)),
     }
-    let found = said(image);
-    Checked::Fine(found)
 }

@@ -2,6 +2,7 @@
 
 use crate::commands;
 use crate::container;
+use crate::container::Checked;
 use tag::Block;
 use tag::ModelAnswer;
 use tag::refusals;
@@ -45,15 +46,16 @@ pub fn take_command(image: &mut [u8], command: &[u8], size: usize, blocks: usize
 pub fn model(image: &mut [u8], command: &[u8]) -> ModelAnswer
     ensures { λ r. ⌜ Took type6 (now (image .entry)) (now (command .entry)) r (now (image .exit)) ⌝ }
 {
-    let refusal = container::fault(image);
-    if refusal != refusals::NONE {
-        return ModelAnswer::Refused(refusal);
+    let checked = container::read_container(image);
+    match checked {
+        Checked::Refused(r) => ModelAnswer::Refused(r),
+        Checked::Fine(c) => {
+            let size = c.size;
+            let blocks = c.blocks;
+            if take_command(image, command, size, blocks) {
+                return ModelAnswer::Stored;
+            }
+            ModelAnswer::Refused(refusals::MALFORMED_COMMAND)
+        }
     }
-    let found = container::said(image);
-    let size = found.size;
-    let blocks = found.blocks;
-    if take_command(image, command, size, blocks) {
-        return ModelAnswer::Stored;
-    }
-    ModelAnswer::Refused(refusals::MALFORMED_COMMAND)
 }

@@ -1,12 +1,12 @@
 // Reading a Type 6 tag.
 
 use crate::container;
+use crate::container::Checked;
 use crate::container::Container;
 use tag::Address;
 use tag::Content;
 use tag::ReadAnswer;
 use tag::Report;
-use tag::refusals;
 use tag::slices;
 ghost use mathlib.Core.Path.{_≡_};
 ghost use mathlib.Core.List.{[]};
@@ -46,12 +46,11 @@ fn report(c: Container) -> Report
 pub fn read(image: &[u8]) -> ReadAnswer
     ensures { λ r. ⌜ Read reading (now (image .entry)) [] r [] ⌝ }
 {
-    let refusal = container::fault(image);
-    if refusal != refusals::NONE {
-        return ReadAnswer::Refused(refusal);
+    let checked = container::read_container(image);
+    match checked {
+        Checked::Refused(r) => ReadAnswer::Refused(r),
+        Checked::Fine(c) => ReadAnswer::Reads(report(c)),
     }
-    let found = container::said(image);
-    ReadAnswer::Reads(report(found))
 }
 
 // The message as a part of the image. It is empty without a message, after a refusal, if the answer's numbers do not fit, and if

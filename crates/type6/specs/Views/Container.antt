@@ -9,9 +9,21 @@ use lib.ListN.{length}
 use Rattle.tag.specs.Checks.{Checked, fine, fault, firstOf}
 use Rattle.tag.specs.Reading.{message, empty, Answer, answer}
 use Rattle.type6.specs.declared.container.Container.{Container}
+use Rattle.type6.specs.declared.container.Found.{Found}
+use Rattle.type6.specs.declared.container.Found.the-variants as found
 use Rattle.type6.specs.declared.container.Checked as code
 use Rattle.type6.specs.declared.container.Checked.the-variants as checked
 use Rattle.type6.specs.Container.{blockSize, blockCount, fileAt, capacity, nlen, checks, mayWrite}
+
+-- the answer of the tests
+abbrev pub foundAs : Found → Checked
+foundAs (found.Refused r) = fault r
+foundAs (found.At f) = fine
+
+-- a file that was found is at the address
+abbrev pub FoundAt : ℕ → Found → Type 0
+FoundAt a (found.Refused r) = Unit {0}
+FoundAt a (found.At f) = f .0 ≡ a
 
 abbrev pub checkedAs : code.Checked → Checked
 checkedAs (checked.Refused r) = fault r

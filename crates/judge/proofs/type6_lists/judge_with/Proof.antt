@@ -1,9 +1,9 @@
 -- `type6_lists::judge_with` meets its contract. Assumes nothing.
-use mathlib.Core.Path.{sym, ap, subst, _∙_}
+use mathlib.Core.Path.{sym, ap}
 use borrow.Author.Needs.{needs}
 use Rattle.tag.specs.Judge.{judgeBy}
 use Rattle.type6.specs.Type6.{type6}
-use Rattle.type6.specs.Views.Container.{checkedAs, Known}
+use Rattle.type6.proofs.Reading.{refused-by, readable}
 use Rattle.type6.proofs.Deciding.{writing-unread}
 use Rattle.judge.proofs.type6_lists.judge_with.Statement.{statement}
 use Rattle.judge.proofs.type6_lists.judge_with.Tie as tie
@@ -14,9 +14,8 @@ judge-readable-requires c κs =
     let at-read-container = at-checked2 .before .before in
     let at-slices = at-read-container .before in
     let at-start = at-slices .before .before .before .before in
-    let r = at-checked2 .checked2 .given in
-    let t = at-read-container .read-container .ensures in
-    (record { passes = sym (t .0) ∙ ap checkedAs (r .1); known = subst (Known (at-start .args .image .now)) (r .1) (t .1) }, at-start .pre)
+    let t = at-read-container .read-container in
+    (readable (at-start .args .image .now) (t .result) _ (t .ensures .0) (t .ensures .1) (at-checked2 .checked2 .given .1), at-start .pre)
 
 returns : tie.Need-returns
 returns c =
@@ -27,7 +26,7 @@ returns c =
     let a = at-start .args in
     let r = at-checked .checked .given in
     sym (ap (judgeBy type6 (a .image .now) (a .message .now) (a .list .now))
-    (writing-unread (a .image .now) (a .message .now) (r .0 .0) (sym (at-read-container .read-container .ensures .0) ∙ ap checkedAs (r .1))))
+    (writing-unread (a .image .now) (a .message .now) (r .0 .0) (refused-by (a .image .now) _ (r .0 .0) (at-read-container .read-container .ensures .0) (r .1))))
 
 pub judge-with-spec : {M : Type 1} → statement M
 judge-with-spec =

@@ -1,5 +1,5 @@
 -- `write::write_on` meets its contract. Assumes nothing.
-use mathlib.Core.Path.{sym, ap, subst, _∙_}
+use mathlib.Core.Path.{sym, ap}
 use Prim.Native.Nat.{_≤_}
 use native.Mathlib.Omega.{arith}
 use borrow.Author.Needs.{needs}
@@ -8,7 +8,8 @@ use lib.Seq.{length-take-le}
 use Rattle.tag.specs.TagType.{writeBy, outputInto}
 use Rattle.tag.specs.Answers.{countOf}
 use Rattle.type6.specs.Type6.{type6}
-use Rattle.type6.specs.Views.Container.{checkedAs, Readable, Known}
+use Rattle.type6.specs.Views.Container.{Readable}
+use Rattle.type6.proofs.Reading.{refused-by, readable}
 use Rattle.type6.proofs.Deciding.{writing-unread}
 use Rattle.type6_write.proofs.write.write_on.Statement.{statement}
 use Rattle.type6_write.proofs.write.write_on.Tie as tie
@@ -25,9 +26,8 @@ found c =
     let at-read-container = at-c .before .before in
     let at-slices = at-read-container .before .before in
     let at-start = at-slices .before .before .before .before in
-    let g = at-c .c .given in
-    let t = at-read-container .read-container .ensures in
-    record { passes = sym (t .0) ∙ ap checkedAs (g .1); known = subst (Known (at-start .args .image .now)) (g .1) (t .1) }
+    let t = at-read-container .read-container in
+    readable (at-start .args .image .now) (t .result) _ (t .ensures .0) (t .ensures .1) (at-c .c .given .1)
 
 long-enough : (c : tie.After-known-told2) →
     let at-read-container = c .before .before .before in
@@ -69,7 +69,8 @@ returns c =
     let at-start = at-slices .before .before .before .before in
     let a = at-start .args in
     let g = at-r .r .given in
-    let e = writing-unread (a .image .now) (a .message .now) (g .0 .0) (sym (at-read-container .read-container .ensures .0) ∙ ap checkedAs (g .1)) in
+    let e = writing-unread (a .image .now) (a .message .now) (g .0 .0)
+    (refused-by (a .image .now) _ (g .0 .0) (at-read-container .read-container .ensures .0) (g .1)) in
     (sym (ap (λ v. countOf (writeBy type6 (length (a .list .now)) (a .image .now) v)) e), sym (ap (λ v. outputInto (a .list .now) (writeBy type6 (length (a .list .now)) (a .image .now) v)) e))
 
 pub write-on-spec : {M : Type 1} → statement M
