@@ -68,7 +68,7 @@ pub fn compare(
     }
     let (library, reference) = (median(library_times), median(reference_times));
     println!(
-        "| {tag:<28} | {operation:<6} | {library:>12.0} | {reference:>12.0} | {:>6.2} |",
+        "| {tag:<28} | {operation:<6} | {library:>12.1} | {reference:>12.1} | {:>6.2} |",
         library / reference
     );
 }
