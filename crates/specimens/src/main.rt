@@ -162,13 +162,18 @@ fn cards() {
     );
 }
 
-// Writing to them, and judging lists for them.
-fn card_lists() {
+// Writing the longest message that fits, and one of a byte more.
+fn card_lengths() {
     let card = b"NDE\x10\x1F\x03\x00\x1E";
     let fits = [0xD0u8; 118];
     type6_tags::write(b"118 bytes of 118", 128, card, &fits);
     let too_long = [0xD0u8; 119];
     type6_tags::write(b"119 bytes of 118", 128, card, &too_long);
+}
+
+// Writing to cards with blocks of one byte, and judging lists.
+fn card_lists() {
+    let card = b"NDE\x10\x1F\x03\x00\x1E";
     type6_tags::write(
         b"blocks of 1, too long",
         11,
@@ -215,5 +220,6 @@ fn main() {
     foreign_lists();
     versions();
     cards();
+    card_lengths();
     card_lists();
 }
