@@ -34,7 +34,7 @@ extern "C" {
 #endif
 
 /* Rises whenever a struct or a signature below changes. */
-#define ZAN_API_VERSION 2
+#define ZAN_API_VERSION 3
 
 /* Why a call was refused. */
 enum zan_refusal {
@@ -89,6 +89,7 @@ typedef struct zan_report {
     uint64_t length;      /* of the message in bytes; 0 without a message */
     uint64_t interrupted; /* 1 if skipped addresses lie inside the message, else 0 */
     uint64_t writable;    /* 1 if the tag may be written, else 0 */
+    uint64_t capacity;    /* greatest length of a message that fits, whether writable or not */
 } zan_report;
 
 #define ZAN_REFUSAL(answer) ((int)((answer) % 256))

@@ -14,7 +14,7 @@ pub use type6::*;
 /// loads address and length together. A load of what two stores wrote waits until both have reached
 /// the cache: four nanoseconds, a quarter of a call that reads a Type 3 tag.
 #[inline]
-pub fn fetched(out: &[u64; 5]) -> [u64; 5] {
+pub fn fetched(out: &[u64; 6]) -> [u64; 6] {
     out.each_ref()
         // SAFETY: the pointer comes from a reference.
         .map(|number| unsafe { core::ptr::read_volatile(number) })

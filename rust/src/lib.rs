@@ -113,7 +113,7 @@ pub enum RefusalNumber {
     EmptyMessage = 9,
     /// The tag is not writable.
     NotWritable = 10,
-    /// The message is too long for the tag.
+    /// The message is longer than the tag's capacity.
     MessageTooLong = 11,
     /// The buffer is shorter than the list, or than the bytes of the command.
     ShortBuffer = 12,
@@ -251,6 +251,24 @@ pub struct Report {
     pub interrupted: bool,
     /// Whether the tag may be written.
     pub writable: bool,
+    /// The greatest length of a message that fits, whether the tag may be written or not.
+    ///
+    /// ```
+    /// use zanfirotta::{type2, RefusalNumber};
+    ///
+    /// let mut image = [0; 64];
+    /// image[12..19].copy_from_slice(&[0xE1, 0x10, 0x06, 0x00, 0x03, 0x00, 0xFE]);
+    ///
+    /// let capacity = type2::read(&image, &mut [])?.capacity;
+    /// assert_eq!(capacity, 46);
+    ///
+    /// let mut list = [0; type2::LIST_MAX];
+    /// assert!(type2::write(&image, &vec![0xD0; capacity], &mut list).is_ok());
+    /// let refusal = type2::write(&image, &vec![0xD0; capacity + 1], &mut list).unwrap_err();
+    /// assert_eq!(refusal.number, RefusalNumber::MessageTooLong);
+    /// # Ok::<(), zanfirotta::Refusal>(())
+    /// ```
+    pub capacity: usize,
 }
 
 impl Report {
@@ -309,8 +327,8 @@ fn refused(answer: u64) -> Refusal {
 
 /// What the C interface reports about a tag.
 #[inline]
-fn report(out: &[u64; 5]) -> Report {
-    let [content, address, length, interrupted, writable] = ffi::fetched(out);
+fn report(out: &[u64; 6]) -> Report {
+    let [content, address, length, interrupted, writable, capacity] = ffi::fetched(out);
     Report {
         content: match content {
             1 => Content::Message,
@@ -322,5 +340,6 @@ fn report(out: &[u64; 5]) -> Report {
         length: length as usize,
         interrupted: interrupted != 0,
         writable: writable != 0,
+        capacity: capacity as usize,
     }
 }

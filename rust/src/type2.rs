@@ -53,11 +53,12 @@ pub fn commands(list: &[u8]) -> impl Iterator<Item = &[u8]> + Clone {
 /// assert_eq!(report.content, Content::Message);
 /// assert_eq!((report.address, report.length), (18, 3));
 /// assert!(report.writable && !report.interrupted);
+/// assert_eq!(report.capacity, 46);
 /// # Ok::<(), zanfirotta::Refusal>(())
 /// ```
 #[inline]
 pub fn read(image: &[u8], gathered: &mut [u8]) -> Result<Report, Refusal> {
-    let mut out = [0; 5];
+    let mut out = [0; 6];
     answer(ffi::type2_read(image, gathered, &mut out))?;
     Ok(report(&out))
 }

@@ -140,11 +140,12 @@ impl Command {
 /// let report = type3::read(&image)?;
 /// assert_eq!(report.content, Content::Message);
 /// assert_eq!(report.message(&image, &[]), [0; 35]);
+/// assert_eq!(report.capacity, 208);
 /// # Ok::<(), zanfirotta::Refusal>(())
 /// ```
 #[inline]
 pub fn read(image: &[u8]) -> Result<Report, Refusal> {
-    let mut out = [0; 5];
+    let mut out = [0; 6];
     answer(ffi::type3_read(image, &mut out))?;
     Ok(report(&out))
 }

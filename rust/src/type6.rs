@@ -92,11 +92,12 @@ pub fn commands(list: &[u8], block_size: u64) -> impl Iterator<Item = &[u8]> + C
 /// assert_eq!(report.content, Content::Message);
 /// assert_eq!((report.address, report.length), (10, 3));
 /// assert_eq!(report.message(&image, &[]), [0xD0, 0x00, 0x00]);
+/// assert_eq!(report.capacity, 118);
 /// # Ok::<(), zanfirotta::Refusal>(())
 /// ```
 #[inline]
 pub fn read(image: &[u8]) -> Result<Report, Refusal> {
-    let mut out = [0; 5];
+    let mut out = [0; 6];
     answer(ffi::type6_read(image, &mut out))?;
     Ok(report(&out))
 }

@@ -63,13 +63,13 @@ fn follow(tag: &impl Type, rng: &mut Rng, image: &[u8], message: &[u8], list: &[
 }
 
 /// A message that fits; long ones are rare, because every cut costs a whole list.
-fn fitting_message(rng: &mut Rng, old: &[u8], room: usize) -> Vec<u8> {
+fn fitting_message(rng: &mut Rng, old: &[u8], capacity: usize) -> Vec<u8> {
     if rng.percent(10) {
         return old.to_vec();
     }
-    let len = message_len(rng, old.len(), room).clamp(1, room);
-    let most = if rng.percent(5) { room } else { 80 };
-    let len = len.min(most.min(room));
+    let len = message_len(rng, old.len(), capacity).clamp(1, capacity);
+    let most = if rng.percent(5) { capacity } else { 80 };
+    let len = len.min(most.min(capacity));
     rng.bytes(len)
 }
 
@@ -78,7 +78,7 @@ fn run<T: Type>(
     lists: u64,
     seed: u64,
     tag_and_image: impl Fn(&mut Rng) -> (T, Vec<u8>),
-    message_and_room: impl Fn(&[u8]) -> (Vec<u8>, usize),
+    message_and_capacity: impl Fn(&[u8]) -> (Vec<u8>, usize),
 ) {
     let (mut done, mut foreign, mut rewritten, mut not_1_0, mut cuts) = (0, 0, 0, 0, 0);
     for index in 0.. {
@@ -87,11 +87,11 @@ fn run<T: Type>(
         }
         let mut rng = Rng::case(seed, index);
         let (tag, image) = tag_and_image(&mut rng);
-        let (old, room) = message_and_room(&image);
-        if room == 0 {
+        let (old, capacity) = message_and_capacity(&image);
+        if capacity == 0 {
             continue;
         }
-        let message = fitting_message(&mut rng, &old, room);
+        let message = fitting_message(&mut rng, &old, capacity);
         let list = if rng.percent(20) {
             tag.reference_list(&image, &message)
         } else {
@@ -121,7 +121,13 @@ fn type2(lists: u64) {
         };
         (Type2, image)
     };
-    run("type2", lists, 41, tag_and_image, tags2::message_and_room);
+    run(
+        "type2",
+        lists,
+        41,
+        tag_and_image,
+        tags2::message_and_capacity,
+    );
 }
 
 fn type3(lists: u64) {
@@ -133,7 +139,13 @@ fn type3(lists: u64) {
         };
         (Type3 { idm }, image)
     };
-    run("type3", lists, 42, tag_and_image, tags3::message_and_room);
+    run(
+        "type3",
+        lists,
+        42,
+        tag_and_image,
+        tags3::message_and_capacity,
+    );
 }
 
 fn type6(lists: u64) {
@@ -145,7 +157,13 @@ fn type6(lists: u64) {
         let block_size = tags6::block_size(&image);
         (Type6 { block_size }, image)
     };
-    run("type6", lists, 43, tag_and_image, tags6::message_and_room);
+    run(
+        "type6",
+        lists,
+        43,
+        tag_and_image,
+        tags6::message_and_capacity,
+    );
 }
 
 #[test]

@@ -6,6 +6,8 @@
 #[cfg(not(zanfirotta_archive))]
 compile_error!("libzanfirotta.a is missing: run `rt staticlib zanfirotta` at the repository's top");
 
+#[path = "differential/capacity.rs"]
+mod capacity;
 mod common;
 mod reference;
 #[path = "differential/type2.rs"]
@@ -80,6 +82,21 @@ fn type6_every_length() {
 }
 
 #[test]
+fn type2_every_capacity() {
+    capacity::every_type2();
+}
+
+#[test]
+fn type3_every_capacity() {
+    capacity::every_type3();
+}
+
+#[test]
+fn type6_every_capacity() {
+    capacity::every_type6();
+}
+
+#[test]
 fn type2_every_version() {
     type2::every_version();
 }
@@ -125,6 +142,7 @@ fn read_answer(report: Report) -> ReadAnswer {
         length: report.length as u64,
         interrupted: report.interrupted,
         writable: report.writable,
+        capacity: report.capacity as u64,
     }
 }
 
@@ -151,22 +169,28 @@ fn same_buffers(index: u64, got: &Guarded, expected: &Guarded, inputs: &[&[u8]])
     assert!(got == expected, "case {index}: a guard byte changed");
 }
 
-/// Compares the five numbers of reading: they are the reference's after success, and unchanged
+/// Compares the six numbers of reading: they are the reference's after success, and unchanged
 /// after a refusal. The numbers next to them are unchanged.
 fn same_out(
     index: u64,
     rng: &mut Rng,
     expected: &Result<ReadAnswer, reference::Refusal>,
-    call: impl FnOnce(&mut [u64; 5]) -> u64,
+    call: impl FnOnce(&mut [u64; 6]) -> u64,
 ) {
-    let before: [u64; 7] = std::array::from_fn(|_| rng.next());
+    let before: [u64; 8] = std::array::from_fn(|_| rng.next());
     let mut out = before;
-    let answer = call((&mut out[1..6]).try_into().unwrap());
+    let answer = call((&mut out[1..7]).try_into().unwrap());
     let mut wanted = before;
     if let Ok(read) = expected {
         let (content, interrupted) = (read.content as u64, read.interrupted as u64);
-        let writable = read.writable as u64;
-        wanted[1..6].copy_from_slice(&[content, read.address, read.length, interrupted, writable]);
+        wanted[1..7].copy_from_slice(&[
+            content,
+            read.address,
+            read.length,
+            interrupted,
+            read.writable as u64,
+            read.capacity,
+        ]);
     }
     same(index, &answer, &number(&expected.map(|_| 0)), &[]);
     same(index, &out, &wanted, &[]);

@@ -95,9 +95,9 @@ message-is content.Message e = refl
 message-is content.Empty e = absurd (nope (cc))
 message-is content.BeingWritten e = absurd (nope (cc))
 
-pub told : (m : List ℕ) (r : read.ReadAnswer) (part : List ℕ) (a n : ℕ) (b w : Bool) → readAs r ≡ answer message a n b w → n ≡ length m → part ≡ m → Tells m r part
-told m (reading.Refused f) part a n b w e l s = absurd (nope (cc))
-told m (reading.Reads p) part a n b w e l s =
+pub told : (m : List ℕ) (r : read.ReadAnswer) (part : List ℕ) (a n : ℕ) (b w : Bool) (c : ℕ) → readAs r ≡ answer message a n b w c → n ≡ length m → part ≡ m → Tells m r part
+told m (reading.Refused f) part a n b w c e l s = absurd (nope (cc))
+told m (reading.Reads p) part a n b w c e l s =
     let k : contentOf (p .content) ≡ message = cc in
     let z : p .length ≡ n = cc in
     record { report = p; answered = refl; a-message = message-is (p .content) k; its-length = z ∙ l; its-bytes = s }

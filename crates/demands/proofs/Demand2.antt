@@ -17,6 +17,7 @@ use Rattle.tag.proofs.Laws.{Laws, written-ready}
 use Rattle.tag.proofs.Showing.{shown-part}
 use Rattle.demands.specs.Demand3.{cutOf, ourBytes}
 use Rattle.demands.specs.Demand2.{Demand2}
+use Rattle.demands.proofs.Capacity.{longer}
 use Rattle.demands.proofs.Demand3.{our-commands, our-image}
 
 -- an output is what was to be written, with its count
@@ -48,4 +49,5 @@ module _ (T : TagType) (L : Laws T) where
     written-reads = reads-back;
     refusals = L .numbered;
     shown-is = λ i buffer p e f. rw e (shown-part T L i buffer p e f);
+    too-long = longer T;
   }

@@ -1,5 +1,6 @@
 -- The proofs of the demands.
 pub mod Demand3
+pub mod Capacity
 pub mod Demand2
 pub mod Octets
 pub mod TooLong

@@ -27,26 +27,27 @@ use Rattle.type3.proofs.Counts.{list-count}
 use Rattle.type6.specs.Type6.{type6}
 use Rattle.type6.proofs.Laws.{suffice-exactly, type6-laws}
 use Rattle.type6.proofs.Counts as counts6
-use Rattle.demands.specs.Demand2.{Demand2, Alike3, Alike6, TooLong2, TooLong3, TooLong6, LargeBlocks6, TooSmall6, Codec2, Codec3, Codec6, Count2, Count3, Count6, MostBytes6}
+use Rattle.demands.specs.Demand2.{Demand2, Capacity, Fits2, Fits3, Fits6, Alike3, Alike6, TooLong2, TooLong3, TooLong6, LargeBlocks6, TooSmall6, Codec2, Codec3, Codec6, Count2, Count3, Count6, MostBytes6}
 use Rattle.demands.specs.Demand3.{Demand3}
 use Rattle.demands.specs.ByContract.{Code3}
 use Rattle.demands.specs.Code2.{codec2, codec3, codec6, alike2, count2, count3, count6, Code2}
 use Rattle.demands.proofs.Demand2 as demand2
 use Rattle.demands.proofs.Demand3 as demand3
+use Rattle.demands.proofs.Capacity.{capacity-2, capacity-3, capacity-6}
 use Rattle.demands.proofs.TooLong.{too-long-2, alike-2, too-long-3, too-long-6}
 use Rattle.demands.proofs.TooSmall.{too-small-6}
 use Rattle.demands.proofs.ByContract.{wrote-ours, by-contract}
 use Rattle.demands.proofs.Codecs.{codec-2, codec-3, codec-6}
 use Rattle.demands.proofs.CodecsOfCode.{back-2, there-2, back-3, there-3, back-6, there-6}
-use Rattle.demands.proofs.Code2.{written-tells, counted-ready, too-long-answer, unreadable-answer, short-answer}
-
-chained : {A B C : Type 0} → A ↔ B → B ↔ C → A ↔ C
-chained f g = ((λ a. g .0 (f .0 a)), (λ c. f .1 (g .1 c)))
+use Rattle.demands.proofs.Code2.{chained, written-tells, counted-ready, too-long-answer, capacity-answer, unreadable-answer, short-answer}
 
 -- ---- Type 2
 
 pub type2-demand2 : Demand2 type2
 type2-demand2 = demand2.claim type2 type2-laws
+
+pub type2-capacity : Capacity type2 Fits2
+type2-capacity = capacity-2
 
 pub type2-too-long-exactly : TooLong2
 type2-too-long-exactly = too-long-2
@@ -69,6 +70,7 @@ type2-code2 blocks end = record {
       let r = counted-ready type2 i m buffer out n w in
       sym (wrote-ours type2 i m (ready-written type2 i m r) buffer out n w .0) ∙ type2-count i m r;
   too-long-exactly = λ i m a buffer out r w. chained (too-long-answer type2 i m buffer out r w) (alike-2 i m a end);
+  capacity-decides = capacity-answer type2 type2-laws;
   refuses = unreadable-answer type2 type2-laws;
   gathers = short-answer type2;
   encode-decode = back-2 blocks;
@@ -88,6 +90,9 @@ module _ (idm : List ℕ) (eight : length idm ≡ 8) where
   pub type3-demand2 : Demand2 (type3 idm)
   type3-demand2 = demand2.claim (type3 idm) (type3-laws idm eight)
 
+  pub type3-capacity : Capacity (type3 idm) Fits3
+  type3-capacity = capacity-3 idm
+
   pub type3-too-long-exactly : TooLong3 idm
   type3-too-long-exactly = too-long-3 idm
 
@@ -104,6 +109,7 @@ module _ (idm : List ℕ) (eight : length idm ≡ 8) where
         let r = counted-ready (type3 idm) i m buffer out n w in
         sym (wrote-ours (type3 idm) i m (ready-written (type3 idm) i m r) buffer out n w .0) ∙ type3-count i m r;
     too-long-exactly = λ i m a buffer out r w. chained (too-long-answer (type3 idm) i m buffer out r w) (type3-too-long-exactly i m a);
+    capacity-decides = capacity-answer (type3 idm) (type3-laws idm eight);
     refuses = unreadable-answer (type3 idm) (type3-laws idm eight);
     gathers = short-answer (type3 idm);
     encode-decode = back-3 idm eight nbw nmaxb;
@@ -120,6 +126,9 @@ module _ (idm : List ℕ) (eight : length idm ≡ 8) where
 
 pub type6-demand2 : Demand2 type6
 type6-demand2 = demand2.claim type6 type6-laws
+
+pub type6-capacity : Capacity type6 Fits6
+type6-capacity = capacity-6
 
 pub type6-too-long-exactly : TooLong6
 type6-too-long-exactly = too-long-6
@@ -146,6 +155,7 @@ type6-code2 z blocks Chosen = record {
       let r = counted-ready type6 i m buffer out n w in
       sym (wrote-ours type6 i m (ready-written type6 i m r) buffer out n w .0) ∙ type6-count i m r;
   too-long-exactly = λ i m a buffer out r w. chained (too-long-answer type6 i m buffer out r w) (type6-too-long-exactly i m a Chosen);
+  capacity-decides = capacity-answer type6 type6-laws;
   refuses = unreadable-answer type6 type6-laws;
   gathers = short-answer type6;
   encode-decode = back-6 z blocks;

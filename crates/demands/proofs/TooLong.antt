@@ -13,61 +13,38 @@ use Rattle.tag.specs.Bytes.{byte, has, overlay, isSet}
 use Rattle.tag.specs.Refusals.{message-too-long}
 use Rattle.tag.specs.Reading.{holds}
 use Rattle.tag.specs.Plan.{newImage}
-use Rattle.tag.specs.TagType.{TagType, held, writing, refused-write, written, planned, checksOf}
-use Rattle.tag.specs.Checks.{fault, firstOf}
-use Rattle.tag.specs.Cuts.{Ready}
+use Rattle.tag.specs.TagType.{TagType, held, writing, refused-write}
 use Rattle.tag.proofs.Logic.{nope, or-l, or-cases}
 use Rattle.tag.proofs.Addresses.{above-length}
-use Rattle.tag.proofs.Laws.{ready-written, ready-reads}
 use Rattle.tlv.specs.Walk.{found, messageTlv}
-use Rattle.tlv_tag.specs.Message.{locate}
-use Rattle.tlv_tag.specs.Update.{usable, fitsIn, lengthField, tlvBytes}
-use Rattle.tlv_tag.proofs.Field.{fits-is}
+use Rattle.tlv_tag.specs.Message.{locate, capacityIn}
+use Rattle.tlv_tag.specs.Update.{usable, lengthField, tlvBytes}
+use Rattle.tlv_tag.proofs.Field.{fits-less}
 use Rattle.tlv_tag.proofs.Tag as tlv
 use Rattle.tlv_tag.proofs.Writes.{placed}
 use Rattle.type2.specs.Memory.{layout, memory}
 use Rattle.type2.specs.Type2.{type2}
 use Rattle.type2.proofs.Memory.{memory-laws}
-use Rattle.type3.specs.AttributeInformation.{steadySum, nmaxbOf}
-use Rattle.type3.specs.Update.{fits, blocksFor, addresses, lnSum, values, plan}
+use Rattle.type3.specs.AttributeInformation.{steadySum, capacity}
+use Rattle.type3.specs.Update.{blocksFor, addresses, lnSum, values, plan}
 use Rattle.type3.specs.Type3.{type3}
-use Rattle.type3.proofs.Message.{Agrees, bounds, reads-passes}
+use Rattle.type3.proofs.Message.{Agrees, bounds, reads-capacity, reads-passes}
+use Rattle.type3.proofs.Laws as laws3
 use Rattle.type3.proofs.Update as update3
 use Rattle.type6.specs.Container.{fileAt}
 use Rattle.type6.specs.Update as six
 use Rattle.type6.specs.Type6.{type6}
 use Rattle.type6.proofs.Message as message6
+use Rattle.type6.proofs.Laws as laws6
 use Rattle.type6.proofs.Update as update6
 use Rattle.demands.specs.Code2.{alike2}
 use Rattle.demands.specs.Demand2.{Octets, Asked, Alike2, TooLong2, Alike3, TooLong3, Alike6, TooLong6}
+use Rattle.demands.proofs.Capacity.{roomy, exactly}
 use Rattle.demands.proofs.Octets.{octets-byte, octets-overlay, octets-append, octets-zeros}
 
--- ---- for every type: only room decides
-
-module _ (T : TagType) (i m : List ℕ) (a : Asked T i m) where
-  roomy : (T .fits) i (length m) ≡ true → Ready T i m
-  roomy f = record { report = a .report; reads-as = a .reads-as; writable = a .writable; some-bytes = a .some-bytes; large-blocks = a .large-blocks; room = f }
-
-  cramped : (T .fits) i (length m) ≡ false → writing T i m ≡ refused-write message-too-long
-  unfolding writing
-  cramped f =
-      let e : firstOf (checksOf T i m (a .report)) ≡ fault message-too-long = rw (ne-eqb (length m) 0 (a .some-bytes)) (rw (a .writable) (rw (a .large-blocks) (rw f))) in
-      rw (a .reads-as) (ap (planned ((T .plan) i m)) e)
-
-  -- 11 is given exactly if P holds, for any P that holds without room and fails with room
-  exactly : (P : Type 0) → ((T .fits) i (length m) ≡ false → P) → ((T .fits) i (length m) ≡ true → P → ⊥) → (writing T i m ≡ refused-write message-too-long) ↔ P
-  exactly P without with-room = (
-    (λ e. go e ((T .fits) i (length m)) refl),
-    (λ p. back p ((T .fits) i (length m)) refl),
-  )
-    where
-      go : writing T i m ≡ refused-write message-too-long → (b : Bool) → (T .fits) i (length m) ≡ b → P
-      go e false q = without q
-      go e true q = let f : written ((T .plan) i m) ≡ refused-write message-too-long = sym (ready-written T i m (roomy q)) ∙ e in absurd (nope (cc))
-
-      back : P → (b : Bool) → (T .fits) i (length m) ≡ b → writing T i m ≡ refused-write message-too-long
-      back p false q = cramped q
-      back p true q = absurd (with-room q p)
+asked-exactly : (T : TagType) (i m : List ℕ) (a : Asked T i m) (P : Type 0)
+    → (a .report .capacity < length m → P) → (length m ≤ a .report .capacity → P → ⊥) → (writing T i m ≡ refused-write message-too-long) ↔ P
+asked-exactly T i m a P = exactly T i m (a .report) (a .reads-as) (a .writable) (a .large-blocks) (a .some-bytes) P
 
 -- ---- Type 2
 
@@ -100,25 +77,26 @@ module _ (i m : List ℕ) (a : Asked type2 i m) (t : ℕ) (us : List ℕ) (e : m
   place : tlv.TlvPlaced memory i us
   place = record { at = t; sound = at-tlv .sound; tlv-at = e }
 
-  room : (b : Bool) → fitsIn (length m) (length (usable (locate memory i))) ≡ b → fitsIn (length m) (length us) ≡ b
-  room b f = ap (λ vs. fitsIn (length m) (length vs)) (sym same-us) ∙ f
+  capacity-is : a .report .capacity ≡ capacityIn (length us)
+  capacity-is = placed memory i (a .report) (a .reads-as) .2 ∙ ap (λ vs. capacityIn (length vs)) same-us
 
-  no-room : fitsIn (length m) (length (usable (locate memory i))) ≡ false → (j : List ℕ) → Octets j → Alike2 end t us i j → held type2 j ≡ holds m → ⊥
+  no-room : a .report .capacity < length m → (j : List ℕ) → Octets j → Alike2 end t us i j → held type2 j ≡ holds m → ⊥
   unfolding place
-  no-room f j o k h = tlv.too-long memory memory-laws i us place j (k .same-length) (k .same-start) m (room false f) h
+  no-room l j o k h = tlv.too-long memory memory-laws i us place j (k .same-length) (k .same-start) m (omega (arith, capacity-is)) h
 
-  module _ (f : fitsIn (length m) (length (usable (locate memory i))) ≡ true) where
+  module _ (f : length m ≤ a .report .capacity) where
     ready : tlv.TlvReady memory i m us
-    ready = record { placed = place; some-bytes = a .some-bytes; room = room true f }
+    ready = record { placed = place; some-bytes = a .some-bytes; room = omega (arith, capacity-is) }
 
     new : List ℕ
     new = overlay us (tlvBytes m) i
 
     short : length m ≤ 65534
+    unfolding ready
     short =
         let b = tlv.bounds memory memory-laws i us place in
         let u = above-length (length i) (place .at) us (tlv.beyond memory memory-laws i us place .1) in
-        ⊎-elim (λ c. omega (arith, c .1, b .1, u)) (λ c. omega (arith, c .1, b .1, u)) (fits-is (length m) (length us) (room true f))
+        omega (arith, b .1, u, fits-less (length us) (length m) (a .some-bytes) (ready .room))
 
     alike : Alike2 end t us i new
     unfolding new ready place
@@ -138,7 +116,7 @@ module _ (i m : List ℕ) (a : Asked type2 i m) (t : ℕ) (us : List ℕ) (e : m
 
 pub too-long-2 : TooLong2
 too-long-2 i m a t us e end =
-    exactly type2 i m a ((j : List ℕ) → Octets j → Alike2 end t us i j → held type2 j ≡ holds m → ⊥) (no-room i m a t us e end) (with-room i m a t us e end)
+    asked-exactly type2 i m a ((j : List ℕ) → Octets j → Alike2 end t us i j → held type2 j ≡ holds m → ⊥) (no-room i m a t us e end) (with-room i m a t us e end)
 
 -- the same, with the message TLV that the walk finds in the image
 pub alike-2 : (i m : List ℕ) → Asked type2 i m → (end : ℕ) → (writing type2 i m ≡ refused-write message-too-long) ↔ ((j : List ℕ) → Octets j → alike2 end i j → held type2 j ≡ holds m → ⊥)
@@ -165,19 +143,18 @@ module _ (idm i m : List ℕ) (a : Asked (type3 idm) i m) where
   agrees : (j : List ℕ) → Alike3 i j → Agrees j i
   agrees j k x e = ⊎-elim (λ h. k .same-start x (leb-true x 8 h)) (λ h. let q : x ≡ 10 = eqb-true x 10 h in rw q (k .same-access)) (or-cases (leb x 8) (eqb x 10) e)
 
-  module _ (f : fits i (length m) ≡ true) where
+  capacity-is-3 : a .report .capacity ≡ capacity i
+  capacity-is-3 = reads-capacity i (a .report) (a .reads-as)
+
+  module _ (f : length m ≤ a .report .capacity) where
     has-room : update3.HasRoom i m
-    has-room = record {
-      passes = reads-passes i (ready-reads (type3 idm) i m (roomy (type3 idm) i m a f));
-      some-bytes = a .some-bytes;
-      room = f;
-    }
+    has-room = laws3.ready-room idm i m (roomy (type3 idm) i m (a .report) (a .reads-as) (a .writable) (a .large-blocks) (a .some-bytes) f)
 
     values-octets : Octets (values i m)
     values-octets =
         let b : (x : ℕ) → byte i x < 256 = octets-byte i (a .image-octets) in
         let p = bounds i (has-room .passes) in
-        let n : length m ≤ 4096 = omega (arith, leb-true (length m) (16 * nmaxbOf i) f, p .short, p .reach) in
+        let n : length m ≤ 4096 = omega (arith, has-room .room, p .short, p .reach) in
         let l : steadySum i + lnSum (length m) < 65536 = omega (arith, b 0, b 1, b 2, b 3, b 4, b 5, b 6, b 7, b 8, b 10) in (
           omega arith,
           (
@@ -206,19 +183,15 @@ module _ (idm i m : List ℕ) (a : Asked (type3 idm) i m) where
 
 pub too-long-3 : (idm : List ℕ) → TooLong3 idm
 too-long-3 idm i m a =
-    exactly (type3 idm) i m a ((j : List ℕ) → Octets j → Alike3 i j → held (type3 idm) j ≡ holds m → ⊥)
-    (λ f j o k h. update3.too-long i m j f (agrees idm i m a j k) h) (with-room-3 idm i m a)
+    asked-exactly (type3 idm) i m a ((j : List ℕ) → Octets j → Alike3 i j → held (type3 idm) j ≡ holds m → ⊥)
+    (λ l j o k h. update3.too-long i m j (omega (arith, capacity-is-3 idm i m a)) (agrees idm i m a j k) h) (with-room-3 idm i m a)
 
 -- ---- Type 6
 
 module _ (i m : List ℕ) (a : Asked type6 i m) (Chosen : ℕ → Type 0) where
-  module _ (f : six.fits i (length m) ≡ true) where
+  module _ (f : length m ≤ a .report .capacity) where
     has-room-6 : update6.HasRoom i m
-    has-room-6 = record {
-      passes = message6.reads-passes i (ready-reads type6 i m (roomy type6 i m a f));
-      some-bytes = a .some-bytes;
-      room = f;
-    }
+    has-room-6 = laws6.ready-room i m (roomy type6 i m (a .report) (a .reads-as) (a .writable) (a .large-blocks) (a .some-bytes) f)
 
     -- NLEN takes two bytes, since an image has at most 8,192
     values-octets-6 : Octets (six.values m)
@@ -238,5 +211,6 @@ module _ (i m : List ℕ) (a : Asked type6 i m) (Chosen : ℕ → Type 0) where
 
 pub too-long-6 : TooLong6
 too-long-6 i m a Chosen =
-    exactly type6 i m a ((j : List ℕ) → Octets j → Alike6 Chosen i j → held type6 j ≡ holds m → ⊥)
-    (λ f j o k h. update6.too-long i m j f (k .same-start) h) (with-room-6 i m a Chosen)
+    asked-exactly type6 i m a ((j : List ℕ) → Octets j → Alike6 Chosen i j → held type6 j ≡ holds m → ⊥)
+    (λ l j o k h. update6.too-long i m j (omega (arith, message6.reads-capacity i (a .report) (a .reads-as))) (k .same-start) h)
+    (with-room-6 i m a Chosen)

@@ -5,6 +5,7 @@ use mathlib.Core.Bool.{Bool, true, false}
 use mathlib.Core.List.{List}
 use Prim.Native.Nat.{ℕ, _≤_}
 use borrow.Author.Tests.{ne-eqb}
+use lib.Dec.{leb}
 use lib.ListN.{length}
 use Rattle.tag.specs.Refusals.{message-too-long, block-too-small}
 use Rattle.tag.specs.Checks.{Checked, fine, fault, firstOf}
@@ -13,7 +14,7 @@ use Rattle.tag.specs.TagType.{writing, refused-write, planned, checksOf}
 use Rattle.tag.proofs.Logic.{nope}
 use Rattle.type6.specs.Container.{blockSize}
 use Rattle.type6.specs.Message.{reading}
-use Rattle.type6.specs.Update.{blocksSuffice, fits, plan}
+use Rattle.type6.specs.Update.{blocksSuffice, plan}
 use Rattle.type6.specs.Type6.{type6}
 use Rattle.type6.proofs.Laws.{suffice-exactly}
 use Rattle.demands.specs.Demand2.{TooSmall6}
@@ -27,10 +28,10 @@ module _ (i m : List ℕ) (p : Report) (reads-as : reading i ≡ reads p) (writa
   small q = decided (fault block-too-small) (rw (ne-eqb (length m) 0 some-bytes) (rw writable (rw q)))
 
   large : blocksSuffice i ≡ true → writing type6 i m ≡ refused-write block-too-small → ⊥
-  large q e = go (fits i (length m)) refl
+  large q e = go (leb (length m) (p .capacity)) refl
     where
       -- after 14 there is only 11
-      go : (b : Bool) → fits i (length m) ≡ b → ⊥
+      go : (b : Bool) → leb (length m) (p .capacity) ≡ b → ⊥
       go true f =
           let d : firstOf (checksOf type6 i m p) ≡ fine = rw (ne-eqb (length m) 0 some-bytes) (rw writable (rw q (rw f))) in
           let z : planned (plan i m) fine ≡ refused-write block-too-small = sym (decided fine d) ∙ e in

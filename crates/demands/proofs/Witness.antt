@@ -17,8 +17,7 @@ use Rattle.tag.specs.Cuts.{Ready}
 use Rattle.tag.proofs.Logic.{and-l, and-r}
 use Rattle.tlv.specs.Areas.{without}
 use Rattle.tlv.specs.Walk.{longBy, lengthBy, passValue, areaBy, controlBy, found, find, messageTlv}
-use Rattle.tlv_tag.specs.Message.{locateBy, locate, reading}
-use Rattle.tlv_tag.specs.Update.{fitsIn}
+use Rattle.tlv_tag.specs.Message.{locateBy, locate, capacityIn, reading}
 use Rattle.type2.specs.Memory.{layout}
 use Rattle.type2.specs.Type2.{type2}
 use Rattle.type3.specs.Message as message3
@@ -27,42 +26,42 @@ use Rattle.type6.specs.Container.{sizeBy, containerBlocks}
 use Rattle.type6.specs.Message as message6
 use Rattle.type6.specs.Type6.{type6}
 use Rattle.demands.specs.Demand2.{Octets, Asked, Outside}
-use Rattle.demands.specs.Specimens.{small, tag3, tag6, card}
+use Rattle.demands.specs.Questions.{small, tag3, tag6, card}
 
 -- an empty tag of 64 bytes, and a message of three
 pub ready-2 : Ready type2 (small (0x03 ∷ 0x00 ∷ 0xFE ∷ [])) (0xD0 ∷ 0x00 ∷ 0x00 ∷ [])
-unfolding without longBy lengthBy passValue areaBy controlBy find locateBy locate reading fitsIn
+unfolding without longBy lengthBy passValue areaBy controlBy find locateBy locate capacityIn reading
 ready-2 = record {
-  report = record { content = empty; bytes = []; address = 0; interrupted = false; writable = true };
+  report = record { content = empty; bytes = []; address = 0; interrupted = false; writable = true; capacity = 46 };
   reads-as = refl;
   writable = refl;
   some-bytes = omega arith;
   large-blocks = refl;
-  room = refl;
+  room = omega arith;
 }
 
 -- the Type 3 specimen of 35 bytes, and a message of the same three
 pub ready-3 : Ready (type3 (replicate 8 0x00)) (tag3 0x00 0x46) (0xD0 ∷ 0x00 ∷ 0x00 ∷ [])
 unfolding message3.announceBy message3.reading
 ready-3 = record {
-  report = record { content = message; bytes = replicate 35 0x00; address = 16; interrupted = false; writable = true };
+  report = record { content = message; bytes = replicate 35 0x00; address = 16; interrupted = false; writable = true; capacity = 208 };
   reads-as = refl;
   writable = refl;
   some-bytes = omega arith;
   large-blocks = refl;
-  room = refl;
+  room = omega arith;
 }
 
 -- an empty Type 6 tag with blocks of 4 bytes, and the same message
 pub ready-6 : Ready type6 (card []) (0xD0 ∷ 0x00 ∷ 0x00 ∷ [])
 unfolding sizeBy containerBlocks message6.reading
 ready-6 = record {
-  report = record { content = empty; bytes = []; address = 0; interrupted = false; writable = true };
+  report = record { content = empty; bytes = []; address = 0; interrupted = false; writable = true; capacity = 118 };
   reads-as = refl;
   writable = refl;
   some-bytes = omega arith;
   large-blocks = refl;
-  room = refl;
+  room = omega arith;
 }
 
 -- ---- whether a list is a list of bytes, by a test that computes

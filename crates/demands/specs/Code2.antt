@@ -1,12 +1,12 @@
 -- Demand 2 about what the public functions answer. It holds of any answers that meet the contracts of `read`, `shown`, `write`,
--- `model`, `encode` and `decode`: the relations `Read`, `Showed`, `Wrote`, `Took`, `EncodedTo` and `DecodedTo`. The record `Code2`
--- is the whole claim; `proofs/Code2.antt` proves it.
+-- `judge`, `model`, `encode` and `decode`: the relations `Read`, `Showed`, `Wrote`, `Judged`, `Took`, `EncodedTo` and `DecodedTo`.
+-- The record `Code2` is the whole claim; `proofs/Code2.antt` proves it.
 -- Assumes nothing.
 use mathlib.Core.Path.{_≡_}
 use mathlib.Core.Bool.{true}
 use mathlib.Core.Logic.{_↔_}
 use mathlib.Core.List.{List}
-use Prim.Native.Nat.{ℕ, _+_, _-_, _*_, _/_, _≤_}
+use Prim.Native.Nat.{ℕ, _+_, _-_, _*_, _/_, _<_, _≤_}
 use lib.ListN.{length, take, replicate}
 use Rattle.tag.specs.declared.Report as code
 use Rattle.tag.specs.declared.Content.the-variants as content
@@ -14,6 +14,8 @@ use Rattle.tag.specs.declared.ReadAnswer as read
 use Rattle.tag.specs.declared.ReadAnswer.the-variants as reading
 use Rattle.tag.specs.declared.CountAnswer as count
 use Rattle.tag.specs.declared.CountAnswer.the-variants as counted
+use Rattle.tag.specs.declared.JudgeAnswer as judge
+use Rattle.tag.specs.declared.JudgeAnswer.the-variants as verdict
 use Rattle.tag.specs.declared.ModelAnswer as model-answer
 use Rattle.tag.specs.declared.ModelAnswer.the-variants as storing
 use Rattle.tag.specs.Bytes.{byte, overwrite}
@@ -21,7 +23,7 @@ use Rattle.tag.specs.Refusals.{message-too-long, short-gathering-buffer}
 use Rattle.tag.specs.Reading.{Report, unreadable, reads, tooShort, holds}
 use Rattle.tag.specs.Plan.{touched}
 use Rattle.tag.specs.TagType.{TagType, held, pieces}
-use Rattle.tag.specs.Contracts.{Read, Showed, Wrote}
+use Rattle.tag.specs.Contracts.{Read, Showed, Wrote, Judged}
 use Rattle.tlv.specs.Walk.{found, messageTlv}
 use Rattle.type2.specs.declared.Command as command2
 use Rattle.type2.specs.declared.commands.Decoded as decoded2
@@ -143,6 +145,12 @@ pub record Code2 (T : TagType) (C : CommandCodec) (Alike : List ℕ → List ℕ
   -- 11 exactly if no image that differs only in what writing may set reads as the message
   pub too-long-exactly : (i m : List ℕ) → Asked T i m → (buffer out : List ℕ) (r : count.CountAnswer) → Wrote T i m buffer r out
       → (r ≡ counted.Refused message-too-long) ↔ ((j : List ℕ) → Octets j → Alike i j → held T j ≡ holds m → ⊥)
+  -- where `read` answers that the tag is writable, its blocks are large enough, and the message is not empty, `write` and `judge`
+  -- give 11 exactly if the message is longer than the capacity that `read` answers
+  pub capacity-decides : (i gathering gathered : List ℕ) (p : code.Report) → Read (T .reading) i gathering (reading.Reads p) gathered
+      → p .writable ≡ true → (T .blocks-suffice) i ≡ true → (m : List ℕ) → (length m ≡ 0 → ⊥)
+      → ((buffer out : List ℕ) (r : count.CountAnswer) → Wrote T i m buffer r out → (r ≡ counted.Refused message-too-long) ↔ (p .capacity < length m))
+      × ((bytes : List ℕ) (r : judge.JudgeAnswer) → Judged T i m bytes r → (r ≡ verdict.Refused message-too-long 0) ↔ (p .capacity < length m))
   -- a tag that does not read gets one of 1 to 8
   pub refuses : (i gathering gathered : List ℕ) (r : read.ReadAnswer) → Read (T .reading) i gathering r gathered
       → (n : ℕ) → (T .reading) i ≡ unreadable n → (r ≡ reading.Refused n) × (1 ≤ n) × (n ≤ 8)

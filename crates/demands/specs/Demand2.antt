@@ -15,6 +15,7 @@ use Rattle.tag.specs.Plan.{touched, list}
 use Rattle.tag.specs.TagType.{TagType, held, writing, refused-write, output, write, commands}
 use Rattle.tag.specs.Cuts.{Ready}
 use Rattle.tlv.specs.Walk.{found, messageTlv}
+use Rattle.tlv_tag.specs.Update.{Fits}
 use Rattle.type2.specs.Memory.{layout}
 use Rattle.type2.specs.Type2.{type2}
 use Rattle.type2.specs.Codec as codec2
@@ -37,6 +38,28 @@ pub record Demand2 (T : TagType) : Type 0 where
   -- the part shown after reading is the message
   pub shown-is : (i buffer : List ℕ) (p : Report) → (T .reading) i ≡ reads p → tooShort (length buffer) p ≡ false
       → shown i (gatheredInto buffer ((T .reading) i)) (answerOf (length buffer) ((T .reading) i)) ≡ p .bytes
+  -- where the tag reads and is writable, its blocks are large enough, and the message is not empty, 11 comes exactly if the message
+  -- is longer than the capacity (02, E3)
+  pub too-long : (i m : List ℕ) (p : Report) → (T .reading) i ≡ reads p → p .writable ≡ true → (T .blocks-suffice) i ≡ true
+      → (length m ≡ 0 → ⊥) → (writing T i m ≡ refused-write message-too-long) ↔ (p .capacity < length m)
+
+-- ---- what fits, in the words of the requirements
+
+-- a length fits exactly if it is at most the capacity; `Fits` says what the requirements say of the type
+abbrev pub Capacity : TagType → (List ℕ → ℕ → Type 0) → Type 0
+Capacity T Fits = (i : List ℕ) (p : Report) → (T .reading) i ≡ reads p → (n : ℕ) → Fits i n ↔ (n ≤ p .capacity)
+
+-- Type 2: n ≤ 254 and 1 + n ≤ u, or n ≥ 255 and 3 + n ≤ u, for the u usable bytes after the message TLV's type byte
+abbrev pub Fits2 : List ℕ → ℕ → Type 0
+Fits2 i n = (t : ℕ) × (us : List ℕ) × (messageTlv layout i ≡ found t us) × Fits (length us) n
+
+-- Type 3: n ≤ 16·Nmaxb
+abbrev pub Fits3 : List ℕ → ℕ → Type 0
+Fits3 i n = n ≤ 16 * (256 * byte i 3 + byte i 4)
+
+-- Type 6: n ≤ m, and so 2 + n ≤ MAX_LEN × size
+abbrev pub Fits6 : List ℕ → ℕ → Type 0
+Fits6 i n = 2 + n ≤ byte i 7 * blockSize i
 
 -- ---- refusal 11, exactly
 

@@ -212,6 +212,40 @@ fn card_lists() {
     );
 }
 
+// E3: the capacity on each side of its limits.
+fn capacities() {
+    type2_tags::read_room(1);
+    type2_tags::read_room(47);
+    type2_tags::read_room(254);
+    type2_tags::read_room(255);
+    type2_tags::read_room(256);
+    type2_tags::read_room(257);
+    type2_tags::read_room(258);
+}
+
+// The capacity of read-only tags, of one being written, and of a card with blocks of one byte.
+fn unwritable() {
+    type2_tags::read(b"read-only", b"\xE1\x10\x06\x0F\x03\x03\xD0\x00\x00\xFE");
+    type3_tags::read(
+        b"Type 3, read-only",
+        b"\x10\x04\x01\x00\x0D\x00\x00\x00\x00\x00\x00\x00\x00\x03\x00\x25",
+    );
+    type3_tags::read(
+        b"Type 3, WriteFlag 0Fh",
+        b"\x10\x04\x01\x00\x0D\x00\x00\x00\x00\x0F\x01\x00\x00\x03\x00\x35",
+    );
+    type6_tags::read(
+        b"Type 6, read-only",
+        128,
+        b"NDE\x10\x1F\x03\xFF\x1E\x03\x00\xD0\x00\x00",
+    );
+    type6_tags::read(
+        b"Type 6, blocks of 1",
+        11,
+        b"NDE\x10\x0A\x00\x00\x03\x01\x00\xD0",
+    );
+}
+
 fn main() {
     interrupted();
     appendix_c();
@@ -222,4 +256,6 @@ fn main() {
     cards();
     card_lengths();
     card_lists();
+    capacities();
+    unwritable();
 }

@@ -15,25 +15,43 @@ pub fn name(s: &[u8]) {
     text(b": ");
 }
 
+// The beginning of the line for a tag with `u` usable bytes after the type byte.
+pub fn room(u: usize) {
+    text(b"u = ");
+    number(u);
+    text(b": ");
+}
+
 fn message(report: Report, shown: &[u8]) {
     text(b"message at ");
     number(report.address.0);
     text(b", ");
     number(report.length);
     if report.interrupted {
-        text(b" bytes, interrupted: ");
+        text(b" bytes, interrupted, capacity ");
     } else {
-        text(b" bytes: ");
+        text(b" bytes, capacity ");
     }
+    number(report.capacity);
+    text(b": ");
     printing::line(shown);
+}
+
+// A tag without a message.
+fn without(content: &[u8], capacity: usize) {
+    text(content);
+    text(b", capacity ");
+    number(capacity);
+    text(b"\n");
 }
 
 fn report(report: Report, shown: &[u8]) {
     let content = report.content;
+    let capacity = report.capacity;
     match content {
         Content::Message => message(report, shown),
-        Content::Empty => text(b"empty\n"),
-        Content::BeingWritten => text(b"being written\n"),
+        Content::Empty => without(b"empty", capacity),
+        Content::BeingWritten => without(b"being written", capacity),
     }
 }
 

@@ -1,4 +1,4 @@
-// Type 2 tags of 112 bytes, given by their bytes from the capability container on. All other bytes are 00h.
+// Type 2 tags, most of them of 112 bytes, given by their bytes from the capability container on. All other bytes are 00h.
 
 use crate::print;
 use tag::slices;
@@ -24,6 +24,24 @@ pub fn read(name: &[u8], front: &[u8]) {
     let mut image = [0u8; 112];
     lay(front, &mut image);
     print::name(name);
+    let mut gathered = [0u8; 64];
+    read_on(&image, &mut gathered);
+}
+
+// The type byte of a message TLV, with `u` bytes after it. The bytes before it are NULL TLVs.
+fn lay_type_byte(u: usize, image: &mut [u8]) {
+    let n = image.len();
+    if u < n {
+        image[n - u - 1] = 0x03;
+    }
+}
+
+// A tag of 280 bytes on which `u` usable bytes follow the type byte.
+pub fn read_room(u: usize) {
+    let mut image = [0u8; 280];
+    lay(b"\xE1\x10\x21\x00", &mut image);
+    lay_type_byte(u, &mut image);
+    print::room(u);
     let mut gathered = [0u8; 64];
     read_on(&image, &mut gathered);
 }

@@ -5,7 +5,7 @@ use mathlib.Core.Path.{_≡_, refl, sym, ap, _∙_}
 use mathlib.Core.Bool.{false}
 use mathlib.Core.List.{List, [], _++_}
 use Prim.Native.Nat.{ℕ, _<_}
-use borrow.Author.Tests.{ne-eqb, eqb-false, not-true}
+use borrow.Author.Tests.{ne-eqb, eqb-false, leb-true, le-leb, not-true}
 use lib.Dec.{eqb}
 use lib.ListN.{length}
 use Rattle.tag.specs.Checks.{Checked, fine, fault, firstOf}
@@ -54,7 +54,7 @@ pub record Laws (T : TagType) : Type 0 where
 pub ready-written : (T : TagType) (i m : List ℕ) → Ready T i m → writing T i m ≡ written ((T .plan) i m)
 unfolding writing
 ready-written T i m r =
-    let e : firstOf (checksOf T i m (r .report)) ≡ fine = all-fine (checksOf T i m (r .report)) (rw (ne-eqb (length m) 0 (r .some-bytes)), (r .writable, (r .large-blocks, (r .room, tt)))) in
+    let e : firstOf (checksOf T i m (r .report)) ≡ fine = all-fine (checksOf T i m (r .report)) (rw (ne-eqb (length m) 0 (r .some-bytes)), (r .writable, (r .large-blocks, (le-leb (length m) (r .report .capacity) (r .room), tt)))) in
     rw (r .reads-as) (ap (planned ((T .plan) i m)) e)
 
 pub written-ready : (T : TagType) (i m : List ℕ) (p : Plan) → writing T i m ≡ written p → Ready T i m × ((T .plan) i m ≡ p)
@@ -80,7 +80,7 @@ written-ready T i m p e = go ((T .reading) i) refl
                 writable = a .1 .0;
                 some-bytes = eqb-false (length m) 0 (not-true (eqb (length m) 0) (a .0));
                 large-blocks = a .1 .1 .0;
-                room = a .1 .1 .1 .0;
+                room = leb-true (length m) (v .capacity) (a .1 .1 .1 .0);
               },
               cc,
             )

@@ -55,9 +55,9 @@ module _ (v : Reading) (plain : (p : Report) → v ≡ reads p → p .interrupte
 -- the old message, of a tag that reads
 old-held : (a : Answer) (part : List ℕ) → (heldBy a part ≡ broken → ⊥) → oldHeld (isMessage a) part ≡ heldBy a part
 old-held (refusal r) part n = absurd (n refl)
-old-held (answer message a n interrupted w) part h = refl
-old-held (answer empty a n interrupted w) part h = refl
-old-held (answer being-written a n interrupted w) part h = refl
+old-held (answer message a n interrupted w c) part h = refl
+old-held (answer empty a n interrupted w c) part h = refl
+old-held (answer being-written a n interrupted w c) part h = refl
 
 pub old-is : (a : Answer) (present : Bool) (part : List ℕ) (h : Held) → present ≡ isMessage a → heldBy a part ≡ h → (h ≡ broken → ⊥) → oldHeld present part ≡ h
 old-is a present part h e q n = ap (λ b. oldHeld b part) e ∙ old-held a part (λ z. n (sym q ∙ z)) ∙ q
@@ -68,7 +68,7 @@ module _ (T : TagType) (L : Laws T) where
   shown-part i buffer p e f = rw f (go (p .content) refl (p .interrupted) refl)
     where
       go : (w : Content) → p .content ≡ w → (b : Bool) → p .interrupted ≡ b
-          → shown i (cond (p .interrupted) (overwrite (p .bytes) buffer) buffer) (answer (p .content) (p .address) (length (p .bytes)) (p .interrupted) (p .writable)) ≡ p .bytes
+          → shown i (cond (p .interrupted) (overwrite (p .bytes) buffer) buffer) (answer (p .content) (p .address) (length (p .bytes)) (p .interrupted) (p .writable) (p .capacity)) ≡ p .bytes
       go message q true r =
           let l : length (p .bytes) ≤ length buffer = ltb-false (length buffer) (length (p .bytes)) (rw r at f) in
           rw (q, r) (part-front (p .bytes) buffer l)

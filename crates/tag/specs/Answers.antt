@@ -28,7 +28,7 @@ contentOf content.BeingWritten = being-written
 -- reading
 abbrev pub readAs : ReadAnswer → Answer
 readAs (read.Refused r) = refusal r
-readAs (read.Reads p) = answer (contentOf (p .content)) (p .address .0) (p .length) (p .interrupted) (p .writable)
+readAs (read.Reads p) = answer (contentOf (p .content)) (p .address .0) (p .length) (p .interrupted) (p .writable) (p .capacity)
 
 -- what a call returns: a refusal, or what it gives on success
 pub data Returned (A : Type 0) : Type 0 where
@@ -66,7 +66,7 @@ modelAs modelled.Stored = gives tt
 
 abbrev pub heldBy : Answer → List ℕ → Held
 heldBy (refusal r) part = broken
-heldBy (answer content a n interrupted w) part = heldAs content part
+heldBy (answer content a n interrupted w c) part = heldAs content part
 
 -- the old message, if there was one
 abbrev pub oldHeld : Bool → List ℕ → Held
@@ -74,6 +74,6 @@ oldHeld b old = cond b (holds old) nothing
 
 abbrev pub isMessage : Answer → Bool
 isMessage (refusal r) = false
-isMessage (answer message a n interrupted w) = true
-isMessage (answer empty a n interrupted w) = false
-isMessage (answer being-written a n interrupted w) = false
+isMessage (answer message a n interrupted w c) = true
+isMessage (answer empty a n interrupted w c) = false
+isMessage (answer being-written a n interrupted w c) = false

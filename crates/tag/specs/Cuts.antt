@@ -21,7 +21,7 @@ pub record Ready (T : TagType) (i m : List ℕ) : Type 0 where
   pub writable : report .writable ≡ true
   pub some-bytes : length m ≡ 0 → ⊥
   pub large-blocks : (T .blocks-suffice) i ≡ true
-  pub room : (T .fits) i (length m) ≡ true
+  pub room : length m ≤ report .capacity
 
 -- the tag reads as none, as the new message, or as the old one, which is what the tag handed in reads as, if any
 pub data Safe (t : Task) (j : List ℕ) : Type 0 where

@@ -21,6 +21,8 @@ pub record Report : Type 0 where
   -- interrupted (the requirements' word): a skipped address lies between the message's first and last byte
   pub interrupted : Bool
   pub writable : Bool
+  -- the greatest length that fits, whether the tag is writable or not (02, E3)
+  pub capacity : ℕ
 
 -- one of the refusals 1 to 8, or a report
 pub data Reading : Type 0 where
@@ -32,10 +34,10 @@ abbrev pub refusalNumber : Reading → ℕ
 refusalNumber (unreadable r) = r
 refusalNumber (reads p) = 0
 
--- the answer of `read`: a refusal; or content, address, length, interrupted, writable
+-- the answer of `read`: a refusal; or content, address, length, interrupted, writable, capacity
 pub data Answer : Type 0 where
   refusal : ℕ → Answer
-  answer : Content → ℕ → ℕ → Bool → Bool → Answer
+  answer : Content → ℕ → ℕ → Bool → Bool → ℕ → Answer
 
 -- an interrupted message that is longer than the gathering buffer
 abbrev pub tooShort : ℕ → Report → Bool
@@ -46,7 +48,7 @@ abbrev pub answerOf : ℕ → Reading → Answer
 answerOf room (unreadable r) = refusal r
 answerOf room (reads p) =
     cond (tooShort room p) (refusal short-gathering-buffer)
-    (answer (p .content) (p .address) (length (p .bytes)) (p .interrupted) (p .writable))
+    (answer (p .content) (p .address) (length (p .bytes)) (p .interrupted) (p .writable) (p .capacity))
 
 -- the gathering buffer afterwards: gathering changes only its front, and only if the message is interrupted and fits
 abbrev pub gatheredInto : List ℕ → Reading → List ℕ
@@ -62,9 +64,9 @@ part a n s = cond (leb (a + n) (length s)) (take n (drop a s)) []
 -- the part shown: a part of the image or, if interrupted, of the gathered copy; empty without a message and after a refusal
 abbrev pub shown : List ℕ → List ℕ → Answer → List ℕ
 shown image gathered (refusal r) = []
-shown image gathered (answer message a n interrupted w) = cond interrupted (part 0 n gathered) (part a n image)
-shown image gathered (answer empty a n interrupted w) = []
-shown image gathered (answer being-written a n interrupted w) = []
+shown image gathered (answer message a n interrupted w c) = cond interrupted (part 0 n gathered) (part a n image)
+shown image gathered (answer empty a n interrupted w c) = []
+shown image gathered (answer being-written a n interrupted w c) = []
 
 -- what a tag holds. Demand 3 compares readings by this alone: empty and being written both hold none
 pub data Held : Type 0 where

@@ -19,8 +19,6 @@ pub record TagType : Type 0 where
   pub reading : List ℕ → Reading
   -- are the tag's blocks large enough to write a message; of all types, only Type 6 has some that are not
   pub blocks-suffice : List ℕ → Bool
-  -- has the tag room for a message of n bytes
-  pub fits : List ℕ → ℕ → Bool
   -- what writing the message sets; looked at only where writing is not refused
   pub plan : List ℕ → List ℕ → Plan
   -- the command that the tag handed in takes some bytes for
@@ -38,13 +36,13 @@ pub data Writing : Type 0 where
   refused-write : ℕ → Writing
   written : Plan → Writing
 
--- 9, 10, 14, 11, in this order
+-- 9, 10, 14, 11, in this order; the message fits if it is no longer than the capacity that reading reports
 abbrev pub checksOf : TagType → List ℕ → List ℕ → Report → List Check
 checksOf T i m p =
     check (not (eqb (length m) 0)) empty-message
     ∷ check (p .writable) not-writable
     ∷ check ((T .blocks-suffice) i) block-too-small
-    ∷ check ((T .fits) i (length m)) message-too-long
+    ∷ check (leb (length m) (p .capacity)) message-too-long
     ∷ []
 
 abbrev pub planned : Plan → Checked → Writing

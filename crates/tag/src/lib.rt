@@ -50,6 +50,8 @@ pub enum Content {
 pub struct Report {
     pub content: Content,
     pub address: Address,
+    // the greatest length that fits, whether the tag is writable or not
+    pub capacity: usize,
     pub length: usize,
     pub interrupted: bool,
     pub writable: bool,

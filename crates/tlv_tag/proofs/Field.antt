@@ -1,13 +1,14 @@
 -- The length field as writing sets it. What is set at rising addresses with room reads back as the length and the message. If a
--- length reads back with as many bytes after it, `fitsIn` says that there is room.
+-- length reads back with as many bytes after it, the capacity says that there is room. The capacity is 01's fit.
 -- Assumes nothing.
 use mathlib.Core.Path.{_≡_, refl, _∙_}
 use mathlib.Core.Bool.{Bool, true, false}
 use mathlib.Core.Logic.{_⊎_, inl, inr, ⊎-elim}
 use mathlib.Core.List.{List, [], _∷_, _++_, map}
-use Prim.Native.Nat.{ℕ, _+_, _*_, _/_, _%_, _<_, _≤_}
+use Prim.Native.Nat.{ℕ, _+_, _-_, _*_, _/_, _%_, _<_, _≤_}
 use native.Mathlib.Omega.{arith}
-use borrow.Author.Tests.{leb-true, leb-false, le-leb, eq-eqb}
+use native.Mathlib.Decide.{decLt, decLe}
+use borrow.Author.Tests.{leb-true, leb-false, le-leb, lt-leb, lt-ltb, le-ltb, eq-eqb}
 use lib.Dec.{leb, eqb}
 use lib.ListN.{length, set, take, length-set}
 use lib.Seq.{getD-set-same, getD-set-other}
@@ -16,27 +17,59 @@ use Rattle.tag.proofs.Logic.{or-l}
 use Rattle.tag.proofs.Images.{length-overlay}
 use Rattle.tag.proofs.Addresses.{Above, above-less, above-hi, above-take, above-length, map-out, overlay-reads}
 use Rattle.tlv.specs.Walk.{len, longBy, lengthBy, lengthOf}
-use Rattle.tlv.proofs.Sizes.{Sized}
-use Rattle.tlv_tag.specs.Update.{fitsIn, lengthField, tlvBytes, lengthAt}
+use Rattle.tlv.proofs.Sizes.{Sized, length-size}
+use Rattle.tlv_tag.specs.Message.{capacityIn}
+use Rattle.tlv_tag.specs.Update.{Fits, lengthField, tlvBytes, lengthAt}
 
 -- ---- room
 
-pub fits-is : (n u : ℕ) → fitsIn n u ≡ true → ((leb n 254 ≡ true) × (1 + n ≤ u)) ⊎ ((leb n 254 ≡ false) × (3 + n ≤ u))
-unfolding fitsIn
-fits-is n u e = go (leb n 254) refl
+-- the three cases of the capacity
+pub capacity-below : (u : ℕ) → u < 255 → capacityIn u ≡ u - 1
+unfolding capacityIn
+capacity-below u l = rw (lt-ltb u 255 l)
+
+pub capacity-between : (u : ℕ) → 255 ≤ u → u ≤ 257 → capacityIn u ≡ 254
+unfolding capacityIn
+capacity-between u l h = rw (le-ltb u 255 l, le-leb u 257 h)
+
+pub capacity-above : (u : ℕ) → 257 < u → capacityIn u ≡ u - 3
+unfolding capacityIn
+capacity-above u l = rw (le-ltb u 255 (omega arith), lt-leb u 257 l)
+
+-- 01's words: a length that fits is at most the capacity
+pub fits-capacity : (u n : ℕ) → Fits u n → n ≤ capacityIn u
+fits-capacity u n f = go (decLt u 255) (decLt 257 u)
   where
-    go : (b : Bool) → leb n 254 ≡ b → ((leb n 254 ≡ true) × (1 + n ≤ u)) ⊎ ((leb n 254 ≡ false) × (3 + n ≤ u))
-    go true q = inl (q, leb-true (1 + n) u (rw (q, fitsIn) at e))
-    go false q = inr (q, leb-true (3 + n) u (rw (q, fitsIn) at e))
+    go : Dec (u < 255) → Dec (257 < u) → n ≤ capacityIn u
+    go (yes l) d = ⊎-elim (λ c. omega (arith, c .1, capacity-below u l)) (λ c. absurd (omega (arith, c .0, c .1))) f
+    go (no l) (yes h) = ⊎-elim (λ c. omega (arith, c .0, capacity-above u h)) (λ c. omega (arith, c .1, capacity-above u h)) f
+    go (no l) (no h) =
+        let e : capacityIn u ≡ 254 = capacity-between u (omega arith) (omega arith) in
+        ⊎-elim (λ c. omega (arith, c .0)) (λ c. absurd (omega (arith, c .0, c .1))) f
 
--- a message that fits leaves a byte for its length
-pub fits-less : (n u : ℕ) → fitsIn n u ≡ true → n < u
-fits-less n u e = ⊎-elim (λ c. omega (arith, c .1)) (λ c. omega (arith, c .1)) (fits-is n u e)
+-- and one that is at most the capacity fits; without a usable byte not even length 0 does
+pub capacity-fits : (u n : ℕ) → 0 < u + n → n ≤ capacityIn u → Fits u n
+capacity-fits u n s l = go (decLt u 255) (decLt 257 u) (decLt 254 n)
+  where
+    go : Dec (u < 255) → Dec (257 < u) → Dec (254 < n) → Fits u n
+    go (yes h) d (yes b) = absurd (omega (arith, capacity-below u h))
+    go (yes h) d (no b) = inl (omega arith, omega (arith, capacity-below u h))
+    go (no h) (yes k) (yes b) = inr (omega arith, omega (arith, capacity-above u k))
+    go (no h) (yes k) (no b) = inl (omega arith, omega arith)
+    go (no h) (no k) (yes b) = absurd (omega (arith, capacity-between u (omega arith) (omega arith)))
+    go (no h) (no k) (no b) = inl (omega arith, omega arith)
 
-pub fits-of : (n u k : ℕ) → Sized n u k → n ≤ k → fitsIn n u ≡ true
-unfolding fitsIn
-fits-of n u k (inl c) l = rw (c .0, fitsIn) (le-leb (1 + n) u (omega (arith, c .1)))
-fits-of n u k (inr c) l = rw (c .0, fitsIn) (le-leb (3 + n) u (omega (arith, c .1)))
+-- a message that is not empty and fits leaves a byte for its length
+pub fits-less : (u n : ℕ) → (n ≡ 0 → ⊥) → n ≤ capacityIn u → n < u
+fits-less u n z l = ⊎-elim (λ c. omega (arith, c .1)) (λ c. omega (arith, c .1)) (capacity-fits u n (omega (arith, z)) l)
+
+pub fits-of : (n u k : ℕ) → Sized n u k → n ≤ k → n ≤ capacityIn u
+fits-of n u k (inl c) l = fits-capacity u n (inl (leb-true n 254 (c .0), omega (arith, c .1)))
+fits-of n u k (inr c) l = fits-capacity u n (inr (omega (arith, leb-false n 254 (c .0)), omega (arith, c .1)))
+
+-- a length takes a byte at least
+pub length-some : (i us vs : List ℕ) (n : ℕ) → lengthOf i us ≡ len n vs → 0 < length us
+length-some i us vs n e = ⊎-elim (λ c. omega (arith, c .1)) (λ c. omega (arith, c .1)) (length-size i us vs n e)
 
 -- ---- what is written reads back
 
@@ -104,17 +137,15 @@ module _ (hi : ℕ) where
       }
 
   -- the bound on hi keeps the length in the three-byte form's range
-  pub written : (us m i : List ℕ) (x : ℕ) → Above hi x us → hi ≤ length i → hi ≤ 65534 → fitsIn (length m) (length us) ≡ true
+  pub written : (us m i : List ℕ) (x : ℕ) → Above hi x us → hi ≤ length i → hi ≤ 65534 → Fits (length us) (length m)
       → Written us m (overlay us (tlvBytes m) i)
   unfolding lengthField
-  written us m i x h l w f = go (fits-is (length m) (length us) f)
-    where
-      go : ((leb (length m) 254 ≡ true) × (1 + length m ≤ length us)) ⊎ ((leb (length m) 254 ≡ false) × (3 + length m ≤ length us))
-          → Written us m (overlay us (tlvBytes m) i)
-      go (inl c) = rw (c .0, lengthField) (written-short us m (0xFE ∷ []) i x h l (c .0) (c .1))
-      go (inr c) =
-          rw (c .0, lengthField)
-          (written-long us m (0xFE ∷ []) i x h l (c .0) (omega (arith, above-length hi x us h, c .1)) (c .1))
+  written us m i x h l w (inl c) =
+      let q : leb (length m) 254 ≡ true = le-leb (length m) 254 (c .0) in
+      rw (q, lengthField) (written-short us m (0xFE ∷ []) i x h l q (c .1))
+  written us m i x h l w (inr c) =
+      let q : leb (length m) 254 ≡ false = lt-leb (length m) 254 (omega (arith, c .0)) in
+      rw (q, lengthField) (written-long us m (0xFE ∷ []) i x h l q (omega (arith, above-length hi x us h, c .1)) (c .1))
 
 -- ---- the first length byte
 

@@ -2,12 +2,10 @@
 -- Assumes nothing.
 use mathlib.Core.Path.{_≡_, refl, sym, ap, _∙_, subst}
 use mathlib.Core.Bool.{Bool, true, false}
-use mathlib.Core.List.{List}
-use Prim.Native.Nat.{ℕ, suc, _+_, _-_, _<_, _≤_}
+use mathlib.Core.List.{List, [], _∷_}
+use Prim.Native.Nat.{ℕ, _-_, _<_, _≤_}
 use native.Mathlib.Omega.{arith}
-use native.Mathlib.Decide.{decLt}
-use borrow.Author.Tests.{le-leb, lt-leb}
-use lib.Dec.{leb, ltb}
+use lib.Dec.{leb}
 use lib.ListN.{length, take}
 use Rattle.tag.specs.declared.Address.{Address}
 use Rattle.tag.specs.Bytes.{run}
@@ -26,19 +24,7 @@ use Rattle.tlv_tag.specs.declared.space.Space.the-variants as answer
 use Rattle.tlv_tag.specs.Message.{Located, refuse, located, locateBy}
 use Rattle.tlv_tag.specs.Views.Space.{Space, no-space, spaceOf, Room, SpaceHere, SpacePlaced}
 use Rattle.tlv_tag.specs.Views.BlankArea.{BlankArea}
-use Rattle.tlv_tag.specs.Views.Reading.{refusalOf}
-
--- one byte of length and n of message
-pub ltb-leb : (n u : ℕ) → ltb n u ≡ leb (1 + n) u
-ltb-leb n u = let e : suc n ≡ 1 + n = omega arith in ap (λ k. leb k u) e
-
--- three bytes of length and n of message
-pub leb-less : (n u : ℕ) → n ≤ u → leb 3 (u - n) ≡ leb (3 + n) u
-leb-less n u h = go (decLt (u - n) 3)
-  where
-    go : Dec (u - n < 3) → leb 3 (u - n) ≡ leb (3 + n) u
-    go (yes l) = lt-leb 3 (u - n) l ∙ sym (lt-leb (3 + n) u (omega arith))
-    go (no l) = le-leb 3 (u - n) (omega arith) ∙ sym (le-leb (3 + n) u (omega arith))
+use Rattle.tlv_tag.specs.Views.Reading.{tlvLocated, refusalOf}
 
 -- ---- the message TLV, by its refusal
 
@@ -57,6 +43,12 @@ module _ (w : Bool) (n : ℕ) where
       go : (b : Bool) → leb k (length vs) ≡ b → s ≡ spaceOf w n (locateBy us (len k vs))
       go true q = rw (q, locateBy) (f (take k vs))
       go false q = let seven : bad-length ≡ 0 = rw (q, locateBy) at e in absurd (omega arith)
+
+-- and a usable byte for its length
+pub some-ahead : (i us : List ℕ) → refusalOf (tlvLocated i us) ≡ 0 → 0 < length us
+unfolding locateBy
+some-ahead i [] e = absurd (omega (arith, e))
+some-ahead i (a ∷ us) e = omega arith
 
 -- ---- the walk from the start of the data area
 

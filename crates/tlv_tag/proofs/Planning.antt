@@ -4,17 +4,17 @@ use mathlib.Core.Path.{_≡_, refl, ap, _∙_}
 use mathlib.Core.Bool.{Bool, true, false, not, cond}
 use mathlib.Core.List.{List, [], _∷_}
 use Prim.Native.Nat.{ℕ}
-use lib.Dec.{eqb}
+use lib.Dec.{leb, eqb}
 use lib.ListN.{length}
 use Rattle.tag.specs.Stores.{Store, Command}
 use Rattle.tag.specs.TagType.{Writing, refused-write, written, writing, planned}
 use Rattle.tag.specs.Refusals.{empty-message, not-writable, message-too-long}
 use Rattle.tag.specs.Checks.{check, Checked, firstOf}
-use Rattle.tlv_tag.specs.Message.{TlvTag, Located, refuse, located, locate, reading}
-use Rattle.tlv_tag.specs.Update.{usable, fitsIn, planBy}
+use Rattle.tlv_tag.specs.Message.{TlvTag, Located, refuse, located, locate, capacityIn, reading}
+use Rattle.tlv_tag.specs.Update.{usable, planBy}
 use Rattle.tlv_tag.specs.Tag.{tagOf}
 use Rattle.tlv_tag.specs.Views.Space.{Space, no-space, space, spaceOf}
-use Rattle.tlv_tag.proofs.Writes.{report-writable}
+use Rattle.tlv_tag.proofs.Writes.{report-writable, report-capacity}
 
 -- what writing answers, given the space
 abbrev pub writingIn : ℕ → List ℕ → List ℕ → Space → Writing
@@ -38,8 +38,9 @@ module _ (K : TlvTag) (command : List ℕ → List ℕ → Command) (span : List
       go : (v : Located) → locate K i ≡ v → writing (tagOf K command span encoded) i m ≡ writingIn (K .block-size) i m (spaceOf ((K .writable) i) (length m) v)
       go (refuse r) q = rw q
       go (located us ms) q =
-          let tests : List ℕ → Checked
-          = λ vs. firstOf (check (not (eqb (length m) 0)) empty-message ∷ check ((K .writable) i) not-writable ∷ check (fitsIn (length m) (length vs)) message-too-long ∷ []) in
-          rw q (rw (report-writable ((K .writable) i) i ms)
-          (ap (λ vs. planned (planBy (K .block-size) vs i m) (tests vs)) (ap usable q)
-          ∙ in-order (K .block-size) us i m (eqb (length m) 0) ((K .writable) i) (fitsIn (length m) (length us))))
+          let c = capacityIn (length us) in
+          let tests : Checked
+          = firstOf (check (not (eqb (length m) 0)) empty-message ∷ check ((K .writable) i) not-writable ∷ check (leb (length m) c) message-too-long ∷ []) in
+          rw q (rw (report-writable ((K .writable) i) c i ms, report-capacity ((K .writable) i) c i ms)
+          (ap (λ vs. planned (planBy (K .block-size) vs i m) tests) (ap usable q)
+          ∙ in-order (K .block-size) us i m (eqb (length m) 0) ((K .writable) i) (leb (length m) c)))

@@ -26,7 +26,7 @@ use Rattle.tlv.specs.Walk.{Length, bad, len, lengthOf, Passed, more, stop, pass
 use Rattle.tlv.specs.Views.Walks.{ahead}
 use Rattle.tlv.specs.Views.Finding.{foundAs}
 use Rattle.tlv_value.specs.Views.Values.{at, measured}
-use Rattle.tlv_tag.specs.Message.{TlvTag, Located, refuse, located, locateBy, locateFrom, locate, reportOf, readingOf, reading}
+use Rattle.tlv_tag.specs.Message.{TlvTag, Located, refuse, located, locateBy, locateFrom, locate, capacityIn, reportOf, readingOf, reading}
 use Rattle.tlv_tag.specs.Views.BlankArea.{BlankArea}
 use Rattle.tlv_tag.specs.Views.Reading.{areaLocated, tlvLocated, valueReading, refusalOf, reportAs}
 use Rattle.tlv_tag.proofs.Fitting.{Begins, found-all}
@@ -54,41 +54,42 @@ module _ (i us buffer : List ℕ) (p : code.Report) (room : p .length ≤ length
 -- ---- a value by its length
 
 -- what is reported of a message that was measured
-report-measured : (b : Bool) (i us : List ℕ) (n : ℕ) → 1 ≤ n → n ≤ length us
-    → reportOf b i (take n us) ≡ record {
+report-measured : (b : Bool) (c : ℕ) (i us : List ℕ) (n : ℕ) → 1 ≤ n → n ≤ length us
+    → reportOf b c i (take n us) ≡ record {
       content = message;
       bytes = map (byte i) (take n us);
       address = getD us 0 0;
       interrupted = not (consecutive (take n us));
       writable = b;
+      capacity = c;
     }
-report-measured b i us zero p l = absurd (omega arith)
-report-measured b i [] (suc n) p l = absurd (not-suc-le-zero l)
-report-measured b i (a ∷ us) (suc n) p l = refl
+report-measured b c i us zero p l = absurd (omega arith)
+report-measured b c i [] (suc n) p l = absurd (not-suc-le-zero l)
+report-measured b c i (a ∷ us) (suc n) p l = refl
 
-module _ (w : Bool) (i us : List ℕ) where
-  pub value-none : (n : ℕ) → n ≡ 0 → valueReading w i n us ≡ reads (reportOf w i [])
+module _ (w : Bool) (c : ℕ) (i us : List ℕ) where
+  pub value-none : (n : ℕ) → n ≡ 0 → valueReading w c i n us ≡ reads (reportOf w c i [])
   unfolding valueReading
   value-none n e = rw (e, leb·zero (length us))
 
-  pub value-short : (n : ℕ) → length us < n → valueReading w i n us ≡ unreadable 7
+  pub value-short : (n : ℕ) → length us < n → valueReading w c i n us ≡ unreadable 7
   unfolding valueReading
   value-short n l = rw (lt-leb n (length us) l)
 
   pub value-measured : (n a : ℕ) (b : Bool) → 1 ≤ n → n ≤ length us → at a b ≡ measured n us
-      → valueReading w i n us ≡ reads (record { content = message; bytes = map (byte i) (take n us); address = a; interrupted = b; writable = w })
+      → valueReading w c i n us ≡ reads (record { content = message; bytes = map (byte i) (take n us); address = a; interrupted = b; writable = w; capacity = c })
   unfolding valueReading measured
   value-measured n a b k l e =
       let q = rw (le-leb n (length us) l) at e in
-      rw (le-leb n (length us) l) (cc (report-measured w i us n k l))
+      rw (le-leb n (length us) l) (cc (report-measured w c i us n k l))
 
 -- ---- the message TLV by its length field
 
-value-is : (w : Bool) (i us vs : List ℕ) (n : ℕ) → readingOf w i (locateBy us (len n vs)) ≡ valueReading w i n vs
+value-is : (w : Bool) (i us vs : List ℕ) (n : ℕ) → readingOf w i (locateBy us (len n vs)) ≡ valueReading w (capacityIn (length us)) i n vs
 unfolding locateBy valueReading
 value-is w i us vs n = go (leb n (length vs))
   where
-    go : (b : Bool) → readingOf w i (cond b (located us (take n vs)) (refuse 7)) ≡ cond b (reads (reportOf w i (take n vs))) (unreadable 7)
+    go : (b : Bool) → readingOf w i (cond b (located us (take n vs)) (refuse 7)) ≡ cond b (reads (reportOf w (capacityIn (length us)) i (take n vs))) (unreadable 7)
     go true = refl
     go false = refl
 
@@ -97,7 +98,7 @@ module _ (w : Bool) (i us : List ℕ) where
   unfolding locateBy
   field-bad e = ap (λ l. readingOf w i (locateBy us l)) (sym e)
 
-  pub field-is : (n : ℕ) (vs : List ℕ) → len n vs ≡ lengthOf i us → readingOf w i (tlvLocated i us) ≡ valueReading w i n vs
+  pub field-is : (n : ℕ) (vs : List ℕ) → len n vs ≡ lengthOf i us → readingOf w i (tlvLocated i us) ≡ valueReading w (capacityIn (length us)) i n vs
   field-is n vs e = ap (λ l. readingOf w i (locateBy us l)) (sym e) ∙ value-is w i us vs n
 
 -- the refusal of passing the TLV over, or 0

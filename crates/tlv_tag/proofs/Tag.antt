@@ -16,7 +16,7 @@ use Rattle.tag.specs.Bytes.{byte, run, overlay, isSet}
 use Rattle.tag.specs.Refusals.{bad-length}
 use Rattle.tag.specs.Checks.{Checked, fine, fault, firstOf}
 use Rattle.tag.specs.Reading.{Report, unreadable, reads, broken, nothing, holds, heldOf}
-use Rattle.tag.proofs.Logic.{true-false, nope}
+use Rattle.tag.proofs.Logic.{nope}
 use Rattle.tag.proofs.Each.{Each}
 use Rattle.tag.proofs.Checks.{OfReading}
 use Rattle.tag.proofs.Images.{length-overlay, overlay-out}
@@ -24,9 +24,9 @@ use Rattle.tag.proofs.Addresses.{Above, above-unset, above-run}
 use Rattle.tlv.specs.Walk.{Length, bad, len, lengthBy, lengthOf, Found, lost, found, messageTlv}
 use Rattle.tlv.proofs.Locality.{find-above, find-same}
 use Rattle.tlv.proofs.Sizes.{length-size}
-use Rattle.tlv_tag.specs.Message.{TlvTag, Located, refuse, located, locateBy, locate, reportOf, readingOf, reading}
-use Rattle.tlv_tag.specs.Update.{usable, fitsIn, tlvBytes, lengthAt}
-use Rattle.tlv_tag.proofs.Field.{Written, written, fits-less, fits-of, above-first}
+use Rattle.tlv_tag.specs.Message.{TlvTag, Located, refuse, located, locateBy, locate, capacityIn, reportOf, readingOf, reading}
+use Rattle.tlv_tag.specs.Update.{usable, Fits, tlvBytes, lengthAt}
+use Rattle.tlv_tag.proofs.Field.{Written, written, capacity-fits, fits-less, fits-of, length-some, above-first}
 
 -- ---- a message TLV by its length field
 
@@ -60,7 +60,7 @@ module _ (w : Bool) where
   located-quiet (a ∷ us) j l e = rw e (rw (leb·zero (length us), locateBy))
 
   located-fits : (us j m : List ℕ) → heldOf (readingOf w j (locateBy us (lengthOf j us))) ≡ holds m
-      → fitsIn (length m) (length us) ≡ true
+      → length m ≤ capacityIn (length us)
   unfolding locateBy
   located-fits us j m e = go (lengthOf j us) refl
     where
@@ -68,11 +68,11 @@ module _ (w : Bool) where
       by-bytes [] f = absurd (nope (cc))
       by-bytes (a ∷ ms) f = let g : map (byte j) (a ∷ ms) ≡ m = cc in sym (length-map (a ∷ ms) (byte j)) ∙ ap length g
 
-      go : (l : Length) → lengthOf j us ≡ l → fitsIn (length m) (length us) ≡ true
+      go : (l : Length) → lengthOf j us ≡ l → length m ≤ capacityIn (length us)
       go bad q = let e′ : broken ≡ holds m = rw q at e in absurd (nope (cc))
       go (len n ws) q = room (leb n (length ws)) refl
         where
-          room : (t : Bool) → leb n (length ws) ≡ t → fitsIn (length m) (length us) ≡ true
+          room : (t : Bool) → leb n (length ws) ≡ t → length m ≤ capacityIn (length us)
           room false t = let e′ : broken ≡ holds m = rw (q, t, locateBy) at e in absurd (nope (cc))
           room true t =
               let e′ : heldOf (readingOf w j (located us (take n ws))) ≡ holds m = rw (q, t, locateBy) at e in
@@ -107,7 +107,11 @@ module _ (T : TlvTag) where
   pub record TlvReady (i m us : List ℕ) : Type 0 where
     pub placed : TlvPlaced i us
     pub some-bytes : length m ≡ 0 → ⊥
-    pub room : fitsIn (length m) (length us) ≡ true
+    pub room : length m ≤ capacityIn (length us)
+
+  -- it fits, in 01's words
+  pub fits : (i m us : List ℕ) → TlvReady i m us → Fits (length us) (length m)
+  fits i m us r = capacity-fits (length us) (length m) (omega (arith, r .some-bytes)) (r .room)
 
   pub located-placed : (i us ms : List ℕ) → locate T i ≡ located us ms → TlvPlaced i us
   unfolding locate
@@ -132,13 +136,30 @@ module _ (T : TlvTag) where
 
   -- and its report is made from that
   pub by-report : (i : List ℕ) (p : Report) → reading T i ≡ reads p
-      → (us : List ℕ) × (ms : List ℕ) × (locate T i ≡ located us ms) × (reportOf ((T .writable) i) i ms ≡ p)
+      → (us : List ℕ) × (ms : List ℕ) × (locate T i ≡ located us ms) × (reportOf ((T .writable) i) (capacityIn (length us)) i ms ≡ p)
   unfolding reading
   by-report i p e = go (locate T i) refl
     where
-      go : (v : Located) → locate T i ≡ v → (us : List ℕ) × (ms : List ℕ) × (locate T i ≡ located us ms) × (reportOf ((T .writable) i) i ms ≡ p)
+      go : (v : Located) → locate T i ≡ v → (us : List ℕ) × (ms : List ℕ) × (locate T i ≡ located us ms) × (reportOf ((T .writable) i) (capacityIn (length us)) i ms ≡ p)
       go (refuse r) q = let e′ : unreadable r ≡ reads p = rw q at e in absurd (nope (cc))
-      go (located us ms) q = let e′ : reads (reportOf ((T .writable) i) i ms) ≡ reads p = rw q at e in (us, ms, q, cc)
+      go (located us ms) q = let e′ : reads (reportOf ((T .writable) i) (capacityIn (length us)) i ms) ≡ reads p = rw q at e in (us, ms, q, cc)
+
+  -- the message TLV, by its length field
+  pub located-field : (i us ms : List ℕ) → locate T i ≡ located us ms
+      → (n : ℕ) × (ws : List ℕ) × (lengthOf i us ≡ len n ws) × (take n ws ≡ ms)
+  unfolding locate
+  located-field i us ms e =
+      let p : TlvPlaced i us = located-placed i us ms e in
+      let e′ : locateBy us (lengthOf i us) ≡ located us ms = sym (rw (p .sound) (rw (p .tlv-at))) ∙ e in
+      let (u, n, ws, f, t) = locateBy-is us ms us (lengthOf i us) e′ in
+      (n, ws, f, t)
+
+  -- a tag that reads has a usable byte for the length
+  pub some-usable : (i : List ℕ) (p : Report) → reading T i ≡ reads p → 0 < length (usable (locate T i))
+  some-usable i p e =
+      let (us, ms, q, r) = by-report i p e in
+      let (n, ws, f, t) = located-field i us ms q in
+      rw q (length-some i us ws n f)
 
   -- its usable addresses are those of the message TLV
   pub usable-is : (i us : List ℕ) → TlvPlaced i us → (heldOf (reading T i) ≡ broken → ⊥) → usable (locate T i) ≡ us
@@ -204,12 +225,12 @@ module _ (T : TlvTag) (laws : TlvLaws T) where
       first-quiet l e = same-held ∙ located-quiet ((T .writable) j) us j l e
 
       -- what it holds fits
-      pub held-fits : (m : List ℕ) → heldOf (reading T j) ≡ holds m → fitsIn (length m) (length us) ≡ true
+      pub held-fits : (m : List ℕ) → heldOf (reading T j) ≡ holds m → length m ≤ capacityIn (length us)
       held-fits m e = located-fits ((T .writable) j) us j m (sym same-held ∙ e)
 
       -- so it holds no message that does not fit
-      pub too-long : (m : List ℕ) → fitsIn (length m) (length us) ≡ false → heldOf (reading T j) ≡ holds m → ⊥
-      too-long m f e = true-false (held-fits m e) f
+      pub too-long : (m : List ℕ) → capacityIn (length us) < length m → heldOf (reading T j) ≡ holds m → ⊥
+      too-long m l e = omega (arith, held-fits m e)
 
   -- what writing sets
   module _ (i m us : List ℕ) (r : TlvReady T i m us) where
@@ -222,11 +243,11 @@ module _ (T : TlvTag) (laws : TlvLaws T) where
         let j = overlay us (tlvBytes m) i in
         let p = r .placed in
         let b : length i ≤ 65534 = bounds i us p .1 in
-        let w : Written us m j = written (length i) us m i (p .at) (beyond i us p .1) (omega arith) b (r .room) in
+        let w : Written us m j = written (length i) us m i (p .at) (beyond i us p .1) (omega arith) b (fits T i m us r) in
         same-held i us p j (length-overlay us (tlvBytes m) i) new-agrees ∙ located-written ((T .writable) j) us m j w (r .some-bytes)
 
     pub some-room : 0 < length us
-    some-room = omega (arith, fits-less (length m) (length us) (r .room))
+    some-room = omega (arith, fits-less (length us) (length m) (r .some-bytes) (r .room))
 
     -- a message that fits is held by an image of equal length that agrees wherever no byte is to be set
     pub long-enough : (length (overlay us (tlvBytes m) i) ≡ length i)

@@ -20,33 +20,44 @@ use Rattle.tag.proofs.Guarded.{Cell, shut, old, fresh, Between}
 use Rattle.tag.proofs.Blocks.{block-of}
 use Rattle.tag.proofs.Writes.{Sound}
 use Rattle.tag.proofs.Laws.{Near}
-use Rattle.tlv_tag.specs.Message.{TlvTag, locate, reportOf, reading}
-use Rattle.tlv_tag.specs.Update.{usable, fitsIn, tlvBytes, lengthAt, plan}
+use Rattle.tlv_tag.specs.Message.{TlvTag, locate, capacityIn, reportOf, reading}
+use Rattle.tlv_tag.specs.Update.{usable, tlvBytes, lengthAt, plan}
 use Rattle.tlv_tag.specs.Tag.{tagOf}
 use Rattle.tlv_tag.proofs.Field.{first-set}
 use Rattle.tlv_tag.proofs.Tag as tlv
 use Rattle.tlv_tag.proofs.Tag.{TlvLaws, TlvPlaced, located-placed, reads-located, by-report, usable-is}
 
-pub report-writable : (w : Bool) (i ms : List ℕ) → reportOf w i ms .writable ≡ w
-report-writable w i [] = refl
-report-writable w i (a ∷ ms) = refl
+pub report-writable : (w : Bool) (c : ℕ) (i ms : List ℕ) → reportOf w c i ms .writable ≡ w
+report-writable w c i [] = refl
+report-writable w c i (a ∷ ms) = refl
+
+pub report-capacity : (w : Bool) (c : ℕ) (i ms : List ℕ) → reportOf w c i ms .capacity ≡ c
+report-capacity w c i [] = refl
+report-capacity w c i (a ∷ ms) = refl
 
 module _ (K : TlvTag) where
   -- the usable addresses after the type byte
   abbrev pub room : List ℕ → List ℕ
   room i = usable (locate K i)
 
-  pub placed : (i : List ℕ) (p : Report) → reading K i ≡ reads p → TlvPlaced K i (room i) × (p .writable ≡ (K .writable) i)
+  pub placed : (i : List ℕ) (p : Report) → reading K i ≡ reads p
+      → TlvPlaced K i (room i) × (p .writable ≡ (K .writable) i) × (p .capacity ≡ capacityIn (length (room i)))
   placed i p e =
       let (us, ms, q, f) = by-report K i p e in
-      (rw q (located-placed K i us ms q), ap (λ r. r .writable) (sym f) ∙ report-writable ((K .writable) i) i ms)
+      let c = capacityIn (length us) in (
+        rw q (located-placed K i us ms q),
+        ap (λ r. r .writable) (sym f) ∙ report-writable ((K .writable) i) c i ms,
+        rw q (ap (λ r. r .capacity) (sym f) ∙ report-capacity ((K .writable) i) c i ms),
+      )
 
 module _ (K : TlvTag) (laws : TlvLaws K) (command : List ℕ → List ℕ → Command) (span : List ℕ → List ℕ → ℕ) (encoded : List Store → List ℕ) where
   abbrev T : TagType
   T = tagOf K command span encoded
 
   pub prepared : (i m : List ℕ) → Ready T i m → tlv.TlvReady K i m (room K i)
-  prepared i m r = record { placed = placed K i (r .report) (r .reads-as) .0; some-bytes = r .some-bytes; room = r .room }
+  prepared i m r =
+      let (at, writable, capacity) = placed K i (r .report) (r .reads-as) in
+      record { placed = at; some-bytes = r .some-bytes; room = omega (arith, capacity, r .room) }
 
   module _ (i m : List ℕ) (r : Ready T i m) where
     abbrev us : List ℕ
@@ -114,12 +125,14 @@ module _ (K : TlvTag) (laws : TlvLaws K) (command : List ℕ → List ℕ → Co
       still-ready =
           let (vs, ms, q, p) = reads-located K j (n .readable) in
           record {
-            report = reportOf ((K .writable) j) j ms;
+            report = reportOf ((K .writable) j) (capacityIn (length vs)) j ms;
             reads-as = rw q;
             writable =
-                report-writable ((K .writable) j) j ms ∙ tlv.same-writable K laws i us at j (n .same-length) near
+                report-writable ((K .writable) j) (capacityIn (length vs)) j ms ∙ tlv.same-writable K laws i us at j (n .same-length) near
                 ∙ sym (placed K i (r .report) (r .reads-as) .1) ∙ r .writable;
             some-bytes = r .some-bytes;
             large-blocks = refl;
-            room = ap (λ vs. fitsIn (length m) (length vs)) same-room ∙ r .room;
+            room =
+                let same : capacityIn (length vs) ≡ capacityIn (length us) = ap (λ ws. capacityIn (length ws)) (sym (ap usable q) ∙ same-room) in
+                omega (arith, report-capacity ((K .writable) j) (capacityIn (length vs)) j ms, same, prepared i m r .room);
           }

@@ -2,8 +2,8 @@
 -- Assumes nothing.
 use mathlib.Core.Bool.{Bool, false, not, cond}
 use mathlib.Core.List.{List, [], _∷_, map}
-use Prim.Native.Nat.{ℕ}
-use lib.Dec.{leb}
+use Prim.Native.Nat.{ℕ, _-_}
+use lib.Dec.{leb, ltb}
 use lib.ListN.{length, take}
 use Rattle.tag.specs.Bytes.{byte, consecutive}
 use Rattle.tag.specs.Refusals.{bad-length}
@@ -42,20 +42,26 @@ locateAfter T i (fault r) = refuse r
 unfoldable pub locate : TlvTag → List ℕ → Located
 locate T i = locateAfter T i (firstOf ((T .checks) i))
 
--- length 0 reads as empty; else the message is its value bytes, skipped addresses left out
-abbrev pub reportOf : Bool → List ℕ → List ℕ → Report
-reportOf w i [] = record { content = empty; bytes = []; address = 0; interrupted = false; writable = w }
-reportOf w i (a ∷ ms) = record {
+-- the greatest length that fits, with its length field, in u usable bytes (02, E3); u is at least 1 on a tag that reads
+unfoldable pub capacityIn : ℕ → ℕ
+capacityIn u = cond (ltb u 255) (u - 1) (cond (leb u 257) 254 (u - 3))
+
+-- the report, given whether the tag is writable, its capacity c, and the message's addresses. Length 0 reads as empty; else the
+-- message is its value bytes, skipped addresses left out
+abbrev pub reportOf : Bool → ℕ → List ℕ → List ℕ → Report
+reportOf w c i [] = record { content = empty; bytes = []; address = 0; interrupted = false; writable = w; capacity = c }
+reportOf w c i (a ∷ ms) = record {
   content = message;
   bytes = map (byte i) (a ∷ ms);
   address = a;
   interrupted = not (consecutive (a ∷ ms));
   writable = w;
+  capacity = c;
 }
 
 abbrev pub readingOf : Bool → List ℕ → Located → Reading
 readingOf w i (refuse r) = unreadable r
-readingOf w i (located us ms) = reads (reportOf w i ms)
+readingOf w i (located us ms) = reads (reportOf w (capacityIn (length us)) i ms)
 
 unfoldable pub reading : TlvTag → List ℕ → Reading
 reading T i = readingOf ((T .writable) i) i (locate T i)

@@ -6,7 +6,7 @@ use Prim.Native.Nat.{ℕ}
 use Rattle.tag.specs.Stores.{Store, Command}
 use Rattle.tag.specs.TagType.{TagType}
 use Rattle.tlv_tag.specs.Message.{TlvTag, reading}
-use Rattle.tlv_tag.specs.Update.{fits, plan}
+use Rattle.tlv_tag.specs.Update.{plan}
 
 -- given its TLV area and its commands: what command the tag handed in takes bytes for, how many bytes of a list one command takes,
 -- and the bytes of a command
@@ -15,7 +15,6 @@ tagOf K command span encoded = record {
   reading = reading K;
   -- no block is too small
   blocks-suffice = λ i. true;
-  fits = fits K;
   plan = plan K;
   command = command;
   span = span;

@@ -1,8 +1,9 @@
--- Writing a message to a tag that has a TLV area: whether it fits, and which bytes are set.
+-- Writing a message to a tag that has a TLV area: which bytes are set, and 01's own words for what fits.
 -- Assumes nothing.
-use mathlib.Core.Bool.{Bool, cond}
+use mathlib.Core.Bool.{cond}
+use mathlib.Core.Logic.{_⊎_}
 use mathlib.Core.List.{List, [], _∷_, _++_}
-use Prim.Native.Nat.{ℕ, _+_, _/_, _%_}
+use Prim.Native.Nat.{ℕ, _+_, _/_, _%_, _≤_}
 use lib.Dec.{leb}
 use lib.ListN.{length, getD, set}
 use Rattle.tag.specs.Plan.{Plan}
@@ -13,9 +14,10 @@ abbrev pub usable : Located → List ℕ
 usable (refuse r) = []
 usable (located us ms) = us
 
--- a length n fits (the requirements' word): u usable bytes have room for a message of n bytes, with its length
-unfoldable pub fitsIn : ℕ → ℕ → Bool
-fitsIn n u = cond (leb n 254) (leb (1 + n) u) (leb (3 + n) u)
+-- a length n fits (the requirements' word) in u usable bytes, as 01 puts it. No definition uses it: the capacity decides, and it is
+-- proved that the two agree
+abbrev pub Fits : ℕ → ℕ → Type 0
+Fits u n = ((n ≤ 254) × (1 + n ≤ u)) ⊎ ((255 ≤ n) × (3 + n ≤ u))
 
 -- the length in its shortest form
 unfoldable pub lengthField : ℕ → List ℕ
@@ -39,9 +41,6 @@ planBy z us i m = record {
   guard = lengthAt us / z;
   closed = set i (lengthAt us) 0x00;
 }
-
-abbrev pub fits : TlvTag → List ℕ → ℕ → Bool
-fits T i n = fitsIn n (length (usable (locate T i)))
 
 abbrev pub plan : TlvTag → List ℕ → List ℕ → Plan
 plan T i m = planBy (T .block-size) (usable (locate T i)) i m

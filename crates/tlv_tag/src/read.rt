@@ -1,5 +1,6 @@
 // Reading the message of a tag that has a TLV area, once the tests of its type have passed.
 
+use crate::capacity;
 use tag::Address;
 use tag::Content;
 use tag::ReadAnswer;
@@ -39,22 +40,24 @@ fn deliver(image: &[u8], gathered: &mut [u8], table: &[u16], w: Walk, report: Re
     ReadAnswer::Reads(report)
 }
 
-// Reads a value of `n` bytes from the walk's place on. A value of length 0 reads as empty.
+// Reads a value of `n` bytes from the walk's place on, on a tag with that capacity. A value of length 0 reads as empty.
 fn read_value(
     image: &[u8],
     gathered: &mut [u8],
     table: &[u16],
     w: Walk,
     n: usize,
+    capacity: usize,
     writable: bool,
 ) -> ReadAnswer
     requires { ⌜ Placed (now image) (now table) w ⌝ }
-    ensures read { λ r. ⌜ ReadOf (valueReading writable (now (image .entry)) n (ahead (now (table .entry)) w)) (now (gathered .entry)) r (now (gathered .exit)) ⌝ }
+    ensures read { λ r. ⌜ ReadOf (valueReading writable capacity (now (image .entry)) n (ahead (now (table .entry)) w)) (now (gathered .entry)) r (now (gathered .exit)) ⌝ }
 {
     if n == 0 {
         return ReadAnswer::Reads(Report {
             content: Content::Empty,
             address: Address(0),
+            capacity,
             length: 0,
             interrupted: false,
             writable,
@@ -66,6 +69,7 @@ fn read_value(
             let report = Report {
                 content: Content::Message,
                 address,
+                capacity,
                 length: n,
                 interrupted,
                 writable,
@@ -88,7 +92,10 @@ fn read_message(
 {
     match w.take_length(image, table) {
         Field::Bad => ReadAnswer::Refused(refusals::BAD_LENGTH),
-        Field::Is(n, v) => read_value(image, gathered, table, v, n, writable),
+        Field::Is(n, v) => {
+            let capacity = capacity::capacity(w, table);
+            read_value(image, gathered, table, v, n, capacity, writable)
+        }
     }
 }
 

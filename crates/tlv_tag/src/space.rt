@@ -1,18 +1,18 @@
 // Where a message goes on a tag that has a TLV area: refusals 6 to 11.
 
+use crate::capacity;
 use crate::read;
 use tag::Address;
 use tag::refusals;
 use tlv::find::Found;
 use tlv::walk::Walk;
-use tlv_value::value;
 ghost use mathlib.Core.Path.{_≡_};
 ghost use mathlib.Core.List.{List};
-ghost use Prim.Native.Nat.{ℕ};
+ghost use Prim.Native.Nat.{ℕ, _<_};
+ghost use lib.ListN.{length};
 ghost use Rattle.tlv.specs.Views.Counted.{Declared};
 ghost use Rattle.tlv.specs.Views.Walks.{ahead, Placed};
 ghost use Rattle.tlv_tag.specs.Message.{located};
-ghost use Rattle.tlv_tag.specs.Update.{fitsIn};
 ghost use Rattle.tlv_tag.specs.Views.Space.{spaceOf, spaceAs, SpaceHere, SpacePlaced};
 ghost use Rattle.tlv_tag.specs.Views.BlankArea.{BlankArea};
 ghost use Rattle.tlv_tag.specs.Views.Reading.{areaLocated, tlvLocated};
@@ -23,22 +23,9 @@ pub enum Space {
     At(Walk),
 }
 
-// Whether a message of `n` bytes, with its length, has room in `room` bytes.
-fn fits(n: usize, room: usize) -> bool
-    ensures { λ r. ⌜ r ≡ fitsIn n room ⌝ }
-{
-    if n <= 254 {
-        return n < room;
-    }
-    if room < n {
-        return false;
-    }
-    3 <= room - n
-}
-
 // Refusals 9, 10 and 11, in this order, for the usable bytes from the walk's place on.
 fn space_at(w: Walk, n: usize, image: &[u8], table: &[u16], writable: bool) -> Space
-    requires { ⌜ Placed (now image) (now table) w ⌝ }
+    requires { ⌜ Placed (now image) (now table) w × (0 < length (ahead (now table) w)) ⌝ }
     ensures is { λ r. ⌜ ((ms : List ℕ) → spaceAs (now (table .entry)) r ≡ spaceOf writable n (located (ahead (now (table .entry)) w) ms)) ⌝ }
     ensures here { λ r. ⌜ SpaceHere (now (image .entry)) (now (table .entry)) n w r ⌝ }
 {
@@ -48,8 +35,7 @@ fn space_at(w: Walk, n: usize, image: &[u8], table: &[u16], writable: bool) -> S
     if !writable {
         return Space::Refused(refusals::NOT_WRITABLE);
     }
-    let room = value::count(w, table);
-    if !fits(n, room) {
+    if capacity::capacity(w, table) < n {
         return Space::Refused(refusals::MESSAGE_TOO_LONG);
     }
     Space::At(w)

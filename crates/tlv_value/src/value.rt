@@ -38,12 +38,15 @@ fn count_usable(table: &[u16], at: Address, end: Address) -> usize
     n as usize
 }
 
-// How many usable bytes are still to come.
+// How many usable bytes are still to come. Where no area is declared, every byte is usable.
 pub fn count(w: Walk, table: &[u16]) -> usize
     requires { ⌜ Within (now table) w ⌝ }
     ensures is { λ r. ⌜ r ≡ length (ahead (now (table .entry)) w) ⌝ }
     ensures few { λ r. ⌜ r ≤ 1024 ⌝ }
 {
+    if w.areas == 0 {
+        return w.end.0 - w.at.0;
+    }
     count_usable(table, w.at, w.end)
 }
 

@@ -20,8 +20,8 @@ plain i p e = go (announce i) e
   where
     go : (v : Announced) → readingOf (mayWrite i) i v ≡ reads p → p .interrupted ≡ false
     go (refuse r) f = absurd (nope (cc))
-    go busy f = let q : without being-written (mayWrite i) ≡ p = cc in ap (λ x. x .interrupted) (sym q)
-    go (announced zero) f = let q : without empty (mayWrite i) ≡ p = cc in ap (λ x. x .interrupted) (sym q)
+    go busy f = let q : without being-written i (mayWrite i) ≡ p = cc in ap (λ x. x .interrupted) (sym q)
+    go (announced zero) f = let q : without empty i (mayWrite i) ≡ p = cc in ap (λ x. x .interrupted) (sym q)
     go (announced (suc k)) f = let q : withMessage (suc k) i (mayWrite i) ≡ p = cc in ap (λ x. x .interrupted) (sym q)
 
 -- reading does not look at the IDm: any eight bytes will do

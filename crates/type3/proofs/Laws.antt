@@ -26,7 +26,7 @@ use Rattle.type3.specs.Update.{blocksFor, blocksPerCommand, addresses, l
 use Rattle.type3.specs.Codec.{decode, commandOf}
 use Rattle.type3.specs.Type3.{type3}
 use Rattle.type3.proofs.Codec.{rising-listable, blocksOf, Sendable, sent, span-sent, some-sent}
-use Rattle.type3.proofs.Message.{bounds, Agrees, same-sum, same-nmaxb, numbered, reads-writable, reads-passes}
+use Rattle.type3.proofs.Message.{bounds, Agrees, same-sum, same-nmaxb, numbered, reads-writable, reads-capacity, reads-passes}
 use Rattle.type3.proofs.Shown.{wordless, in-place}
 use Rattle.type3.proofs.Update.{quiet, closed-length, closed-kept, above-addresses, kept-agrees, HasRoom, few-blocks, inside, reads-new}
 
@@ -37,7 +37,7 @@ module _ (idm i m : List ℕ) (r : Ready (type3 idm) i m) where
   ready-room = record {
     passes = reads-passes i (ready-reads (type3 idm) i m r);
     some-bytes = r .some-bytes;
-    room = r .room;
+    room = omega (arith, reads-capacity i (r .report) (r .reads-as), r .room);
   }
 
   ready-writable : mayWrite i ≡ true
@@ -122,7 +122,7 @@ module _ (idm i m j : List ℕ) (r : Ready (type3 idm) i m) (n : Near (type3 idm
             writable = reads-writable j p q ∙ rw (same-2, same-10) (ready-writable idm i m r);
             some-bytes = r .some-bytes;
             large-blocks = refl;
-            room = rw (same-nmaxb j i near-agrees) (r .room);
+            room = omega (arith, reads-capacity j p q, same-nmaxb j i near-agrees, ready-room idm i m r .room);
           }
 
   near-values : values j m ≡ values i m

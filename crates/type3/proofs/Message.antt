@@ -14,9 +14,8 @@ use Rattle.tag.specs.Checks.{Checked, fine, fault, firstOf}
 use Rattle.tag.specs.Reading.{empty, being-written, Report, unreadable, reads, broken, nothing, holds, heldOf}
 use Rattle.tag.proofs.Logic.{and-three, and-both, lengths, nope}
 use Rattle.tag.proofs.Checks.{AllPass, fine-all, all-fine, OfReading, first-among}
-use Rattle.type3.specs.AttributeInformation.{steadySum, nmaxbOf, attributeInformation, attributeChecks, mayWrite}
+use Rattle.type3.specs.AttributeInformation.{steadySum, nmaxbOf, capacity, attributeInformation, attributeChecks, mayWrite}
 use Rattle.type3.specs.Message.{Announced, refuse, busy, announced, announceBy, announce, without, withMessage, readingOf, reading}
-use Rattle.type3.specs.Update.{fits}
 
 -- ---- the checks
 
@@ -89,8 +88,8 @@ unfolding reading announceBy
 passes-reads i e = rw e (go (eqb (byte i 9) 0x0F) (attributeInformation i .ln))
   where
     go : (b : Bool) (n : ℕ) → (p : Report) × (readingOf (mayWrite i) i (cond b busy (announced n)) ≡ reads p)
-    go true n = (without being-written (mayWrite i), refl)
-    go false zero = (without empty (mayWrite i), refl)
+    go true n = (without being-written i (mayWrite i), refl)
+    go false zero = (without empty i (mayWrite i), refl)
     go false (suc n) = (withMessage (suc n) i (mayWrite i), refl)
 
 -- a tag that is refused has failed one of them, so its refusal is one of reading's, 1 to 8
@@ -130,16 +129,20 @@ held-open j n c e q z = rw (all-fine (attributeChecks (length j) (attributeInfor
 
 -- ---- a tag that reads
 
--- whether a tag that reads is writable
-writable-as : (w : Bool) (i : List ℕ) (v : Announced) (p : Report) → readingOf w i v ≡ reads p → p .writable ≡ w
-writable-as w i (refuse r) p e = absurd (nope (cc))
-writable-as w i busy p e = let q : without being-written w ≡ p = cc in ap (λ x. x .writable) (sym q)
-writable-as w i (announced zero) p e = let q : without empty w ≡ p = cc in ap (λ x. x .writable) (sym q)
-writable-as w i (announced (suc n)) p e = let q : withMessage (suc n) i w ≡ p = cc in ap (λ x. x .writable) (sym q)
+-- whether a tag that reads is writable, and its capacity
+said-as : (w : Bool) (i : List ℕ) (v : Announced) (p : Report) → readingOf w i v ≡ reads p → (p .writable ≡ w) × (p .capacity ≡ capacity i)
+said-as w i (refuse r) p e = absurd (nope (cc))
+said-as w i busy p e = let q : without being-written i w ≡ p = cc in (ap (λ x. x .writable) (sym q), ap (λ x. x .capacity) (sym q))
+said-as w i (announced zero) p e = let q : without empty i w ≡ p = cc in (ap (λ x. x .writable) (sym q), ap (λ x. x .capacity) (sym q))
+said-as w i (announced (suc n)) p e = let q : withMessage (suc n) i w ≡ p = cc in (ap (λ x. x .writable) (sym q), ap (λ x. x .capacity) (sym q))
 
 pub reads-writable : (i : List ℕ) (p : Report) → reading i ≡ reads p → p .writable ≡ mayWrite i
 unfolding reading
-reads-writable i p e = writable-as (mayWrite i) i (announce i) p e
+reads-writable i p e = said-as (mayWrite i) i (announce i) p e .0
+
+pub reads-capacity : (i : List ℕ) (p : Report) → reading i ≡ reads p → p .capacity ≡ capacity i
+unfolding reading
+reads-capacity i p e = said-as (mayWrite i) i (announce i) p e .1
 
 pub reads-passes : (i : List ℕ) → (heldOf (reading i) ≡ broken → ⊥) → Passes i
 reads-passes i h = go (firstOf (attributeChecks (length i) (attributeInformation i))) refl
@@ -149,7 +152,7 @@ reads-passes i h = go (firstOf (attributeChecks (length i) (attributeInformation
     go (fault r) q = absurd (h (ap heldOf (unread i r q)))
 
 -- what it holds fits
-pub held-fits : (j m : List ℕ) → heldOf (reading j) ≡ holds m → fits j (length m) ≡ true
+pub held-fits : (j m : List ℕ) → heldOf (reading j) ≡ holds m → length m ≤ capacity j
 unfolding reading announceBy
 held-fits j m e = go (eqb (byte j 9) 0x0F) refl
   where
@@ -162,11 +165,11 @@ held-fits j m e = go (eqb (byte j 9) 0x0F) refl
         let g : take (suc n) (drop 16 j) ≡ m = cc in
         omega (arith, length-take (suc n) (drop 16 j), ap length g)
 
-    go : (b : Bool) → eqb (byte j 9) 0x0F ≡ b → fits j (length m) ≡ true
+    go : (b : Bool) → eqb (byte j 9) 0x0F ≡ b → length m ≤ capacity j
     go true q =
         let f : nothing ≡ holds m = rw (all-fine (attributeChecks (length j) (attributeInformation j)) c, q) at e in
         absurd (nope (cc))
     go false q =
         let f : heldOf (readingOf (mayWrite j) j (announced (attributeInformation j .ln))) ≡ holds m
         = rw (all-fine (attributeChecks (length j) (attributeInformation j)) c, q) at e in
-        le-leb (length m) (16 * nmaxbOf j) (omega (arith, by-announced (attributeInformation j .ln) f, ln-fits j c))
+        omega (arith, by-announced (attributeInformation j .ln) f, ln-fits j c)

@@ -15,7 +15,7 @@ use Rattle.tag.specs.Reading.{being-written, empty, message, refusal, answer, a
 use Rattle.tag.proofs.Logic.{lengths}
 use Rattle.tag.proofs.Checks.{fine-all}
 use Rattle.type3.specs.declared.read.AttributeInformation.{AttributeInformation}
-use Rattle.type3.specs.AttributeInformation.{attributeInformation, imageLength, attributeChecks, mayWrite}
+use Rattle.type3.specs.AttributeInformation.{capacity, attributeInformation, imageLength, attributeChecks, mayWrite}
 use Rattle.type3.specs.Message.{busy, announced, announceBy, readingOf, reading}
 use Rattle.type3.specs.Views.AttributeInformation.{WholeBlocks, Says, Attests, answerFor}
 use Rattle.type3.proofs.Message.{Passes, bounds, ln-fits, unread}
@@ -59,16 +59,19 @@ answer-refused i r e = ap (answerOf 0) (unread i r e)
 pub answer-known : (i : List ℕ) (a : AttributeInformation) → firstOf (attributeChecks (length i) (attributeInformation i)) ≡ fine → Attests i a
     → answerFor a ≡ answerOf 0 (reading i)
 unfolding reading announceBy
-answer-known i a e k = rw (e, k .says .busy-is, k .says .writable-is, k .says .ln-is) (go (eqb (byte i 9) 0x0F) (attributeInformation i .ln) (omega (arith, k .reach, k .ln-fits, k .says .ln-is)))
+answer-known i a e k = rw (e, k .says .busy-is, k .says .writable-is, k .says .ln-is, k .says .nmaxb-is) (go (eqb (byte i 9) 0x0F) (attributeInformation i .ln) (omega (arith, k .reach, k .ln-fits, k .says .ln-is)))
   where
     w : Bool
     w = mayWrite i
 
+    c : ℕ
+    c = capacity i
+
     go : (b : Bool) (n : ℕ) → 16 + n ≤ length i
-        → cond b (answer being-written 0 0 false w) (cond (eqb n 0) (answer empty 0 0 false w) (answer message 16 n false w))
+        → cond b (answer being-written 0 0 false w c) (cond (eqb n 0) (answer empty 0 0 false w c) (answer message 16 n false w c))
         ≡ answerOf 0 (readingOf w i (cond b busy (announced n)))
     go true n l = refl
     go false zero l = refl
     go false (suc n) l =
         let whole : length (take (suc n) (drop 16 i)) ≡ suc n = length-take-le (suc n) (drop 16 i) (rw length-drop (omega arith)) in
-        rw (ne-eqb (suc n) 0 (omega arith)) (ap (λ k. answer message 16 k false w) (sym whole))
+        rw (ne-eqb (suc n) 0 (omega arith)) (ap (λ k. answer message 16 k false w c) (sym whole))

@@ -38,8 +38,8 @@ wordless i p e n = go (announce i) e
   where
     go : (v : Announced) → readingOf (mayWrite i) i v ≡ reads p → p .bytes ≡ []
     go (refuse r) f = absurd (nope (cc))
-    go busy f = let q : without being-written (mayWrite i) ≡ p = cc in ap (λ x. x .bytes) (sym q)
-    go (announced zero) f = let q : without empty (mayWrite i) ≡ p = cc in ap (λ x. x .bytes) (sym q)
+    go busy f = let q : without being-written i (mayWrite i) ≡ p = cc in ap (λ x. x .bytes) (sym q)
+    go (announced zero) f = let q : without empty i (mayWrite i) ≡ p = cc in ap (λ x. x .bytes) (sym q)
     go (announced (suc k)) f = let q : withMessage (suc k) i (mayWrite i) ≡ p = cc in absurd (n (ap (λ x. x .content) (sym q)))
 
 pub in-place : (i : List ℕ) (p : Report) → reading i ≡ reads p → p .content ≡ message → p .interrupted ≡ false
@@ -53,11 +53,11 @@ in-place i p e m f = go (announce i) refl e
     go : (v : Announced) → announce i ≡ v → readingOf (mayWrite i) i v ≡ reads p → part (p .address) (length (p .bytes)) i ≡ p .bytes
     go (refuse r) q g = absurd (nope (cc))
     go busy q g =
-        let r : without being-written (mayWrite i) ≡ p = cc in
+        let r : without being-written i (mayWrite i) ≡ p = cc in
         let z : being-written ≡ message = kind being-written (ap (λ x. x .content) (sym r)) in
         absurd (nope (cc))
     go (announced zero) q g =
-        let r : without empty (mayWrite i) ≡ p = cc in
+        let r : without empty i (mayWrite i) ≡ p = cc in
         let z : empty ≡ message = kind empty (ap (λ x. x .content) (sym r)) in
         absurd (nope (cc))
     go (announced (suc k)) q g =

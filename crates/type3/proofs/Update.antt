@@ -20,9 +20,9 @@ use Rattle.tag.proofs.Addresses.{Above, above-unset, overlay-reads, above-run}
 use Rattle.tag.proofs.Runs.{length-run, take-run, map-run}
 use Rattle.tag.proofs.Blocks.{in-block}
 use Rattle.tag.proofs.Guarded.{Cell, shut, old, fresh, Between}
-use Rattle.type3.specs.AttributeInformation.{steadySum, nmaxbOf, attributeInformation}
+use Rattle.type3.specs.AttributeInformation.{steadySum, nmaxbOf, capacity, attributeInformation}
 use Rattle.type3.specs.Message.{reading}
-use Rattle.type3.specs.Update.{fits, blocksFor, addresses, lnSum, valuesBy, body, values, closedSum, closed, plan}
+use Rattle.type3.specs.Update.{blocksFor, addresses, lnSum, valuesBy, body, values, closedSum, closed, plan}
 use Rattle.type3.proofs.Message.{Passes, bounds, ln-fits, steady, Agrees, same-sum, same-nmaxb, checks-of, held-closed, held-open, held-fits}
 
 -- the bytes that writing keeps lie before byte 11, and byte 9 is none of them
@@ -162,15 +162,12 @@ written-of N n s m e = record { b9 = cc e; b11 = cc e; b12 = cc e; b13 = cc e; b
 pub record HasRoom (i m : List ℕ) : Type 0 where
   pub passes : Passes i
   pub some-bytes : length m ≡ 0 → ⊥
-  pub room : fits i (length m) ≡ true
+  pub room : length m ≤ capacity i
 
 module _ (i m : List ℕ) (r : HasRoom i m) where
-  few-bytes : length m ≤ 16 * nmaxbOf i
-  few-bytes = leb-true (length m) (16 * nmaxbOf i) (r .room)
-
   -- all that is written lies in blocks up to Nmaxb, inside the image
   pub few-blocks : blocksFor (length m) ≤ nmaxbOf i
-  few-blocks = omega (arith, few-bytes)
+  few-blocks = omega (arith, r .room)
 
   pub inside : 16 * (1 + blocksFor (length m)) ≤ length i
   inside = omega (arith, few-blocks, bounds i (r .passes) .reach)
@@ -190,7 +187,7 @@ module _ (i m : List ℕ) (r : HasRoom i m) where
       let flag : eqb (byte N 9) 0x00 || eqb (byte N 9) 0x0F ≡ true = rw (w .b9) in
       let sum : attributeInformation N .sum ≡ attributeInformation N .checksum
       = rw (same-sum N i h, w .b9, w .b11, w .b12, w .b13, w .b14, w .b15) (omega arith) in
-      held-open N n (checks-of i N l h (r .passes) flag sum (omega (arith, ln, few-bytes))) (w .b9) ln (r .some-bytes)
+      held-open N n (checks-of i N l h (r .passes) flag sum (omega (arith, ln, r .room))) (w .b9) ln (r .some-bytes)
       ∙ ap holds (sym (map-run n 16 N (omega (arith, l, inside))) ∙ ap (map (byte N)) (sym (take-run n (16 * blocksFor n) 16 (omega arith))) ∙ w .message)
 
   pub reads-new : heldOf (reading (newImage (plan i m) i)) ≡ holds m
@@ -203,7 +200,5 @@ module _ (i m : List ℕ) (r : HasRoom i m) where
   long-enough = (new-length i m, new-agrees i m, reads-new)
 
 -- and one that does not fit is held by no image with the same steady bytes, of whatever length
-pub too-long : (i m j : List ℕ) → fits i (length m) ≡ false → Agrees j i → heldOf (reading j) ≡ holds m → ⊥
-too-long i m j f h e =
-    let q : fits i (length m) ≡ true = rw (same-nmaxb j i h) at (held-fits j m e) in
-    true-false q f
+pub too-long : (i m j : List ℕ) → capacity i < length m → Agrees j i → heldOf (reading j) ≡ holds m → ⊥
+too-long i m j l h e = omega (arith, same-nmaxb j i h, held-fits j m e)

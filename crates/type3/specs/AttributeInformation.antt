@@ -30,6 +30,10 @@ steadySum i = byte i 0 + byte i 1 + byte i 2 + byte i 3 + byte i 4 + byte i 5 + 
 abbrev pub nmaxbOf : List ℕ → ℕ
 nmaxbOf i = 256 * byte i 3 + byte i 4
 
+-- the greatest length that fits: that of the blocks 1 to Nmaxb (02, E3)
+abbrev pub capacity : List ℕ → ℕ
+capacity i = 16 * nmaxbOf i
+
 abbrev pub attributeInformation : List ℕ → AttributeInformation
 attributeInformation i = record {
   version = byte i 0;

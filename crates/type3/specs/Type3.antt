@@ -7,7 +7,7 @@ use Rattle.tag.specs.Bytes.{byte}
 use Rattle.tag.specs.TagType.{TagType}
 use Rattle.type3.specs.AttributeInformation.{nmaxbOf}
 use Rattle.type3.specs.Message.{reading}
-use Rattle.type3.specs.Update.{fits, plan}
+use Rattle.type3.specs.Update.{plan}
 use Rattle.type3.specs.Codec.{decode, commandOf, span, encoded}
 
 -- commands are read by Nbw and Nmaxb of the tag handed in
@@ -16,7 +16,6 @@ type3 idm = record {
   reading = reading;
   -- no block is too small
   blocks-suffice = λ i. true;
-  fits = fits;
   plan = plan;
   command = λ i bytes. commandOf (decode idm (byte i 2) (nmaxbOf i) bytes);
   span = λ i. span;

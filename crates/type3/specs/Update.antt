@@ -1,17 +1,11 @@
--- Writing a message to a Type 3 tag: whether it fits, and which bytes are set.
+-- Writing a message to a Type 3 tag: which bytes are set.
 -- Assumes nothing.
-use mathlib.Core.Bool.{Bool}
 use mathlib.Core.List.{List, [], _∷_, _++_}
 use Prim.Native.Nat.{ℕ, _+_, _-_, _*_, _/_, _%_, min}
-use lib.Dec.{leb}
 use lib.ListN.{length, replicate}
 use Rattle.tag.specs.Bytes.{byte, run, overlay}
 use Rattle.tag.specs.Plan.{Plan}
-use Rattle.type3.specs.AttributeInformation.{steadySum, nmaxbOf}
-
--- a length n fits (the requirements' word): the blocks 1 to Nmaxb have room for it
-abbrev pub fits : List ℕ → ℕ → Bool
-fits i n = leb n (16 * nmaxbOf i)
+use Rattle.type3.specs.AttributeInformation.{steadySum}
 
 -- k: the blocks of a message of n bytes
 abbrev pub blocksFor : ℕ → ℕ

@@ -12,7 +12,7 @@ use tag::version;
 ghost use mathlib.Core.Path.{_≡_};
 ghost use mathlib.Core.Bool.{false};
 ghost use mathlib.Core.List.{[]};
-ghost use Prim.Native.Nat.{_≤_};
+ghost use Prim.Native.Nat.{_*_, _^_, _<_, _≤_};
 ghost use lib.ListN.{length, drop};
 ghost use Rattle.tag.specs.Checks.{firstOf};
 ghost use Rattle.tag.specs.Views.Faults.{faultAs};
@@ -191,22 +191,25 @@ pub fn attribute_information(image: &[u8]) -> Checked
     Checked::Fine(information)
 }
 
-// What the attribute information says of a message.
+// What the attribute information says of a message, and of the room for one.
 fn report(a: AttributeInformation) -> Report
+    requires { ⌜ 16 * a .nmaxb < 2 ^ 32 ⌝ }
     ensures { λ r. ⌜ reportAs r ≡ answerFor a ⌝ }
 {
     let writable = a.writable;
+    let capacity = BLOCK_SIZE * a.nmaxb;
     if a.busy {
-        return without(Content::BeingWritten, writable);
+        return without(Content::BeingWritten, writable, capacity);
     }
     let length = a.ln;
     if length == 0 {
-        return without(Content::Empty, writable);
+        return without(Content::Empty, writable, capacity);
     }
     let address = Block(1).address(BLOCK_SIZE);
     Report {
         content: Content::Message,
         address,
+        capacity,
         length,
         interrupted: false,
         writable,
@@ -214,12 +217,13 @@ fn report(a: AttributeInformation) -> Report
 }
 
 // A tag without a message.
-fn without(content: Content, writable: bool) -> Report
-    ensures { λ r. ⌜ reportAs r ≡ answer (contentOf content) 0 0 false writable ⌝ }
+fn without(content: Content, writable: bool, capacity: usize) -> Report
+    ensures { λ r. ⌜ reportAs r ≡ answer (contentOf content) 0 0 false writable capacity ⌝ }
 {
     Report {
         content,
         address: Address(0),
+        capacity,
         length: 0,
         interrupted: false,
         writable,

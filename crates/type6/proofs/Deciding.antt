@@ -4,7 +4,7 @@ use mathlib.Core.Path.{_≡_, refl, ap, _∙_}
 use mathlib.Core.Bool.{Bool, true, false, not, cond}
 use mathlib.Core.List.{List, [], _∷_}
 use Prim.Native.Nat.{ℕ}
-use lib.Dec.{eqb}
+use lib.Dec.{leb, eqb}
 use lib.ListN.{length}
 use Rattle.tag.specs.Refusals.{empty-message, not-writable, block-too-small, message-too-long}
 use Rattle.tag.specs.Checks.{check, fault, firstOf}
@@ -14,26 +14,27 @@ use Rattle.tag.specs.Views.Faults.{faultAs}
 use Rattle.tag.proofs.Checks.{fine-all}
 use Rattle.tag.proofs.Deciding as tag
 use Rattle.type6.specs.declared.container.Container.{Container}
-use Rattle.type6.specs.Container.{fileAt, nlen, checks, mayWrite}
+use Rattle.type6.specs.Container.{fileAt, capacity, nlen, checks, mayWrite}
 use Rattle.type6.specs.Message.{reportOf, reading}
-use Rattle.type6.specs.Update.{blocksSuffice, fits, plan}
+use Rattle.type6.specs.Update.{blocksSuffice, plan}
 use Rattle.type6.specs.Type6.{type6}
 use Rattle.type6.specs.Views.Container.{Readable}
 use Rattle.type6.specs.Views.Space.{refusalFor}
-use Rattle.type6.proofs.Message.{unread, passes-reads, reads-writable}
+use Rattle.type6.proofs.Message.{unread, passes-reads, reads-writable, reads-capacity}
 
 module _ (i m : List ℕ) where
   pub writing-unread : (r : ℕ) → firstOf (checks i) ≡ fault r → writing type6 i m ≡ refused-write r
   writing-unread r e = tag.writing-unread type6 i m r (unread i r e)
 
   module _ (c : Container) (known : Readable i c) where
-    reads-as : reading i ≡ reads (reportOf (mayWrite i) (fileAt i) i (nlen i))
+    reads-as : reading i ≡ reads (reportOf (mayWrite i) (capacity i) (fileAt i) i (nlen i))
     reads-as = passes-reads i (fine-all (checks i) (known .passes))
 
     left-is : (p : Report) → reading i ≡ reads p → faultAs (refusalFor c (length m)) ≡ firstOf (checksOf type6 i m p)
     left-is p q =
         let s = known .known .says in
-        rw (reads-writable i p q, s .writable-is, s .size-is, s .capacity-is) (go (eqb (length m) 0) (mayWrite i) (blocksSuffice i) (fits i (length m)))
+        rw (reads-writable i p q, reads-capacity i p q, s .writable-is, s .size-is, s .capacity-is)
+        (go (eqb (length m) 0) (mayWrite i) (blocksSuffice i) (leb (length m) (capacity i)))
       where
         go : (none may large room : Bool)
             → faultAs (cond none empty-message (cond may (cond large (cond room 0 message-too-long) block-too-small) not-writable))

@@ -8,18 +8,18 @@ use lib.ListN.{length}
 use Rattle.tag.specs.Reading.{Report, reads, Answer, answerOf, gatheredInto, shown, heldOf}
 use Rattle.tag.specs.Answers.{heldBy}
 use Rattle.tag.proofs.Showing.{held-shown}
-use Rattle.type6.specs.Container.{fileAt, nlen, mayWrite}
+use Rattle.type6.specs.Container.{fileAt, capacity, nlen, mayWrite}
 use Rattle.type6.specs.Message.{reportOf, reading}
 use Rattle.type6.specs.Type6.{type6}
 use Rattle.type6.proofs.Message.{report-is}
 use Rattle.type6.proofs.Laws.{type6-laws}
 
 pub plain : (i : List ℕ) (p : Report) → reading i ≡ reads p → p .interrupted ≡ false
-plain i p e = ap (λ x. x .interrupted) (sym (report-is i p e .1)) ∙ go (mayWrite i) (fileAt i) (nlen i)
+plain i p e = ap (λ x. x .interrupted) (sym (report-is i p e .1)) ∙ go (mayWrite i) (capacity i) (fileAt i) (nlen i)
   where
-    go : (w : Bool) (f n : ℕ) → reportOf w f i n .interrupted ≡ false
-    go w f zero = refl
-    go w f (suc n) = refl
+    go : (w : Bool) (c f n : ℕ) → reportOf w c f i n .interrupted ≡ false
+    go w c f zero = refl
+    go w c f (suc n) = refl
 
 pub held-read : (i before after : List ℕ) (a : Answer) (part : List ℕ)
     → a ≡ answerOf (length before) (reading i) → after ≡ gatheredInto before (reading i) → part ≡ shown i after a

@@ -20,13 +20,13 @@ use Rattle.tag.proofs.Blocks.{in-block}
 use Rattle.tag.proofs.Writes.{Sound}
 use Rattle.tag.proofs.Sending.{Named, Sized, Nameable, list-good}
 use Rattle.tag.proofs.Laws.{Sent, Near, Laws, ready-reads}
-use Rattle.type6.specs.Container.{blockSize, blockCount, fileBlock, fileAt, mayWrite}
+use Rattle.type6.specs.Container.{blockSize, blockCount, fileBlock, fileAt, capacity, mayWrite}
 use Rattle.type6.specs.Message.{reading}
 use Rattle.type6.specs.Update.{blocksSuffice, addresses, values, plan}
 use Rattle.type6.specs.Codec.{nameable}
 use Rattle.type6.specs.Type6.{commandBy, type6}
 use Rattle.type6.proofs.Codec.{Sendable, sent, length-sent}
-use Rattle.type6.proofs.Message.{size-defined, Passes, Bounds, bounds, Agrees, same-file, numbered, reads-writable, reads-passes}
+use Rattle.type6.proofs.Message.{size-defined, Passes, Bounds, bounds, Agrees, same-file, numbered, reads-writable, reads-capacity, reads-passes}
 use Rattle.type6.proofs.Shown.{wordless, in-place}
 use Rattle.type6.proofs.Update.{closed-length, closed-kept, kept-agrees, quiet, HasRoom, reads-new}
 
@@ -48,7 +48,7 @@ module _ (i m : List ℕ) (r : Ready type6 i m) where
   ready-room = record {
     passes = reads-passes i (ready-reads type6 i m r);
     some-bytes = r .some-bytes;
-    room = r .room;
+    room = omega (arith, reads-capacity i (r .report) (r .reads-as), r .room);
   }
 
   known : Bounds i
@@ -128,7 +128,9 @@ module _ (i m j : List ℕ) (r : Ready type6 i m) (n : Near type6 i m j) where
         writable = reads-writable j p q ∙ rw e6 (ready-writable i m r);
         some-bytes = r .some-bytes;
         large-blocks = rw e5 (r .large-blocks);
-        room = rw (e5, e7) (r .room);
+        room =
+            let same : capacity j ≡ capacity i = rw (e5, e7) in
+            omega (arith, reads-capacity j p q, same, ready-room i m r .room);
       }
 
   near-command : (bytes : List ℕ) → commandBy (blockSize j) (blockCount j) bytes ≡ commandBy (blockSize i) (blockCount i) bytes

@@ -19,7 +19,6 @@ use Rattle.tag.proofs.Runs.{map-run}
 use Rattle.tag.proofs.Chunks.{rounded-up}
 use Rattle.type6.specs.Container.{sizeBy, blockSize, blockCount, containerBlocks, fileBlock, fileAt, fileRoom, capacity, nlenAt, nlen, checks, mayWrite}
 use Rattle.type6.specs.Message.{reportOf, reading}
-use Rattle.type6.specs.Update.{fits}
 use Rattle.type6.specs.Codec.{sizeDefined}
 
 -- ---- the checks
@@ -128,7 +127,7 @@ pub unread : (i : List ℕ) (r : ℕ) → firstOf (checks i) ≡ fault r → rea
 unfolding reading
 unread i r e = rw e
 
-pub passes-reads : (i : List ℕ) → Passes i → reading i ≡ reads (reportOf (mayWrite i) (fileAt i) i (nlen i))
+pub passes-reads : (i : List ℕ) → Passes i → reading i ≡ reads (reportOf (mayWrite i) (capacity i) (fileAt i) i (nlen i))
 unfolding reading
 passes-reads i c = rw (all-fine (checks i) c)
 
@@ -138,7 +137,7 @@ numbered i r e = go (firstOf (checks i)) refl
   where
     go : (c : Checked) → firstOf (checks i) ≡ c → OfReading r
     go fine q =
-        let f : reads (reportOf (mayWrite i) (fileAt i) i (nlen i)) ≡ unreadable r = sym (passes-reads i (fine-all (checks i) q)) ∙ e in
+        let f : reads (reportOf (mayWrite i) (capacity i) (fileAt i) i (nlen i)) ≡ unreadable r = sym (passes-reads i (fine-all (checks i) q)) ∙ e in
         absurd (nope (cc))
     go (fault s) q =
         let f : unreadable s ≡ unreadable r = sym (unread i s q) ∙ e in
@@ -163,22 +162,26 @@ reads-passes i h = go (firstOf (checks i)) refl
     go (fault r) q = absurd (h (ap heldOf (unread i r q)))
 
 -- the report of a tag that reads
-pub report-is : (i : List ℕ) (p : Report) → reading i ≡ reads p → Passes i × (reportOf (mayWrite i) (fileAt i) i (nlen i) ≡ p)
+pub report-is : (i : List ℕ) (p : Report) → reading i ≡ reads p → Passes i × (reportOf (mayWrite i) (capacity i) (fileAt i) i (nlen i) ≡ p)
 report-is i p e = go (firstOf (checks i)) refl
   where
-    go : (c : Checked) → firstOf (checks i) ≡ c → Passes i × (reportOf (mayWrite i) (fileAt i) i (nlen i) ≡ p)
+    go : (c : Checked) → firstOf (checks i) ≡ c → Passes i × (reportOf (mayWrite i) (capacity i) (fileAt i) i (nlen i) ≡ p)
     go (fault r) q = let f : unreadable r ≡ reads p = sym (unread i r q) ∙ e in absurd (nope (cc))
     go fine q =
         let c : Passes i = fine-all (checks i) q in
-        let f : reads (reportOf (mayWrite i) (fileAt i) i (nlen i)) ≡ reads p = sym (passes-reads i c) ∙ e in
+        let f : reads (reportOf (mayWrite i) (capacity i) (fileAt i) i (nlen i)) ≡ reads p = sym (passes-reads i c) ∙ e in
         (c, cc)
 
-report-writable : (w : Bool) (f : ℕ) (i : List ℕ) (n : ℕ) → reportOf w f i n .writable ≡ w
-report-writable w f i zero = refl
-report-writable w f i (suc n) = refl
+-- whether it is writable, and its capacity
+report-says : (w : Bool) (c f : ℕ) (i : List ℕ) (n : ℕ) → (reportOf w c f i n .writable ≡ w) × (reportOf w c f i n .capacity ≡ c)
+report-says w c f i zero = (refl, refl)
+report-says w c f i (suc n) = (refl, refl)
 
 pub reads-writable : (i : List ℕ) (p : Report) → reading i ≡ reads p → p .writable ≡ mayWrite i
-reads-writable i p e = ap (λ x. x .writable) (sym (report-is i p e .1)) ∙ report-writable (mayWrite i) (fileAt i) i (nlen i)
+reads-writable i p e = ap (λ x. x .writable) (sym (report-is i p e .1)) ∙ report-says (mayWrite i) (capacity i) (fileAt i) i (nlen i) .0
+
+pub reads-capacity : (i : List ℕ) (p : Report) → reading i ≡ reads p → p .capacity ≡ capacity i
+reads-capacity i p e = ap (λ x. x .capacity) (sym (report-is i p e .1)) ∙ report-says (mayWrite i) (capacity i) (fileAt i) i (nlen i) .1
 
 -- ---- what a tag that passes them holds
 
@@ -186,22 +189,23 @@ reads-writable i p e = ap (λ x. x .writable) (sym (report-is i p e .1)) ∙ rep
 pub held-empty : (j : List ℕ) → Passes j → nlen j ≡ 0 → heldOf (reading j) ≡ nothing
 held-empty j c e = rw (passes-reads j c) (rw e)
 
-report-some : (w : Bool) (f : ℕ) (j : List ℕ) (n : ℕ) → (n ≡ 0 → ⊥) → heldOf (reads (reportOf w f j n)) ≡ holds (take n (drop (2 + f) j))
-report-some w f j zero z = absurd (z refl)
-report-some w f j (suc n) z = refl
+report-some : (w : Bool) (c f : ℕ) (j : List ℕ) (n : ℕ) → (n ≡ 0 → ⊥) → heldOf (reads (reportOf w c f j n)) ≡ holds (take n (drop (2 + f) j))
+report-some w c f j zero z = absurd (z refl)
+report-some w c f j (suc n) z = refl
 
 pub held-some : (j : List ℕ) (n : ℕ) → Passes j → nlen j ≡ n → (n ≡ 0 → ⊥) → heldOf (reading j) ≡ holds (take n (drop (2 + fileAt j) j))
 held-some j n c e z =
-    ap heldOf (passes-reads j c) ∙ ap (λ k. heldOf (reads (reportOf (mayWrite j) (fileAt j) j k))) e ∙ report-some (mayWrite j) (fileAt j) j n z
+    ap heldOf (passes-reads j c) ∙ ap (λ k. heldOf (reads (reportOf (mayWrite j) (capacity j) (fileAt j) j k))) e
+    ∙ report-some (mayWrite j) (capacity j) (fileAt j) j n z
 
 -- what it holds fits
-pub held-fits : (j m : List ℕ) → heldOf (reading j) ≡ holds m → fits j (length m) ≡ true
+pub held-fits : (j m : List ℕ) → heldOf (reading j) ≡ holds m → length m ≤ capacity j
 held-fits j m e =
     let c : Passes j = reads-passes j (λ f. nope (cc)) in
-    let f : heldOf (reads (reportOf (mayWrite j) (fileAt j) j (nlen j))) ≡ holds m = sym (ap heldOf (passes-reads j c)) ∙ e in
-    le-leb (length m) (capacity j) (omega (arith, by-length (nlen j) f, bounds j c .nlen-fits))
+    let f : heldOf (reads (reportOf (mayWrite j) (capacity j) (fileAt j) j (nlen j))) ≡ holds m = sym (ap heldOf (passes-reads j c)) ∙ e in
+    omega (arith, by-length (nlen j) f, bounds j c .nlen-fits)
   where
-    by-length : (n : ℕ) → heldOf (reads (reportOf (mayWrite j) (fileAt j) j n)) ≡ holds m → length m ≤ n
+    by-length : (n : ℕ) → heldOf (reads (reportOf (mayWrite j) (capacity j) (fileAt j) j n)) ≡ holds m → length m ≤ n
     by-length zero f = absurd (nope (cc))
     by-length (suc n) f =
         let g : take (suc n) (drop (2 + fileAt j) j) ≡ m = cc in

@@ -19,7 +19,7 @@ use Rattle.tag.proofs.Chunks.{rounded-up}
 use Rattle.type6.specs.declared.container.Container.{Container}
 use Rattle.type6.specs.declared.container.Checked as code
 use Rattle.type6.specs.declared.container.Checked.the-variants as checked
-use Rattle.type6.specs.Container.{letters, blockSize, blockCount, containerBlocks, fileBy, fileAt, fileRoom, nlenAt, nlen, fileChecks, sizeChecks, checks, mayWrite}
+use Rattle.type6.specs.Container.{letters, blockSize, blockCount, containerBlocks, fileBy, fileAt, fileRoom, capacity, nlenAt, nlen, fileChecks, sizeChecks, checks, mayWrite}
 use Rattle.type6.specs.Message.{reportOf, reading}
 use Rattle.type6.specs.Views.Container.{checkedAs, Says, Attests, Readable, Known, answerFor}
 use Rattle.type6.proofs.Message.{size-bounds, Passes, bounds, unread, passes-reads}
@@ -155,7 +155,7 @@ answer-refused i r e = ap (answerOf 0) (unread i r e)
 pub answer-known : (i : List ℕ) (c : Container) → Readable i c → answerFor c ≡ answerOf 0 (reading i)
 answer-known i c h =
     let k = h .known in
-    rw (k .says .nlen-is, k .says .file-is, k .says .writable-is) (go (nlen i) (omega (arith, k .inside, k .nlen-fits, k .says .nlen-is, k .says .file-is)))
+    rw (k .says .nlen-is, k .says .file-is, k .says .writable-is, k .says .capacity-is) (go (nlen i) (omega (arith, k .inside, k .nlen-fits, k .says .nlen-is, k .says .file-is)))
     ∙ sym (ap (answerOf 0) (passes-reads i (fine-all (checks i) (h .passes))))
   where
     w : Bool
@@ -164,9 +164,12 @@ answer-known i c h =
     f : ℕ
     f = fileAt i
 
+    most : ℕ
+    most = capacity i
+
     go : (n : ℕ) → f + 2 + n ≤ length i
-        → cond (eqb n 0) (answer empty 0 0 false w) (answer message (2 + f) n false w) ≡ answerOf 0 (reads (reportOf w f i n))
+        → cond (eqb n 0) (answer empty 0 0 false w most) (answer message (2 + f) n false w most) ≡ answerOf 0 (reads (reportOf w most f i n))
     go zero l = refl
     go (suc n) l =
         let whole : length (take (suc n) (drop (2 + f) i)) ≡ suc n = length-take-le (suc n) (drop (2 + f) i) (rw length-drop (omega arith)) in
-        rw (ne-eqb (suc n) 0 (omega arith)) (ap (λ k. answer message (2 + f) k false w) (sym whole))
+        rw (ne-eqb (suc n) 0 (omega arith)) (ap (λ k. answer message (2 + f) k false w most) (sym whole))

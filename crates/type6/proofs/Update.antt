@@ -8,7 +8,7 @@ use mathlib.Core.Logic.{_⊎_, inl, inr}
 use mathlib.Core.List.{List, [], _∷_, _++_, map, append-nil}
 use Prim.Native.Nat.{ℕ, suc, _+_, _-_, _/_, _%_, _<_, _≤_}
 use native.Mathlib.Omega.{arith}
-use borrow.Author.Tests.{ne-eqb, leb-true, lt-leb, le-ltb}
+use borrow.Author.Tests.{ne-eqb, lt-leb, le-ltb}
 use lib.Dec.{leb, ltb, eqb}
 use lib.ListN.{length, take, drop}
 use Rattle.tag.specs.Bytes.{byte, run, overlay, isSet}
@@ -22,7 +22,7 @@ use Rattle.tag.proofs.Blocks.{in-block}
 use Rattle.tag.proofs.Guarded.{Cell, shut, old, fresh, Between}
 use Rattle.type6.specs.Container.{blockSize, fileBlock, fileAt, fileRoom, capacity, nlenAt}
 use Rattle.type6.specs.Message.{reading}
-use Rattle.type6.specs.Update.{fits, addresses, values, closedAt, plan}
+use Rattle.type6.specs.Update.{addresses, values, closedAt, plan}
 use Rattle.type6.proofs.Message.{Passes, bounds, Agrees, same-file, checks-of, held-empty, held-some, held-fits}
 
 -- ---- the closed image
@@ -118,7 +118,7 @@ quiet i m j c s b = held-empty j (checks-of i j (b .0) agrees c (omega (arith, a
 pub record HasRoom (i m : List ℕ) : Type 0 where
   pub passes : Passes i
   pub some-bytes : length m ≡ 0 → ⊥
-  pub room : fits i (length m) ≡ true
+  pub room : length m ≤ capacity i
 
 split : (N : List ℕ) (f n a b : ℕ) (m : List ℕ) → map (byte N) (run f (suc (suc n))) ≡ a ∷ b ∷ m
     → (byte N f ≡ a) × (byte N (suc f) ≡ b) × (map (byte N) (run (suc (suc f)) n) ≡ m)
@@ -136,12 +136,9 @@ set-reads f i m p l =
     ap (λ us. map (byte (overlay (addresses f m) (values m) i)) (f ∷ suc f ∷ us)) (sym (take-run (length m) (length m) (suc (suc f)) (omega arith))) ∙ g
 
 module _ (i m : List ℕ) (r : HasRoom i m) where
-  pub few-bytes : length m ≤ capacity i
-  few-bytes = leb-true (length m) (capacity i) (r .room)
-
   -- all that is written lies inside the image
   pub inside : 2 + fileAt i + length m ≤ length i
-  inside = let b = bounds i (r .passes) in omega (arith, b .inside, b .room, few-bytes)
+  inside = let b = bounds i (r .passes) in omega (arith, b .inside, b .room, r .room)
 
   pub reads-new : heldOf (reading (newImage (plan i m) i)) ≡ holds m
   reads-new =
@@ -151,7 +148,7 @@ module _ (i m : List ℕ) (r : HasRoom i m) where
       (set-reads (fileAt i) i m (bounds i (r .passes) .past) inside) in
       let n : nlenAt (fileAt i) (newImage (plan i m) i) ≡ length m = rw (low, high) (omega arith) in
       let c : Passes (newImage (plan i m) i)
-      = checks-of i (newImage (plan i m) i) (new-length i m) a (r .passes) (omega (arith, n, few-bytes)) in
+      = checks-of i (newImage (plan i m) i) (new-length i m) a (r .passes) (omega (arith, n, r .room)) in
       held-some (newImage (plan i m) i) (length m) c (ap (λ f. nlenAt f (newImage (plan i m) i)) (same-file (newImage (plan i m) i) i a) ∙ n) (r .some-bytes)
       ∙ ap (λ f. holds (take (length m) (drop (2 + f) (newImage (plan i m) i)))) (same-file (newImage (plan i m) i) i a)
       ∙ ap (λ a. holds (take (length m) (drop a (newImage (plan i m) i)))) two
@@ -161,7 +158,7 @@ module _ (i m : List ℕ) (r : HasRoom i m) where
   pub new-outside : (a : ℕ) → (a < fileAt i) ⊎ (fileAt i + fileRoom i ≤ a) → byte (newImage (plan i m) i) a ≡ byte i a
   new-outside a (inl l) = overlay-out (addresses (fileAt i) m) (values m) i a (before-kept i m a l)
   new-outside a (inr l) =
-      let past : 2 + fileAt i + length m ≤ a = omega (arith, l, bounds i (r .passes) .room, few-bytes) in
+      let past : 2 + fileAt i + length m ≤ a = omega (arith, l, bounds i (r .passes) .room, r .room) in
       let e : isSet (addresses (fileAt i) m) (values m) a ≡ false
       = set-is (fileAt i) m a ∙ rw (le-ltb a (fileAt i + (2 + length m)) (omega arith), and-false (leb (fileAt i) a)) in
       overlay-out (addresses (fileAt i) m) (values m) i a (ap not e)
@@ -169,9 +166,9 @@ module _ (i m : List ℕ) (r : HasRoom i m) where
 -- ---- refusal 11 is exact
 
 -- a message that does not fit is held by no image with the same container, of whatever length
-pub too-long : (i m j : List ℕ) → fits i (length m) ≡ false → Agrees j i → heldOf (reading j) ≡ holds m → ⊥
-too-long i m j f h e =
+pub too-long : (i m j : List ℕ) → capacity i < length m → Agrees j i → heldOf (reading j) ≡ holds m → ⊥
+too-long i m j l h e =
     let e5 : byte j 5 ≡ byte i 5 = h 5 (omega arith) in
     let e7 : byte j 7 ≡ byte i 7 = h 7 (omega arith) in
-    let q : fits i (length m) ≡ true = rw (e5, e7) at (held-fits j m e) in
-    true-false q f
+    let q : length m ≤ capacity i = rw (e5, e7) at (held-fits j m e) in
+    omega arith

@@ -45,7 +45,7 @@ fileBlock i = containerBlocks (blockSize i)
 abbrev pub fileRoom : List ℕ → ℕ
 fileRoom i = blockSize i * byte i 7
 
--- m, the most bytes of a message
+-- m of 02's E2, the greatest length that fits (E3)
 abbrev pub capacity : List ℕ → ℕ
 capacity i = fileRoom i - 2
 

@@ -6,7 +6,7 @@ use Rattle.tag.specs.Stores.{Command}
 use Rattle.tag.specs.TagType.{TagType}
 use Rattle.type6.specs.Container.{blockSize, blockCount}
 use Rattle.type6.specs.Message.{reading}
-use Rattle.type6.specs.Update.{blocksSuffice, fits, plan}
+use Rattle.type6.specs.Update.{blocksSuffice, plan}
 use Rattle.type6.specs.Codec.{decode, commandOf, encoded}
 
 -- a command read by the block size and the number of blocks
@@ -18,7 +18,6 @@ abbrev pub type6 : TagType
 type6 = record {
   reading = reading;
   blocks-suffice = blocksSuffice;
-  fits = fits;
   plan = plan;
   command = λ i bytes. commandBy (blockSize i) (blockCount i) bytes;
   span = λ i bytes. 3 + blockSize i;

@@ -1,4 +1,4 @@
--- Writing a message to a Type 6 tag: whether its blocks are large enough, whether the message fits, and which bytes are set.
+-- Writing a message to a Type 6 tag: whether its blocks are large enough, and which bytes are set.
 -- Assumes nothing.
 use mathlib.Core.Bool.{Bool}
 use mathlib.Core.List.{List, [], _∷_}
@@ -7,15 +7,11 @@ use lib.Dec.{leb}
 use lib.ListN.{length}
 use Rattle.tag.specs.Bytes.{run, overlay}
 use Rattle.tag.specs.Plan.{Plan}
-use Rattle.type6.specs.Container.{blockSize, fileBlock, fileAt, capacity}
+use Rattle.type6.specs.Container.{blockSize, fileBlock, fileAt}
 
 -- one command sets both bytes of NLEN; 14 if the blocks are too small for that
 abbrev pub blocksSuffice : List ℕ → Bool
 blocksSuffice i = leb 2 (blockSize i)
-
--- a length n fits (the requirements' word): it is at most m
-abbrev pub fits : List ℕ → ℕ → Bool
-fits i n = leb n (capacity i)
 
 -- what writing sets in a file at f: NLEN and the message. Nothing is set after the message
 abbrev pub addresses : ℕ → List ℕ → List ℕ

@@ -16,17 +16,19 @@ ghost use Rattle.tag.specs.Contracts.{Read, Showed};
 ghost use Rattle.type6.specs.Message.{reading};
 ghost use Rattle.type6.specs.Views.Container.{answerFor};
 
-// What the container and NLEN say of a message.
+// What the container and NLEN say of a message, and of the room for one.
 fn report(c: Container) -> Report
     requires { ⌜ c .file .0 < 40 ⌝ }
     ensures { λ r. ⌜ readAs (ReadAnswer.Reads r) ≡ answerFor c ⌝ }
 {
     let writable = c.writable;
+    let capacity = c.capacity;
     let length = c.nlen;
     if length == 0 {
         return Report {
             content: Content::Empty,
             address: Address(0),
+            capacity,
             length: 0,
             interrupted: false,
             writable,
@@ -36,6 +38,7 @@ fn report(c: Container) -> Report
     Report {
         content: Content::Message,
         address: Address(start),
+        capacity,
         length,
         interrupted: false,
         writable,

@@ -46,7 +46,7 @@ packedStoring (gives u) = 0
 
 abbrev pub packedRead : Answer → ℕ
 packedRead (refusal r) = r
-packedRead (answer content a n interrupted w) = 0
+packedRead (answer content a n interrupted w c) = 0
 
 abbrev pub contentNumber : Content → ℕ
 contentNumber message = 1
@@ -57,10 +57,10 @@ abbrev pub flagOf : Bool → ℕ
 flagOf false = 0
 flagOf true = 1
 
--- the report afterwards: content, address, length, interrupted, writable; unchanged after a refusal
+-- the report afterwards: content, address, length, interrupted, writable, capacity; unchanged after a refusal
 abbrev pub reportInto : List ℕ → Answer → List ℕ
 reportInto out (refusal r) = out
-reportInto out (answer content a n interrupted w) = contentNumber content ∷ a ∷ n ∷ flagOf interrupted ∷ flagOf w ∷ []
+reportInto out (answer content a n interrupted w c) = contentNumber content ∷ a ∷ n ∷ flagOf interrupted ∷ flagOf w ∷ c ∷ []
 
 -- ---- decoding
 
@@ -117,10 +117,10 @@ packedSpan list = cond (leb (three.span list) (length list)) (above (three.span 
 abbrev pub PutOutToC : (ℕ → Output) → List ℕ → ℕ → List ℕ → Type 0
 PutOutToC o buffer n out = (n ≡ packedCount (countOf (o (length buffer)))) × (out ≡ outputInto buffer (o (length buffer)))
 
--- a call that answers for a reading, given a gathering buffer and five numbers, answers n and leaves both as gathered and out
+-- a call that answers for a reading, given a gathering buffer and six numbers, answers n and leaves both as gathered and out
 abbrev pub ReadToC : Reading → List ℕ → List ℕ → ℕ → List ℕ → List ℕ → Type 0
-ReadToC v buffer five n gathered out =
-    (n ≡ packedRead (answerOf (length buffer) v)) × (gathered ≡ gatheredInto buffer v) × (out ≡ reportInto five (answerOf (length buffer) v))
+ReadToC v buffer report n gathered out =
+    (n ≡ packedRead (answerOf (length buffer) v)) × (gathered ≡ gatheredInto buffer v) × (out ≡ reportInto report (answerOf (length buffer) v))
 
 -- the model, given a tag and a command, answers n and leaves the tag as j
 abbrev pub TookToC : TagType → List ℕ → List ℕ → ℕ → List ℕ → Type 0

@@ -72,8 +72,8 @@ fn flag(b: bool) -> u64
     if b { 1 } else { 0 }
 }
 
-// What a tag that reads says of itself, as five numbers.
-fn report(p: Report) -> [u64; 5]
+// What a tag that reads says of itself, as six numbers.
+fn report(p: Report) -> [u64; 6]
     ensures { λ r. ⌜ r ≡ reportInto [] (readAs (ReadAnswer.Reads p)) ⌝ }
 {
     let content = p.content;
@@ -81,25 +81,27 @@ fn report(p: Report) -> [u64; 5]
     let writable = p.writable;
     let address = p.address.0;
     let length = p.length;
+    let capacity = p.capacity;
     [
         content_number(content),
         address as u64,
         length as u64,
         flag(interrupted),
         flag(writable),
+        capacity as u64,
     ]
 }
 
 // Reading's answer; what the tag says of itself goes to `out`.
-pub(crate) fn reading(answer: ReadAnswer, out: &mut [u64; 5]) -> u64
+pub(crate) fn reading(answer: ReadAnswer, out: &mut [u64; 6]) -> u64
     ensures { λ r. ⌜ r ≡ packedRead (readAs answer) ⌝ }
     ensures { λ _. ⌜ now (out .exit) ≡ reportInto (now (out .entry)) (readAs answer) ⌝ }
 {
     match answer {
         ReadAnswer::Refused(r) => r as u64,
         ReadAnswer::Reads(p) => {
-            let five = report(p);
-            *out = five;
+            let six = report(p);
+            *out = six;
             0
         }
     }

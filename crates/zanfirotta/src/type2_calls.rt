@@ -14,7 +14,7 @@ ghost use Rattle.type2.specs.Codec.{encode, decode};
 ghost use Rattle.zanfirotta.specs.Packed.{PutOutToC, ReadToC, TookToC, packedVerdict, packedDecoded2, blockInto, dataInto};
 
 #[no_mangle]
-pub extern "C" fn zan_type2_read(image: &[u8], gathered: &mut [u8], out: &mut [u64; 5]) -> u64
+pub extern "C" fn zan_type2_read(image: &[u8], gathered: &mut [u8], out: &mut [u64; 6]) -> u64
     ensures { λ r. ⌜ ReadToC ((type2 .reading) (now (image .entry))) (now (gathered .entry)) (now (out .entry)) r (now (gathered .exit)) (now (out .exit)) ⌝ }
 {
     let answer = type2::read::read(image, gathered);

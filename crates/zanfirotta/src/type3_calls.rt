@@ -24,7 +24,7 @@ ghost use Rattle.type3_commands.specs.CodecContracts.{blockNumbers, blocksOf};
 ghost use Rattle.zanfirotta.specs.Packed.{PutOutToC, ReadToC, TookToC, packedVerdict, packedSpan, packedDecoded3, countInto, blocksInto, blockdataInto};
 
 #[no_mangle]
-pub extern "C" fn zan_type3_read(image: &[u8], out: &mut [u64; 5]) -> u64
+pub extern "C" fn zan_type3_read(image: &[u8], out: &mut [u64; 6]) -> u64
     ensures { λ r. ⌜ ReadToC (reading (now (image .entry))) [] (now (out .entry)) r [] (now (out .exit)) ⌝ }
 {
     let answer = type3::read::read(image);

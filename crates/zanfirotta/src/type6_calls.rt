@@ -20,7 +20,7 @@ ghost use Rattle.type6.specs.Codec.{encode, decode};
 ghost use Rattle.zanfirotta.specs.Packed.{PutOutToC, ReadToC, TookToC, packedVerdict, packedDecoded6, blockInto6, dataInto6};
 
 #[no_mangle]
-pub extern "C" fn zan_type6_read(image: &[u8], out: &mut [u64; 5]) -> u64
+pub extern "C" fn zan_type6_read(image: &[u8], out: &mut [u64; 6]) -> u64
     ensures { λ r. ⌜ ReadToC (reading (now (image .entry))) [] (now (out .entry)) r [] (now (out .exit)) ⌝ }
 {
     let answer = type6::read::read(image);

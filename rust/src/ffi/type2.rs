@@ -49,7 +49,7 @@ mod c {
 }
 
 #[inline]
-pub fn type2_read(image: &[u8], gathered: &mut [u8], out: &mut [u64; 5]) -> u64 {
+pub fn type2_read(image: &[u8], gathered: &mut [u8], out: &mut [u64; 6]) -> u64 {
     let (gathered, gathered_len) = (gathered.as_mut_ptr(), gathered.len());
     let out = out.as_mut_ptr();
     // SAFETY: pointers and lengths come from slices and references that live through the call.

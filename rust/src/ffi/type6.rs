@@ -45,7 +45,7 @@ mod c {
 }
 
 #[inline]
-pub fn type6_read(image: &[u8], out: &mut [u64; 5]) -> u64 {
+pub fn type6_read(image: &[u8], out: &mut [u64; 6]) -> u64 {
     // SAFETY: pointers and lengths come from slices and references that live through the call.
     unsafe { c::zan_type6_read(image.as_ptr(), image.len(), out.as_mut_ptr()) }
 }

@@ -7,8 +7,8 @@
 
 #include "zanfirotta.h"
 
-#if ZAN_API_VERSION != 2
-#error "calls.c is about version 2 of the interface"
+#if ZAN_API_VERSION != 3
+#error "calls.c is about version 3 of the interface"
 #endif
 
 #define HOLDS(fact)      \
@@ -56,7 +56,7 @@ static int type2(void)
     HOLDS(zan_type2_model(image, 64, list, 5) == ZAN_REFUSED_MALFORMED_COMMAND);
     HOLDS(zan_type2_read(image, 64, gathered, sizeof gathered, &report) == 0);
     HOLDS(report.content == ZAN_CONTENT_MESSAGE && report.address == 18 && report.length == 3);
-    HOLDS(report.interrupted == 0 && report.writable == 1 && gathered[0] == 0xAA);
+    HOLDS(report.interrupted == 0 && report.writable == 1 && report.capacity == 46 && gathered[0] == 0xAA);
     HOLDS(zan_type2_read(image, 63, gathered, sizeof gathered, &report) == ZAN_REFUSED_IMAGE_SIZE);
     HOLDS(report.length == 3);
 
@@ -92,7 +92,7 @@ static int type3(void)
     }
     HOLDS(zan_type3_command_len(list + at, 0) == ZAN_REFUSED_MALFORMED_COMMAND);
     HOLDS(zan_type3_command_len(list, 30) == ZAN_REFUSED_MALFORMED_COMMAND);
-    HOLDS(report.address == 16 && report.length == 3 && report.writable == 1);
+    HOLDS(report.address == 16 && report.length == 3 && report.writable == 1 && report.capacity == 32);
 
     HOLDS(zan_type3_encode(2, blocks, data, idm, 2, 2, bytes, sizeof bytes) == 49 * 256);
     HOLDS(memcmp(bytes + 12, "\x02\x80\x02\x80\x01\x07", 6) == 0);
@@ -117,7 +117,7 @@ static int type6(void)
 {
     uint8_t image[16], list[ZAN_TYPE6_LIST_MAX], bytes[ZAN_TYPE6_COMMAND_MAX], data[ZAN_TYPE6_BLOCK_MAX] = {1, 2, 3, 4, 5};
     uint64_t block = 9;
-    zan_report report = {0, 0, 0, 0, 0};
+    zan_report report = {0, 0, 0, 0, 0, 0};
     size_t len, i;
 
     empty6(image);
@@ -135,6 +135,7 @@ static int type6(void)
     }
     HOLDS(zan_type6_model(image, 16, list, 6) == ZAN_REFUSED_MALFORMED_COMMAND);
     HOLDS(report.address == 10 && report.length == 3 && report.interrupted == 0 && report.writable == 1);
+    HOLDS(report.capacity == 6);
     HOLDS(zan_type6_read(image, 15, &report) == ZAN_REFUSED_BAD_DATA_AREA && report.length == 3);
     image[4] = 15;
     image[5] = 0;

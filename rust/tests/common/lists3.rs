@@ -1,6 +1,6 @@
 //! Foreign command lists for Type 3 tags.
 
-use super::tags3::{message_and_room, seal};
+use super::tags3::{message_and_capacity, seal};
 use super::Rng;
 use crate::reference::type3;
 
@@ -241,13 +241,13 @@ pub fn any(rng: &mut Rng, image: &[u8], message: &[u8], idm: &[u8; 8]) -> Vec<u8
         0 => ours(image, message),
         1 => Vec::new(),
         2 | 3 => {
-            let (_, room) = message_and_room(image);
+            let (_, capacity) = message_and_capacity(image);
             let len = match rng.below(3) {
                 0 => message.len(),
                 1 => message.len().saturating_sub(1),
-                _ => super::message_len(rng, message.len(), room),
+                _ => super::message_len(rng, message.len(), capacity),
             };
-            let other = rng.bytes(len.min(room));
+            let other = rng.bytes(len.min(capacity));
             ours(image, &other)
         }
         4 if image.len() >= 16 => {

@@ -1,6 +1,6 @@
 //! Foreign command lists for Type 6 tags.
 
-use super::tags6::{block_size, file, message_and_room};
+use super::tags6::{block_size, file, message_and_capacity};
 use super::Rng;
 use crate::reference::type6;
 
@@ -122,7 +122,7 @@ fn good(rng: &mut Rng, image: &[u8], message: &[u8]) -> Vec<Command> {
             }
             _ => {
                 // Without the first command: as good if the tag holds no message.
-                if message_and_room(image).0.is_empty() {
+                if message_and_capacity(image).0.is_empty() {
                     list.remove(0);
                 }
             }
@@ -217,13 +217,13 @@ pub fn any(rng: &mut Rng, image: &[u8], message: &[u8]) -> Vec<u8> {
         0 => ours(image, message),
         1 => Vec::new(),
         2 | 3 => {
-            let (_, room) = message_and_room(image);
+            let (_, capacity) = message_and_capacity(image);
             let len = match rng.below(3) {
                 0 => message.len(),
                 1 => message.len().saturating_sub(1),
-                _ => super::message_len(rng, message.len(), room),
+                _ => super::message_len(rng, message.len(), capacity),
             };
-            ours(image, &rng.bytes(len.min(room)))
+            ours(image, &rng.bytes(len.min(capacity)))
         }
         4 if blocks(image) > 0 => {
             let block = rng.below(blocks(image));

@@ -199,26 +199,26 @@ pub fn damaged_version(rng: &mut Rng) -> u8 {
 }
 
 /// The length of a message to write, with the boundaries often: `old` is the length of the
-/// message on the tag, `room` the longest that fits.
-pub fn message_len(rng: &mut Rng, old: usize, room: usize) -> usize {
+/// message on the tag, `capacity` the greatest length that fits.
+pub fn message_len(rng: &mut Rng, old: usize, capacity: usize) -> usize {
     match rng.below(22) {
         0 => 0,
         1 | 2 => 1,
         3 => rng.between(2, 4),
         4 | 5 => rng.between(253, 257),
-        6 | 7 => room,
-        8 => room.saturating_sub(rng.between(0, 3)),
-        9 => room + 1,
-        10 => room + rng.between(2, 2000),
+        6 | 7 => capacity,
+        8 => capacity.saturating_sub(rng.between(0, 3)),
+        9 => capacity + 1,
+        10 => capacity + rng.between(2, 2000),
         11 => old,
         12 => 16 * rng.between(1, 8) + rng.between(0, 2),
-        13..=16 => rng.between(1, 60).min(room),
-        _ => rng.below(room + 1),
+        13..=16 => rng.between(1, 60).min(capacity),
+        _ => rng.below(capacity + 1),
     }
 }
 
 /// A message to write on a tag that holds `old`: often new, sometimes the old one or near it.
-pub fn message(rng: &mut Rng, old: &[u8], room: usize) -> Vec<u8> {
+pub fn message(rng: &mut Rng, old: &[u8], capacity: usize) -> Vec<u8> {
     let kind = if old.is_empty() { 4 } else { rng.below(12) };
     match kind {
         0 => old.to_vec(),
@@ -237,7 +237,7 @@ pub fn message(rng: &mut Rng, old: &[u8], room: usize) -> Vec<u8> {
         }
         3 => old[..rng.below(old.len() + 1)].to_vec(),
         _ => {
-            let len = message_len(rng, old.len(), room);
+            let len = message_len(rng, old.len(), capacity);
             match rng.below(4) {
                 0 => vec![rng.pick(&[0x00, 0x03, 0xFE, 0xFF]); len],
                 _ => rng.bytes(len),

@@ -29,9 +29,9 @@ pub fn defaults() -> Vec<Vec<u8>> {
 /// A tag with `u` usable bytes after the type byte: NULL TLVs lie before it.
 pub fn with_usable(u: usize) -> Vec<u8> {
     let size = (u + 1).div_ceil(8);
-    let mut image = plain(16 + 8 * size, size as u8, &[]);
-    let len = image.len();
-    image[len - 1 - u] = 0x03;
+    let end = 16 + 8 * size;
+    let mut image = plain(end.max(64), size as u8, &[]);
+    image[end - 1 - u] = 0x03;
     image
 }
 
@@ -226,13 +226,13 @@ pub fn for_lists(rng: &mut Rng) -> Vec<u8> {
     }
 }
 
-/// The message on a tag and the longest length that fits; empty and 0 if the tag is refused.
-pub fn message_and_room(image: &[u8]) -> (Vec<u8>, usize) {
+/// The message on a tag and the tag's capacity; empty and 0 if the tag is refused.
+pub fn message_and_capacity(image: &[u8]) -> (Vec<u8>, usize) {
     let mut gathered = [0; END];
     match type2::read(image, &mut gathered) {
         Ok(answer) => (
             answer.message(image, &gathered).to_vec(),
-            type2::room(image).unwrap().1,
+            answer.capacity as usize,
         ),
         Err(_) => (Vec::new(), 0),
     }

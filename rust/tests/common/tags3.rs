@@ -78,14 +78,14 @@ pub fn valid(rng: &mut Rng) -> Vec<u8> {
         4..=6 => 1,
         _ => rng.between(1, 8) as u8,
     };
-    let room = 16 * nmaxb;
+    let capacity = 16 * nmaxb;
     let ln = match rng.below(10) {
         0..=2 => 0,
-        3 => room,
-        4 => room.saturating_sub(rng.below(17)),
+        3 => capacity,
+        4 => capacity.saturating_sub(rng.below(17)),
         5 => 1,
         6 => 16 * rng.below(nmaxb + 1),
-        _ => rng.below(room + 1),
+        _ => rng.below(capacity + 1),
     };
     let write = if rng.percent(75) { 0x00 } else { 0x0F };
     let read_write = if rng.percent(92) { 1 } else { 0 };
@@ -184,12 +184,12 @@ pub fn for_lists(rng: &mut Rng) -> Vec<u8> {
     }
 }
 
-/// The message on a tag and the longest length that fits; empty and 0 if the tag is refused.
-pub fn message_and_room(image: &[u8]) -> (Vec<u8>, usize) {
+/// The message on a tag and the tag's capacity; empty and 0 if the tag is refused.
+pub fn message_and_capacity(image: &[u8]) -> (Vec<u8>, usize) {
     match type3::read(image) {
         Ok(answer) => (
             answer.message(image, &[]).to_vec(),
-            type3::room(image).unwrap(),
+            answer.capacity as usize,
         ),
         Err(_) => (Vec::new(), 0),
     }

@@ -81,14 +81,14 @@ pub fn sized(rng: &mut Rng, size: usize) -> Vec<u8> {
         2 => most.saturating_sub(1),
         _ => most,
     };
-    let room = (max_len * size).saturating_sub(2);
+    let capacity = (max_len * size).saturating_sub(2);
     let nlen = match rng.below(12) {
         0..=2 => 0,
-        3 => room,
-        4 => room.saturating_sub(rng.below(size + 1)),
-        5 => room.min(1),
-        6 | 7 => rng.between(254, 257).min(room),
-        _ => rng.below(room + 1),
+        3 => capacity,
+        4 => capacity.saturating_sub(rng.below(size + 1)),
+        5 => capacity.min(1),
+        6 | 7 => rng.between(254, 257).min(capacity),
+        _ => rng.below(capacity + 1),
     };
     let rfu = if rng.percent(30) { rng.byte() << 5 } else { 0 };
     let access = if rng.percent(92) { 0x00 } else { 0xFF };
@@ -128,7 +128,7 @@ pub fn damaged(rng: &mut Rng) -> Vec<u8> {
     let size = block_size(&image);
     let most = image.len() / size - container_blocks(size);
     for _ in 0..rng.pick(&[0, 1, 1, 1, 2]) {
-        let room = (image[7] as usize * size).saturating_sub(2);
+        let capacity = (image[7] as usize * size).saturating_sub(2);
         match rng.below(14) {
             0 => image[rng.below(3)] ^= 1 << rng.below(8),
             1 => image[rng.below(3)] = rng.pick(b"NDEFnde"),
@@ -140,8 +140,8 @@ pub fn damaged(rng: &mut Rng) -> Vec<u8> {
             7 => image[5] = image[5].wrapping_add(rng.pick(&[1, 0x1F, 0xFF])),
             8 => image[7] = (most + rng.between(0, 2)) as u8,
             9 => image[7] = rng.pick(&[0, 0, 1, 0xFF]),
-            10 | 11 => set_nlen(&mut image, room + rng.between(0, 3)),
-            12 => set_nlen(&mut image, room + rng.between(256, 2000)),
+            10 | 11 => set_nlen(&mut image, capacity + rng.between(0, 3)),
+            12 => set_nlen(&mut image, capacity + rng.between(256, 2000)),
             _ => image[rng.below(8)] ^= 1 << rng.below(8),
         }
     }
@@ -186,24 +186,24 @@ pub fn for_lists(rng: &mut Rng) -> Vec<u8> {
     }
 }
 
-/// The message on a tag and the longest length that fits; empty and 0 if the tag is refused.
-pub fn message_and_room(image: &[u8]) -> (Vec<u8>, usize) {
+/// The message on a tag and the tag's capacity; empty and 0 if the tag is refused.
+pub fn message_and_capacity(image: &[u8]) -> (Vec<u8>, usize) {
     match type6::read(image) {
         Ok(answer) => (
             answer.message(image, &[]).to_vec(),
-            type6::room(image).unwrap(),
+            answer.capacity as usize,
         ),
         Err(_) => (Vec::new(), 0),
     }
 }
 
 /// A message to write: often one that ends where a block does, or next to that.
-pub fn message(rng: &mut Rng, image: &[u8], old: &[u8], room: usize) -> Vec<u8> {
-    if room == 0 || rng.percent(75) {
-        return super::message(rng, old, room);
+pub fn message(rng: &mut Rng, image: &[u8], old: &[u8], capacity: usize) -> Vec<u8> {
+    if capacity == 0 || rng.percent(75) {
+        return super::message(rng, old, capacity);
     }
     let size = block_size(image);
-    let end = size * rng.between(1, (room + 2) / size);
+    let end = size * rng.between(1, (capacity + 2) / size);
     let len = (end + rng.below(3)).saturating_sub(3);
-    rng.bytes(len.clamp(1, room))
+    rng.bytes(len.clamp(1, capacity))
 }

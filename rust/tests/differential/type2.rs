@@ -15,8 +15,8 @@ pub fn every_length() {
         let got = zanfirotta::type2::read(&image, &mut gathered);
         same(0, &plain(got.map(read_answer)), &expected, &[&image]);
         assert_eq!(gathered, wanted);
-        let room = type2::room(&image).map_or(0, |(_, longest)| longest);
-        for n in 0..room + 3 {
+        let (_, capacity) = tags2::message_and_capacity(&image);
+        for n in 0..capacity + 3 {
             let message: Vec<u8> = (0..n).map(|i| (i * 7 + n) as u8).collect();
             let mut wanted = [0xCC; zanfirotta::type2::LIST_MAX];
             let mut list = wanted;
@@ -72,7 +72,7 @@ pub fn read(cases: u64) {
     for index in 0..cases {
         let mut rng = Rng::case(21, index);
         let image = tags2::any(&mut rng);
-        let needed = tags2::message_and_room(&image).0.len();
+        let needed = tags2::message_and_capacity(&image).0.len();
         let len = buffer_len(&mut rng, needed);
         let guarded_image = Guarded::holding(&mut rng, &image);
         let mut wanted = Guarded::random(&mut rng, len);
@@ -108,8 +108,8 @@ pub fn write(cases: u64) {
     for index in 0..cases {
         let mut rng = Rng::case(22, index);
         let image = tags2::for_lists(&mut rng);
-        let (old, room) = tags2::message_and_room(&image);
-        let message = message(&mut rng, &old, room);
+        let (old, capacity) = tags2::message_and_capacity(&image);
+        let message = message(&mut rng, &old, capacity);
         let needed = 6 * lists2::ours(&image, &message).len();
         let len = buffer_len(&mut rng, needed);
         let mut wanted = Guarded::random(&mut rng, len);
@@ -121,7 +121,10 @@ pub fn write(cases: u64) {
         tally.add(&expected);
         let long = expected.is_ok() && message.len() > 254;
         tally.note("three-byte length", long);
-        tally.note("exact room", expected.is_ok() && message.len() == room);
+        tally.note(
+            "exact capacity",
+            expected.is_ok() && message.len() == capacity,
+        );
         let gap = expected.is_ok_and(|n| interrupted_after(&image, &wanted.slice()[..6 * n]));
         tally.note("interrupted", gap);
         tally.note("not 1.0", expected.is_ok() && image[13] != 0x10);
@@ -144,8 +147,8 @@ pub fn judge(cases: u64) {
     for index in 0..cases {
         let mut rng = Rng::case(23, index);
         let image = tags2::for_lists(&mut rng);
-        let (old, room) = tags2::message_and_room(&image);
-        let message = message(&mut rng, &old, room);
+        let (old, capacity) = tags2::message_and_capacity(&image);
+        let message = message(&mut rng, &old, capacity);
         let list = lists2::any(&mut rng, &image, &message);
         let expected = type2::judge(&image, &message, &list);
         let got = plain(zanfirotta::type2::judge(&image, &message, &list));
@@ -168,8 +171,8 @@ pub fn model(cases: u64) {
     for index in 0..cases {
         let mut rng = Rng::case(24, index);
         let image = tags2::for_lists(&mut rng);
-        let (old, room) = tags2::message_and_room(&image);
-        let message = message(&mut rng, &old, room);
+        let (old, capacity) = tags2::message_and_capacity(&image);
+        let message = message(&mut rng, &old, capacity);
         let command = lists2::command(&mut rng, &image, &message);
         let mut wanted = Guarded::holding(&mut rng, &image);
         let mut tag = wanted.clone();

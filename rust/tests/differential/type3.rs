@@ -112,8 +112,8 @@ pub fn write(cases: u64) {
         let mut rng = Rng::case(32, index);
         let image = tags3::for_lists(&mut rng);
         let our_idm = rng.next().to_be_bytes();
-        let (old, room) = tags3::message_and_room(&image);
-        let message = message(&mut rng, &old, room);
+        let (old, capacity) = tags3::message_and_capacity(&image);
+        let message = message(&mut rng, &old, capacity);
         let needed = lists3::our_bytes(&image, &message, &our_idm).len();
         let len = buffer_len(&mut rng, needed);
         let mut wanted = Guarded::random(&mut rng, len);
@@ -123,7 +123,10 @@ pub fn write(cases: u64) {
         same(index, &plain(got), &expected, &[&image, &message]);
         same_buffers(index, &list, &wanted, &[&image, &message]);
         tally.add(&expected);
-        tally.note("exact room", expected.is_ok() && message.len() == room);
+        tally.note(
+            "exact capacity",
+            expected.is_ok() && message.len() == capacity,
+        );
         tally.note("not 1.0", expected.is_ok() && image[0] != 0x10);
     }
     tally.expect(&[0, 1, 2, 3, 4, 5, 7, 9, 10, 11, 12], cases / 200);
@@ -135,8 +138,8 @@ pub fn judge(cases: u64) {
         let mut rng = Rng::case(33, index);
         let image = tags3::for_lists(&mut rng);
         let our_idm = rng.next().to_be_bytes();
-        let (old, room) = tags3::message_and_room(&image);
-        let message = message(&mut rng, &old, room);
+        let (old, capacity) = tags3::message_and_capacity(&image);
+        let message = message(&mut rng, &old, capacity);
         let list = lists3::any(&mut rng, &image, &message, &our_idm);
         let expected = type3::judge(&image, &message, &our_idm, &list);
         let got = zanfirotta::type3::judge(&image, &message, &our_idm, &list);
@@ -158,8 +161,8 @@ pub fn model(cases: u64) {
         let mut rng = Rng::case(34, index);
         let image = tags3::for_lists(&mut rng);
         let our_idm = rng.next().to_be_bytes();
-        let (old, room) = tags3::message_and_room(&image);
-        let message = message(&mut rng, &old, room);
+        let (old, capacity) = tags3::message_and_capacity(&image);
+        let message = message(&mut rng, &old, capacity);
         let command = lists3::command(&mut rng, &image, &message, &our_idm);
         let mut wanted = Guarded::holding(&mut rng, &image);
         let mut tag = wanted.clone();

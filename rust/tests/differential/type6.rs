@@ -43,8 +43,8 @@ pub fn every_length() {
     let examples = tags6::examples().into_iter();
     let small = (1..=32).map(|size| tags6::plain(tags6::container_blocks(size) + 9, size, &[]));
     for image in examples.chain(small) {
-        let room = type6::room(&image).unwrap();
-        for n in 0..room + 3 {
+        let (_, capacity) = tags6::message_and_capacity(&image);
+        for n in 0..capacity + 3 {
             let message: Vec<u8> = (0..n).map(|i| (i * 7 + n) as u8).collect();
             let ours = lists6::ours(&image, &message).concat();
             each_call(&mut tally, &image, &message, &ours);
@@ -152,8 +152,8 @@ pub fn write(cases: u64) {
     for index in 0..cases {
         let mut rng = Rng::case(62, index);
         let image = tags6::for_lists(&mut rng);
-        let (old, room) = tags6::message_and_room(&image);
-        let message = tags6::message(&mut rng, &image, &old, room);
+        let (old, capacity) = tags6::message_and_capacity(&image);
+        let message = tags6::message(&mut rng, &image, &old, capacity);
         let needed = lists6::ours(&image, &message).concat().len();
         let len = buffer_len(&mut rng, needed);
         let mut wanted = Guarded::random(&mut rng, len);
@@ -163,7 +163,10 @@ pub fn write(cases: u64) {
         same(index, &got, &expected, &[&image, &message]);
         same_buffers(index, &list, &wanted, &[&image, &message]);
         tally.add(&expected);
-        tally.note("exact room", expected.is_ok() && message.len() == room);
+        tally.note(
+            "exact capacity",
+            expected.is_ok() && message.len() == capacity,
+        );
         tally.note("one block", expected == Ok(2));
         tally.note("NLEN over 255", expected.is_ok() && message.len() > 255);
     }
@@ -175,8 +178,8 @@ pub fn judge(cases: u64) {
     for index in 0..cases {
         let mut rng = Rng::case(63, index);
         let image = tags6::for_lists(&mut rng);
-        let (old, room) = tags6::message_and_room(&image);
-        let message = tags6::message(&mut rng, &image, &old, room);
+        let (old, capacity) = tags6::message_and_capacity(&image);
+        let message = tags6::message(&mut rng, &image, &old, capacity);
         let list = lists6::any(&mut rng, &image, &message);
         let expected = type6::judge(&image, &message, &list);
         let got = plain(zanfirotta::type6::judge(&image, &message, &list));
@@ -201,8 +204,8 @@ pub fn model(cases: u64) {
     for index in 0..cases {
         let mut rng = Rng::case(64, index);
         let image = tags6::for_lists(&mut rng);
-        let (old, room) = tags6::message_and_room(&image);
-        let message = tags6::message(&mut rng, &image, &old, room);
+        let (old, capacity) = tags6::message_and_capacity(&image);
+        let message = tags6::message(&mut rng, &image, &old, capacity);
         let command = lists6::command(&mut rng, &image, &message);
         let mut wanted = Guarded::holding(&mut rng, &image);
         let mut tag = wanted.clone();

@@ -1,5 +1,5 @@
 //! The rules of `docs/01-scope.md` in ordinary Rust, with what `docs/02-change-requests.md` has
-//! changed and added: E1, E2.
+//! changed and added: E1, E2, E3.
 //!
 //! This reference was written from these pages alone (Type 6 also from source document 003),
 //! without a look at the verified code, so the two can be tested against each other. It is also the
@@ -59,6 +59,8 @@ pub struct ReadAnswer {
     pub length: u64,
     pub interrupted: bool,
     pub writable: bool,
+    /// The greatest length that fits, writable or not.
+    pub capacity: u64,
 }
 
 impl ReadAnswer {

@@ -147,8 +147,8 @@ fn type2_model() {
     for index in 0..CASES {
         let mut rng = Rng::case(9, index);
         let mut image = tags2::any(&mut rng);
-        let (old, room) = tags2::message_and_room(&image);
-        let message = message(&mut rng, &old, room);
+        let (old, capacity) = tags2::message_and_capacity(&image);
+        let message = message(&mut rng, &old, capacity);
         let command = lists2::command(&mut rng, &image, &message);
         let before = image.clone();
         let answer = type2::model(&mut image, &command);
@@ -180,8 +180,8 @@ fn type3_model() {
         let mut rng = Rng::case(10, index);
         let mut image = tags3::any(&mut rng);
         let idm = rng.next().to_be_bytes();
-        let (old, room) = tags3::message_and_room(&image);
-        let message = message(&mut rng, &old, room);
+        let (old, capacity) = tags3::message_and_capacity(&image);
+        let message = message(&mut rng, &old, capacity);
         let command = lists3::command(&mut rng, &image, &message, &idm);
         let before = image.clone();
         let answer = type3::model(&mut image, &idm, &command);
@@ -214,8 +214,8 @@ fn type6_model() {
     for index in 0..CASES {
         let mut rng = Rng::case(15, index);
         let mut image = tags6::any(&mut rng);
-        let (old, room) = tags6::message_and_room(&image);
-        let message = tags6::message(&mut rng, &image, &old, room);
+        let (old, capacity) = tags6::message_and_capacity(&image);
+        let message = tags6::message(&mut rng, &image, &old, capacity);
         let command = lists6::command(&mut rng, &image, &message);
         let before = image.clone();
         let answer = type6::model(&mut image, &command);

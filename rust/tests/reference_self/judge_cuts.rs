@@ -13,8 +13,8 @@ fn type2_judge_and_cuts() {
     for index in 0..CASES {
         let mut rng = Rng::case(5, index);
         let image = tags2::for_lists(&mut rng);
-        let (old, room) = tags2::message_and_room(&image);
-        let message = message(&mut rng, &old, room);
+        let (old, capacity) = tags2::message_and_capacity(&image);
+        let message = message(&mut rng, &old, capacity);
         let list = lists2::any(&mut rng, &image, &message);
         let answer = type2::judge(&image, &message, &list);
         tally.add(&answer);
@@ -36,7 +36,7 @@ fn type2_judge_and_cuts() {
                 type2::model(&mut cut, command).unwrap();
             }
         }
-        assert_eq!(tags2::message_and_room(&end).0, message);
+        assert_eq!(tags2::message_and_capacity(&end).0, message);
     }
     println!("type2 cuts     {cuts}");
     tally.expect(&[0, 1, 2, 3, 4, 5, 6, 7, 8, 9, 10, 11, 20, 21, 22, 23], 100);
@@ -58,8 +58,8 @@ fn type3_judge_and_cuts() {
         let mut rng = Rng::case(6, index);
         let image = tags3::for_lists(&mut rng);
         let idm = rng.next().to_be_bytes();
-        let (old, room) = tags3::message_and_room(&image);
-        let message = message(&mut rng, &old, room);
+        let (old, capacity) = tags3::message_and_capacity(&image);
+        let message = message(&mut rng, &old, capacity);
         let list = lists3::any(&mut rng, &image, &message, &idm);
         let answer = type3::judge(&image, &message, &idm, &list);
         tally.add(&answer);
@@ -81,7 +81,7 @@ fn type3_judge_and_cuts() {
                 type3::model(&mut cut, &idm, command).unwrap();
             }
         }
-        assert_eq!(tags3::message_and_room(&end).0, message);
+        assert_eq!(tags3::message_and_capacity(&end).0, message);
     }
     println!("type3 cuts     {cuts}");
     tally.expect(&[0, 1, 2, 3, 4, 5, 7, 9, 10, 11, 20, 21, 22, 23], 100);
@@ -102,8 +102,8 @@ fn type6_judge_and_cuts() {
     for index in 0..CASES {
         let mut rng = Rng::case(13, index);
         let image = tags6::for_lists(&mut rng);
-        let (old, room) = tags6::message_and_room(&image);
-        let message = tags6::message(&mut rng, &image, &old, room);
+        let (old, capacity) = tags6::message_and_capacity(&image);
+        let message = tags6::message(&mut rng, &image, &old, capacity);
         let list = lists6::any(&mut rng, &image, &message);
         let answer = type6::judge(&image, &message, &list);
         tally.add(&answer);
@@ -125,7 +125,7 @@ fn type6_judge_and_cuts() {
                 type6::model(&mut cut, command).unwrap();
             }
         }
-        assert_eq!(tags6::message_and_room(&end).0, message);
+        assert_eq!(tags6::message_and_capacity(&end).0, message);
     }
     println!("type6 cuts     {cuts}");
     tally.expect(&[0, 1, 2, 3, 4, 5, 7, 9, 10, 11, 14, 20, 21, 22, 23], 100);

@@ -12,7 +12,7 @@ fn type2_read_is_as_the_page_says() {
     for index in 0..CASES {
         let mut rng = Rng::case(1, index);
         let image = tags2::any(&mut rng);
-        let needed = tags2::message_and_room(&image).0.len();
+        let needed = tags2::message_and_capacity(&image).0.len();
         let len = buffer_len(&mut rng, needed);
         let mut gathered = Guarded::random(&mut rng, len);
         let mut expected = gathered.clone();
@@ -37,7 +37,8 @@ fn type2_read_is_as_the_page_says() {
                     expected.lend()[..message.len()].copy_from_slice(&message);
                 }
                 assert_eq!(answer.message(&image, gathered.slice()), message);
-                assert_eq!(type2::room(&image).unwrap().0, tag.usable.len());
+                let greatest = (0..1024).rfind(|&n| naive2::fits(n, tag.usable.len()));
+                assert_eq!(greatest, Some(answer.capacity as usize));
                 gap
             }
             (Err(refusal), Ok(tag)) => {
@@ -66,6 +67,7 @@ fn type3_read_is_as_the_page_says() {
         match (answer, naive3::read(&image)) {
             (Err(refusal), Err(number)) => assert_eq!(refusal, Refusal::new(number)),
             (Ok(answer), Ok((being_written, ln, writable))) => {
+                let nmaxb = 256 * image[3] as u64 + image[4] as u64;
                 let expected = match (being_written, ln) {
                     (true, _) => (Content::BeingWritten, 0, 0),
                     (false, 0) => (Content::Empty, 0, 0),
@@ -73,6 +75,7 @@ fn type3_read_is_as_the_page_says() {
                 };
                 assert_eq!((answer.content, answer.address, answer.length), expected);
                 assert_eq!((answer.interrupted, answer.writable), (false, writable));
+                assert_eq!(answer.capacity, 16 * nmaxb);
             }
             (answer, naive) => panic!("{answer:?} {naive:?} for {}", hex(&image)),
         }
@@ -102,7 +105,7 @@ fn type6_read_is_as_the_page_says() {
                 };
                 assert_eq!((answer.content, answer.address, answer.length), expected);
                 assert_eq!((answer.interrupted, answer.writable), (false, tag.writable));
-                assert_eq!(type6::room(&image), Ok(tag.m));
+                assert_eq!(answer.capacity, tag.m as u64);
             }
             (answer, _) => panic!("{answer:?} for {}", hex(&image)),
         }
@@ -119,8 +122,8 @@ fn type2_write_keeps_its_promises() {
     for index in 0..CASES {
         let mut rng = Rng::case(3, index);
         let image = tags2::any(&mut rng);
-        let (old, room) = tags2::message_and_room(&image);
-        let message = message(&mut rng, &old, room);
+        let (old, capacity) = tags2::message_and_capacity(&image);
+        let message = message(&mut rng, &old, capacity);
         let needed = 6 * lists2::ours(&image, &message).len();
         let len = buffer_len(&mut rng, needed);
         let mut list = Guarded::random(&mut rng, len);
@@ -189,8 +192,8 @@ fn type3_write_keeps_its_promises() {
         let mut rng = Rng::case(4, index);
         let image = tags3::any(&mut rng);
         let idm = rng.next().to_be_bytes();
-        let (old, room) = tags3::message_and_room(&image);
-        let message = message(&mut rng, &old, room);
+        let (old, capacity) = tags3::message_and_capacity(&image);
+        let message = message(&mut rng, &old, capacity);
         let needed = lists3::our_bytes(&image, &message, &idm).len();
         let len = buffer_len(&mut rng, needed);
         let mut list = Guarded::random(&mut rng, len);
@@ -231,8 +234,8 @@ fn type6_write_keeps_its_promises() {
     for index in 0..CASES {
         let mut rng = Rng::case(12, index);
         let image = tags6::for_lists(&mut rng);
-        let (old, room) = tags6::message_and_room(&image);
-        let message = tags6::message(&mut rng, &image, &old, room);
+        let (old, capacity) = tags6::message_and_capacity(&image);
+        let message = tags6::message(&mut rng, &image, &old, capacity);
         let needed = lists6::ours(&image, &message).concat().len();
         let len = buffer_len(&mut rng, needed);
         let mut list = Guarded::random(&mut rng, len);

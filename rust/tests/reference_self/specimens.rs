@@ -28,6 +28,7 @@ fn first_specimen() {
         length: 3,
         interrupted: false,
         writable: true,
+        capacity: 46,
     };
     assert_eq!(read2(&image), Ok(expected));
 }
@@ -43,18 +44,40 @@ fn empty_and_size_0() {
 }
 
 #[test]
-fn room_of_47() {
+fn capacity_of_46() {
     let image = plain(64, 6, &[0x03, 0x00, 0xFE]);
-    assert_eq!(type2::room(&image), Ok((47, 46)));
+    assert_eq!(read2(&image).unwrap().capacity, 46);
     assert!(write2(&image, 46).is_ok());
     assert_eq!(write2(&image, 47), refused(11));
 }
 
+/// The length byte takes the only usable byte; a read-only tag has the same capacity.
+#[test]
+fn no_capacity() {
+    let mut image = with_usable(1);
+    for writable in [true, false] {
+        let answer = read2(&image).unwrap();
+        assert_eq!(
+            (answer.content, answer.writable, answer.capacity),
+            (Content::Empty, writable, 0)
+        );
+        assert_eq!(write2(&image, 1), refused(if writable { 11 } else { 10 }));
+        image[15] = 0x0F;
+    }
+}
+
 #[test]
 fn around_the_long_form() {
-    for (u, n) in [(255, 254), (256, 254), (257, 254), (258, 255), (259, 256)] {
+    for (u, n) in [
+        (254, 253),
+        (255, 254),
+        (256, 254),
+        (257, 254),
+        (258, 255),
+        (259, 256),
+    ] {
         let image = with_usable(u);
-        assert_eq!(type2::room(&image), Ok((u, n)));
+        assert_eq!(read2(&image).unwrap().capacity, n as u64);
         assert!(write2(&image, n).is_ok());
         assert_eq!(write2(&image, n + 1), refused(11));
     }
@@ -93,6 +116,7 @@ fn type3_specimens() {
         (Content::Message, 16, 35)
     );
     assert!(answer.writable && !answer.interrupted);
+    assert_eq!(answer.capacity, 208);
     let mut list = [0; 8000];
     assert!(type3::write(&image, &[7; 208], &IDM, &mut list).is_ok());
     assert_eq!(
@@ -107,7 +131,11 @@ fn type3_specimens() {
     let mut image = type3_image();
     image[9] = 0x0F;
     image[15] = 0x55;
-    assert_eq!(type3::read(&image).unwrap().content, Content::BeingWritten);
+    let answer = type3::read(&image).unwrap();
+    assert_eq!(
+        (answer.content, answer.capacity),
+        (Content::BeingWritten, 208)
+    );
     let mut image = type3_image();
     image[15] = 0x47;
     assert_eq!(type3::read(&image), refused(2));
@@ -161,7 +189,7 @@ fn interrupted() {
     assert_eq!(gathered, [0xD0, 0x00, 0x00, 0x77, 0x77]);
     assert_eq!(answer.message(&image, &gathered), [0xD0, 0x00, 0x00]);
     assert_eq!(type2::read(&image, &mut [0; 2]), refused(13));
-    assert_eq!(type2::room(&image).unwrap().0, 38);
+    assert_eq!(answer.capacity, 37);
 }
 
 #[test]
@@ -181,21 +209,21 @@ fn the_program() {
     assert_eq!(output, expected);
 }
 
-/// Tags as they leave the factory: u is as expected, and a message of the longest length fits.
+/// Tags as they leave the factory: the capacity is that of u, and a message of that length fits.
 #[test]
 fn factory_defaults() {
     for (image, u) in defaults().iter().zip([47, 138, 495, 871]) {
         let answer = read2(image).unwrap();
         assert_eq!((answer.content, answer.writable), (Content::Empty, true));
-        let (usable, longest) = type2::room(image).unwrap();
-        assert_eq!(usable, u);
-        assert!(write2(image, longest).is_ok());
-        assert_eq!(write2(image, longest + 1), refused(11));
+        let capacity = answer.capacity as usize;
+        assert_eq!(capacity, if u < 255 { u - 1 } else { u - 3 });
+        assert!(write2(image, capacity).is_ok());
+        assert_eq!(write2(image, capacity + 1), refused(11));
         assert_eq!(write2(image, 0), refused(9));
     }
     let image = tags3::default();
-    assert_eq!(type3::read(&image).unwrap().content, Content::Empty);
-    assert_eq!(type3::room(&image), Ok(208));
+    let answer = type3::read(&image).unwrap();
+    assert_eq!((answer.content, answer.capacity), (Content::Empty, 208));
 }
 
 /// The order of the tests, and points that are easy to get wrong.

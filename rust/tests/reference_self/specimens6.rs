@@ -42,7 +42,7 @@ fn examples_of_the_source_document() {
     assert!(answer.writable && !answer.interrupted);
     assert_eq!(answer.message(&a2, &[])[5..], *b"nfc-forum.org");
     for image in [a1, a2] {
-        assert_eq!(type6::room(&image), Ok(118));
+        assert_eq!(type6::read(&image).unwrap().capacity, 118);
         assert_eq!(write(&image, 118), Ok(31));
         assert_eq!(write(&image, 119), refused(11));
     }
@@ -159,7 +159,7 @@ fn least_room() {
 #[test]
 fn nlen() {
     let image = tags6::plain(256, 32, &[]);
-    assert_eq!(type6::room(&image), Ok(8158));
+    assert_eq!(type6::read(&image).unwrap().capacity, 8158);
     for (low, high, length) in [(0xFF, 0x00, 255), (0x00, 0x01, 256), (0xDE, 0x1F, 8158)] {
         let image = with(&with(&image, 32, low), 33, high);
         assert_eq!(read(&image), Ok((Content::Message, 34, length)));

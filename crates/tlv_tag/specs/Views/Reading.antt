@@ -23,9 +23,9 @@ areaLocated i first end = locateFrom i (find (allowedArea first (length i)) (end
 abbrev pub tlvLocated : List ℕ → List ℕ → Located
 tlvLocated i us = locateBy us (lengthOf i us)
 
--- a value of n bytes, with the usable addresses us from its first on
-unfoldable pub valueReading : Bool → List ℕ → ℕ → List ℕ → Reading
-valueReading w i n us = cond (leb n (length us)) (reads (reportOf w i (take n us))) (unreadable bad-length)
+-- a value of n bytes, with the usable addresses us from its first on, on a tag with the capacity c
+unfoldable pub valueReading : Bool → ℕ → List ℕ → ℕ → List ℕ → Reading
+valueReading w c i n us = cond (leb n (length us)) (reads (reportOf w c i (take n us))) (unreadable bad-length)
 
 -- 0, or the refusal's number
 abbrev pub refusalOf : Located → ℕ
@@ -40,4 +40,5 @@ reportAs i us p = record {
   address = p .address .0;
   interrupted = p .interrupted;
   writable = p .writable;
+  capacity = p .capacity;
 }

@@ -5,15 +5,14 @@ use mathlib.Core.Path.{_≡_}
 use mathlib.Core.Bool.{Bool, cond}
 use mathlib.Core.List.{List}
 use Prim.Native.Nat.{ℕ, _<_, _≤_}
-use lib.Dec.{eqb}
+use lib.Dec.{leb, eqb}
 use lib.ListN.{length}
 use Rattle.tag.specs.Refusals.{empty-message, not-writable, message-too-long}
 use Rattle.tlv.specs.declared.walk.Walk.{Walk}
 use Rattle.tlv.specs.Views.Walks.{ahead, Placed}
 use Rattle.tlv_tag.specs.declared.space.Space as code
 use Rattle.tlv_tag.specs.declared.space.Space.the-variants as answer
-use Rattle.tlv_tag.specs.Message.{Located, refuse, located}
-use Rattle.tlv_tag.specs.Update.{fitsIn}
+use Rattle.tlv_tag.specs.Message.{Located, refuse, located, capacityIn}
 
 -- a refusal; or the usable addresses after the message TLV's type byte, which have room
 pub data Space : Type 0 where
@@ -25,7 +24,7 @@ abbrev pub spaceOf : Bool → ℕ → Located → Space
 spaceOf w n (refuse r) = no-space r
 spaceOf w n (located us ms) =
     cond (eqb n 0) (no-space empty-message)
-    (cond w (cond (fitsIn n (length us)) (space us) (no-space message-too-long))
+    (cond w (cond (leb n (capacityIn (length us))) (space us) (no-space message-too-long))
     (no-space not-writable))
 
 -- ---- the code

@@ -55,10 +55,11 @@ Known i (checked.Fine a) = Attests i a
 -- ---- the answer of reading
 
 abbrev pub reportAs : Report → Answer
-reportAs p = answer (contentOf (p .content)) (p .address .0) (p .length) (p .interrupted) (p .writable)
+reportAs p = answer (contentOf (p .content)) (p .address .0) (p .length) (p .interrupted) (p .writable) (p .capacity)
 
 -- what the attribute information says of a message
 abbrev pub answerFor : AttributeInformation → Answer
 answerFor a =
-    cond (a .busy) (answer being-written 0 0 false (a .writable))
-    (cond (eqb (a .ln) 0) (answer empty 0 0 false (a .writable)) (answer message 16 (a .ln) false (a .writable)))
+    cond (a .busy) (answer being-written 0 0 false (a .writable) (16 * a .nmaxb))
+    (cond (eqb (a .ln) 0) (answer empty 0 0 false (a .writable) (16 * a .nmaxb))
+    (answer message 16 (a .ln) false (a .writable) (16 * a .nmaxb)))

@@ -59,6 +59,8 @@ abbrev pub Known : List ℕ → code.Checked → Type 0
 Known i (checked.Refused r) = Unit {0}
 Known i (checked.Fine c) = Attests i c
 
--- what the container says of a message
+-- what the container says of a message, and of the room for one
 abbrev pub answerFor : Container → Answer
-answerFor c = cond (eqb (c .nlen) 0) (answer empty 0 0 false (c .writable)) (answer message (2 + c .file .0) (c .nlen) false (c .writable))
+answerFor c =
+    cond (eqb (c .nlen) 0) (answer empty 0 0 false (c .writable) (c .capacity))
+    (answer message (2 + c .file .0) (c .nlen) false (c .writable) (c .capacity))

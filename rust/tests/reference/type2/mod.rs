@@ -6,7 +6,7 @@ mod tag;
 
 pub use codec::{decode, encode, model};
 pub use list::{judge, write};
-pub use tag::{read, room};
+pub use tag::read;
 
 const BLOCK: usize = 4;
 const MAX_IMAGE: usize = 1024;

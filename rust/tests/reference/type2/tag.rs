@@ -169,23 +169,27 @@ impl<'a> Tag<'a> {
         (from..to).filter(|&address| !self.walk.skip[address])
     }
 
+    /// The greatest length that fits in the usable bytes after the type byte.
+    fn capacity(&self) -> usize {
+        let end = self.walk.end;
+        let usable = if self.walk.any_skipped {
+            self.usable(self.after_type, end).count()
+        } else {
+            end - self.after_type
+        };
+        match usable {
+            0..=254 => usable - 1,
+            255..=257 => 254,
+            _ => usable - 3,
+        }
+    }
+
     /// The usable addresses after the type byte.
     pub fn places(&self) -> Vec<usize> {
         let mut places = Vec::with_capacity(self.walk.end - self.after_type);
         places.extend(self.usable(self.after_type, self.walk.end));
         places
     }
-}
-
-/// The number of usable bytes after the type byte, and the longest length that fits.
-pub fn room(image: &[u8]) -> Result<(usize, usize), Refusal> {
-    let usable = Tag::scan(image)?.places().len();
-    let longest = match usable {
-        0..=254 => usable - 1,
-        255..=257 => 254,
-        _ => usable - 3,
-    };
-    Ok((usable, longest))
 }
 
 /// Reads a tag; an interrupted message is gathered in the front of `gathered`.
@@ -209,5 +213,6 @@ pub fn read(image: &[u8], gathered: &mut [u8]) -> Result<ReadAnswer, Refusal> {
         length: tag.length as u64,
         interrupted,
         writable: tag.writable,
+        capacity: tag.capacity() as u64,
     })
 }

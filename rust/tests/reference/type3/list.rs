@@ -14,7 +14,7 @@ fn writable_for(image: &[u8], message: &[u8]) -> Result<AttributeInformation, Re
     if !information.writable {
         return Err(Refusal::new(10));
     }
-    if message.len() > information.room() {
+    if message.len() > information.capacity() {
         return Err(Refusal::new(11));
     }
     Ok(information)

@@ -6,7 +6,7 @@ mod tag;
 
 pub use codec::{decode, encode, model, Command};
 pub use list::{command_len, judge, write};
-pub use tag::{read, room};
+pub use tag::read;
 
 const BLOCK: usize = 16;
 const MAX_IMAGE: usize = 4096;

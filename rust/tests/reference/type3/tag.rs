@@ -56,8 +56,8 @@ impl AttributeInformation {
         })
     }
 
-    /// The longest length that fits.
-    pub fn room(&self) -> usize {
+    /// The greatest length that fits.
+    pub fn capacity(&self) -> usize {
         BLOCK * self.nmaxb as usize
     }
 
@@ -77,11 +77,6 @@ pub fn checksum(block: &[u8]) -> [u8; 2] {
     sum.to_be_bytes()
 }
 
-/// The longest length that fits.
-pub fn room(image: &[u8]) -> Result<usize, Refusal> {
-    Ok(AttributeInformation::of(image)?.room())
-}
-
 /// Reads a tag.
 pub fn read(image: &[u8]) -> Result<ReadAnswer, Refusal> {
     let information = AttributeInformation::of(image)?;
@@ -98,5 +93,6 @@ pub fn read(image: &[u8]) -> Result<ReadAnswer, Refusal> {
         length,
         interrupted: false,
         writable: information.writable,
+        capacity: information.capacity() as u64,
     })
 }

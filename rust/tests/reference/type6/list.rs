@@ -17,7 +17,7 @@ fn writable_for(image: &[u8], message: &[u8]) -> Result<Tag, Refusal> {
     if tag.block_size < 2 {
         return Err(Refusal::new(14));
     }
-    if message.len() > tag.room {
+    if message.len() > tag.capacity {
         return Err(Refusal::new(11));
     }
     Ok(tag)

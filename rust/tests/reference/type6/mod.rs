@@ -7,7 +7,7 @@ mod tag;
 
 pub use codec::{decode, encode, model, Command};
 pub use list::{judge, write};
-pub use tag::{read, room};
+pub use tag::read;
 
 const MAX_BLOCK: usize = 32;
 const MAX_IMAGE: usize = 8192;

@@ -11,8 +11,8 @@ pub struct Tag {
     pub writable: bool,
     /// The address of the file, which starts with NLEN.
     pub file: usize,
-    /// The longest length that fits.
-    pub room: usize,
+    /// The greatest length that fits.
+    pub capacity: usize,
     pub length: usize,
 }
 
@@ -40,12 +40,12 @@ impl Tag {
         if image.len() != blocks * block_size || before_file + max_len > blocks {
             return Err(Refusal::new(5));
         }
-        let Some(room) = (max_len * block_size).checked_sub(NLEN) else {
+        let Some(capacity) = (max_len * block_size).checked_sub(NLEN) else {
             return Err(Refusal::new(7));
         };
         let file = before_file * block_size;
         let length = u16::from_le_bytes([image[file], image[file + 1]]) as usize;
-        if length > room {
+        if length > capacity {
             return Err(Refusal::new(7));
         }
         Ok(Tag {
@@ -53,7 +53,7 @@ impl Tag {
             blocks,
             writable,
             file,
-            room,
+            capacity,
             length,
         })
     }
@@ -63,11 +63,6 @@ impl Tag {
         let start = self.file + NLEN;
         (self.length > 0).then(|| &image[start..start + self.length])
     }
-}
-
-/// The longest length that fits.
-pub fn room(image: &[u8]) -> Result<usize, Refusal> {
-    Ok(Tag::of(image)?.room)
 }
 
 /// Reads a tag.
@@ -83,5 +78,6 @@ pub fn read(image: &[u8]) -> Result<ReadAnswer, Refusal> {
         length: tag.length as u64,
         interrupted: false,
         writable: tag.writable,
+        capacity: tag.capacity as u64,
     })
 }

@@ -1,16 +1,14 @@
 -- `type3_lists::judge_readable` meets its contract. Assumes nothing.
 use mathlib.Core.Path.{sym, ap, _∙_}
-use Prim.Native.Nat.{_*_}
 use native.Mathlib.Omega.{arith}
 use borrow.Author.Needs.{needs}
-use borrow.Author.Tests.{leb-true}
 use lib.ListN.{length}
 use Rattle.tag.specs.Judge.{judgeBy}
 use Rattle.tag.proofs.Laws.{written-ready, ready-reads}
-use Rattle.type3.specs.AttributeInformation.{nmaxbOf}
 use Rattle.type3.specs.Update.{plan}
 use Rattle.type3.specs.Type3.{type3}
 use Rattle.type3.proofs.Deciding.{writing-refused, writing-planned}
+use Rattle.type3.proofs.Laws.{ready-room}
 use Rattle.judge.proofs.type3_lists.judge_readable.Statement.{statement}
 use Rattle.judge.proofs.type3_lists.judge_readable.Tie as tie
 
@@ -37,7 +35,7 @@ judge-writable-requires c κs =
     let ready = written-ready (type3 (a .idm .now)) i m (plan i m) planned .0 in (
       record {
         attested = record { nbw-is = k .says .nbw-is; nmaxb-is = k .says .nmaxb-is; reach = k .reach; most = k .whole .most };
-        protects = omega (arith, k .says .nmaxb-is, leb-true (length m) (16 * nmaxbOf i) (ready .room));
+        protects = omega (arith, k .says .nmaxb-is, ready-room (a .idm .now) i m ready .room);
         reads = ready-reads (type3 (a .idm .now)) i m ready;
       },
       omega (arith, k .whole .most, at-start .pre .1),

@@ -2,14 +2,14 @@
 use mathlib.Core.Path.{_≡_, sym, ap, _∙_}
 use native.Mathlib.Omega.{arith}
 use borrow.Author.Needs.{needs}
-use borrow.Author.Tests.{leb-true}
 use lib.ListN.{length}
 use Rattle.tag.specs.Judge.{judgeBy}
 use Rattle.tag.proofs.Laws.{written-ready, ready-reads}
-use Rattle.type6.specs.Container.{fileBy, fileAt, capacity}
+use Rattle.type6.specs.Container.{fileBy, fileAt}
 use Rattle.type6.specs.Update.{plan}
 use Rattle.type6.specs.Type6.{type6}
 use Rattle.type6.proofs.Deciding.{writing-refused, writing-planned}
+use Rattle.type6.proofs.Laws.{ready-room}
 use Rattle.judge.proofs.type6_lists.judge_readable.Statement.{statement}
 use Rattle.judge.proofs.type6_lists.judge_readable.Tie as tie
 
@@ -44,7 +44,7 @@ judge-writable-requires c κs =
           whole = sym (k .whole);
           short = k .short;
         };
-        protects = omega (arith, file, k .says .file-is, k .says .capacity-is, k .inside, leb-true (length m) (capacity i) (ready .room));
+        protects = omega (arith, file, k .says .file-is, k .says .capacity-is, k .inside, ready-room i m ready .room);
         reads = ready-reads type6 i m ready;
       },
       omega (arith, k .short, at-start .pre .1),

@@ -11,7 +11,7 @@ use Rattle.tlv_tag.proofs.read.read_value.Tie as tie
 returns : tie.Need-returns
 returns c =
     let a = c .before .before .before .before .args in
-    rw (value-none (a .writable) (a .image .now) (ahead (a .table .now) (a .w)) (a .n) (c .if1 .taken)) (refl, refl)
+    rw (value-none (a .writable) (a .capacity) (a .image .now) (ahead (a .table .now) (a .w)) (a .n) (c .if1 .taken)) (refl, refl)
 
 deliver-requires : tie.Need-deliver-requires
 deliver-requires c κs =
@@ -30,7 +30,7 @@ returns-2 c =
     let a = at-start .args in
     let us = ahead (a .table .now) (a .w) in
     let l = subst (ValueRoom (a .n) us) (c .enum-told .given .1) (at-measure .measure .ensures .1) in
-    rw (value-short (a .writable) (a .image .now) us (a .n) l) (refl, refl)
+    rw (value-short (a .writable) (a .capacity) (a .image .now) us (a .n) l) (refl, refl)
 
 returns-3 : tie.Need-returns-3
 returns-3 c =
@@ -44,7 +44,7 @@ returns-3 c =
     let g = at-address .address .given in
     let m = at-measure .measure .ensures in
     let l = subst (ValueRoom (a .n) us) (g .1) (m .1) in
-    rw (value-measured (a .writable) (a .image .now) us (a .n) (g .0 .0 .0) (g .0 .1 .0) (omega arith) l (sym (ap valueAs (g .1)) ∙ m .0))
+    rw (value-measured (a .writable) (a .capacity) (a .image .now) us (a .n) (g .0 .0 .0) (g .0 .1 .0) (omega arith) l (sym (ap valueAs (g .1)) ∙ m .0))
     (at-deliver .deliver .ensures)
 
 pub read-value-spec : {M : Type 1} → statement M
