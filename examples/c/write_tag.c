@@ -25,6 +25,12 @@ static void print_line(const uint8_t *bytes, size_t len, const zan_report *repor
     printf(" -> %s\n", contents[report->content]);
 }
 
+static void print_report(const zan_report *report)
+{
+    printf("message at %" PRIu64 ", length %" PRIu64 " of at most %" PRIu64 "\n", report->address,
+           report->length, report->capacity);
+}
+
 static int type2(void)
 {
     uint8_t image[64] = {0};
@@ -58,7 +64,7 @@ static int type2(void)
             return refused("read", answer);
         print_line(command, ZAN_TYPE2_COMMAND, &report);
     }
-    printf("message at %" PRIu64 ", length %" PRIu64 "\n", report.address, report.length);
+    print_report(&report);
     return 0;
 }
 
@@ -94,7 +100,7 @@ static int type3(void)
         print_line(list + at, len, &report);
         at += len;
     }
-    printf("message at %" PRIu64 ", length %" PRIu64 "\n", report.address, report.length);
+    print_report(&report);
     return 0;
 }
 
@@ -123,7 +129,7 @@ static int type6(void)
             return refused("read", answer);
         print_line(command, len, &report);
     }
-    printf("message at %" PRIu64 ", length %" PRIu64 "\n", report.address, report.length);
+    print_report(&report);
     return 0;
 }
 

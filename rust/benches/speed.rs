@@ -265,6 +265,16 @@ fn main() {
         &[0xD1; 1000],
     );
 
+    // An area of 16 bytes at 960, behind the message.
+    let mut before_area = vec![0x02, 0x03, 0xF0, 0x10, 0x06, 0x03, 0xFF, 0x03, 0xA2];
+    before_area.extend([0x5A; 930]);
+    before_area.push(0xFE);
+    type2(
+        "2: 930 bytes, an area behind",
+        &image2(1024, &before_area),
+        &[0xD1; 930],
+    );
+
     type3("3: 14 blocks, Nbw 1", &image3(14, 1), &[0xD1; 208]);
     type3("3: 256 blocks, Nbw 1", &image3(256, 1), &[0xD1; 4080]);
     type3("3: 256 blocks, Nbw 8", &image3(256, 8), &[0xD1; 4080]);

@@ -156,6 +156,10 @@ fn header_is_clean() {
 fn c_example_runs() {
     let printed = run_c("write_tag", &top().join("examples/c/write_tag.c"));
     assert!(printed.starts_with("Type 2: 4 commands\n"), "{printed}");
+    for capacity in [46, 208, 54] {
+        let line = format!("length 8 of at most {capacity}\n");
+        assert!(printed.contains(&line), "{printed}");
+    }
 }
 
 #[test]

@@ -21,7 +21,7 @@ use Rattle.tag.specs.Refusals.{Refusal, plain, positioned, refusalAt, malformed
 use Rattle.tag.specs.Reading.{message, refusal, answer}
 use Rattle.tag.specs.TagType.{Output, refused-output, output, outputInto}
 use Rattle.tag.specs.Judge.{accepted, refused}
-use Rattle.tag.specs.Answers.{Returned, refuses, gives, refusesOne, contentOf, readAs, countOf, countAs, verdictAs, modelAs}
+use Rattle.tag.specs.Answers.{gives, refusesOne, contentOf, readAs, countOf, countAs, verdictAs, modelAs}
 use Rattle.tag.specs.Contracts.{PutOut}
 use Rattle.tag.proofs.Logic.{nope}
 use Rattle.demands.specs.Code2.{Tells}

@@ -3,9 +3,9 @@
 -- Assumes nothing.
 use mathlib.Core.Path.{_≡_, sym, ap, _∙_}
 use mathlib.Core.Bool.{true}
-use mathlib.Core.Logic.{_↔_, ⊎-elim}
+use mathlib.Core.Logic.{_↔_}
 use mathlib.Core.List.{List}
-use Prim.Native.Nat.{ℕ, _+_, _*_, _<_, _≤_}
+use Prim.Native.Nat.{ℕ, _*_, _<_, _≤_}
 use native.Mathlib.Nat.{mul-comm}
 use native.Mathlib.Omega.{arith}
 use native.Mathlib.Decide.{decLt}
@@ -13,19 +13,19 @@ use borrow.Author.Tests.{ne-eqb, lt-leb}
 use lib.ListN.{length}
 use Rattle.tag.specs.Bytes.{byte}
 use Rattle.tag.specs.Refusals.{message-too-long}
-use Rattle.tag.specs.Reading.{Report, reads, broken, heldOf}
+use Rattle.tag.specs.Reading.{Report, reads}
 use Rattle.tag.specs.TagType.{TagType, writing, refused-write, written, planned, checksOf}
 use Rattle.tag.specs.Checks.{fault, firstOf}
 use Rattle.tag.specs.Cuts.{Ready}
 use Rattle.tag.proofs.Logic.{nope}
 use Rattle.tag.proofs.Laws.{ready-written}
-use Rattle.tlv.specs.Walk.{found, messageTlv}
+use Rattle.tlv.specs.Walk.{found}
 use Rattle.tlv_tag.specs.Message.{locate}
-use Rattle.tlv_tag.specs.Update.{usable, Fits}
+use Rattle.tlv_tag.specs.Update.{usable}
 use Rattle.tlv_tag.proofs.Field.{fits-capacity, capacity-fits}
 use Rattle.tlv_tag.proofs.Tag.{some-usable}
 use Rattle.tlv_tag.proofs.Writes.{placed}
-use Rattle.type2.specs.Memory.{layout, memory}
+use Rattle.type2.specs.Memory.{memory}
 use Rattle.type2.specs.Type2.{type2}
 use Rattle.type3.specs.Type3.{type3}
 use Rattle.type3.proofs.Message as message3

@@ -21,7 +21,7 @@ use Rattle.tag.specs.declared.ModelAnswer as model-answer
 use Rattle.tag.specs.declared.ModelAnswer.the-variants as storing
 use Rattle.tag.specs.Refusals.{message-too-long, short-buffer, short-gathering-buffer}
 use Rattle.tag.specs.Reading.{Content, message, empty, being-written, Report, Reading, unreadable, reads, answerOf, tooShort, refusal, answer, shown, broken, nothing, holds, heldOf}
-use Rattle.tag.specs.Plan.{Plan, list}
+use Rattle.tag.specs.Plan.{list}
 use Rattle.tag.specs.TagType.{TagType, held, Writing, refused-write, written, writing, listBytes, writeBy, pieces}
 use Rattle.tag.specs.Stores.{Command}
 use Rattle.tag.specs.Judge.{Task, accepted, judgeBy, judged}
@@ -31,8 +31,7 @@ use Rattle.tag.specs.Answers.{refusesOne, gives, readAs, countOf, countAs, verd
 use Rattle.tag.specs.Contracts.{Read, Showed, Wrote, Judged}
 use Rattle.tag.proofs.Logic.{nope}
 use Rattle.tag.proofs.Laws.{Laws, ready-written, written-ready}
-use Rattle.demands.specs.Demand3.{cutOf, ourBytes}
-use Rattle.demands.specs.Demand2.{Demand2}
+use Rattle.demands.specs.Demand3.{ourBytes}
 use Rattle.demands.specs.ByContract.{Run}
 use Rattle.demands.specs.Code2.{Tells}
 use Rattle.demands.proofs.Demand2 as demand2

@@ -1,8 +1,7 @@
 -- The theorems of demands 2 and 3 by name, for each type of tag. What each says is in `specs/Demand2.antt`, `specs/Demand3.antt`,
 -- `specs/Code2.antt` and `specs/ByContract.antt`.
 -- Assumes nothing.
-use mathlib.Core.Path.{_≡_, refl, sym, ap, _∙_}
-use mathlib.Core.Logic.{_↔_}
+use mathlib.Core.Path.{_≡_, refl, sym, _∙_}
 use mathlib.Core.List.{List}
 use Prim.Native.Nat.{ℕ, _/_}
 use native.Mathlib.Omega.{arith}

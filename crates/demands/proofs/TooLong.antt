@@ -28,7 +28,7 @@ use Rattle.type2.proofs.Memory.{memory-laws}
 use Rattle.type3.specs.AttributeInformation.{steadySum, capacity}
 use Rattle.type3.specs.Update.{blocksFor, addresses, lnSum, values, plan}
 use Rattle.type3.specs.Type3.{type3}
-use Rattle.type3.proofs.Message.{Agrees, bounds, reads-capacity, reads-passes}
+use Rattle.type3.proofs.Message.{Agrees, bounds, reads-capacity}
 use Rattle.type3.proofs.Laws as laws3
 use Rattle.type3.proofs.Update as update3
 use Rattle.type6.specs.Container.{fileAt}

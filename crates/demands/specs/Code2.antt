@@ -33,14 +33,13 @@ use Rattle.type2.specs.CodecContracts as views2
 use Rattle.type3_commands.specs.declared.Command as command3
 use Rattle.type3_commands.specs.declared.commands.Decoded as decoded3
 use Rattle.type3.specs.Update.{blocksFor, blocksPerCommand}
-use Rattle.type3.specs.Type3.{type3}
 use Rattle.type3_commands.specs.CodecContracts as views3
 use Rattle.type6.specs.declared.Command as command6
 use Rattle.type6.specs.declared.commands.Decoded as decoded6
 use Rattle.type6.specs.Container.{blockSize}
 use Rattle.type6.specs.CodecContracts as views6
 use Rattle.demands.specs.Demand3.{ourBytes}
-use Rattle.demands.specs.Demand2.{Octets, Asked, Alike2, Alike3}
+use Rattle.demands.specs.Demand2.{Octets, Asked, Alike2}
 use Rattle.demands.specs.ByContract.{Run}
 
 -- ---- what the claim uses of each type

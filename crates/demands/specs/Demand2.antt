@@ -15,7 +15,7 @@ use Rattle.tag.specs.Plan.{touched, list}
 use Rattle.tag.specs.TagType.{TagType, held, writing, refused-write, output, write, commands}
 use Rattle.tag.specs.Cuts.{Ready}
 use Rattle.tlv.specs.Walk.{found, messageTlv}
-use Rattle.tlv_tag.specs.Update.{Fits}
+use Rattle.tlv_tag.specs.Update.{FitsIn}
 use Rattle.type2.specs.Memory.{layout}
 use Rattle.type2.specs.Type2.{type2}
 use Rattle.type2.specs.Codec as codec2
@@ -51,7 +51,7 @@ Capacity T Fits = (i : List ℕ) (p : Report) → (T .reading) i ≡ reads p →
 
 -- Type 2: n ≤ 254 and 1 + n ≤ u, or n ≥ 255 and 3 + n ≤ u, for the u usable bytes after the message TLV's type byte
 abbrev pub Fits2 : List ℕ → ℕ → Type 0
-Fits2 i n = (t : ℕ) × (us : List ℕ) × (messageTlv layout i ≡ found t us) × Fits (length us) n
+Fits2 i n = (t : ℕ) × (us : List ℕ) × (messageTlv layout i ≡ found t us) × FitsIn (length us) n
 
 -- Type 3: n ≤ 16·Nmaxb
 abbrev pub Fits3 : List ℕ → ℕ → Type 0

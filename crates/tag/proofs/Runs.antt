@@ -1,5 +1,5 @@
--- Runs of numbers: their length, one more at the end, and parts of them. Also the bytes of a list at a run of places, and what an
--- overlay over a run sets.
+-- Runs of numbers: their length, one more at the end, their members, and parts of them. Also the bytes of a list at a run of places,
+-- and what an overlay over a run sets.
 -- Assumes nothing.
 use mathlib.Core.Path.{_≡_, refl, ap, _∙_}
 use mathlib.Core.Bool.{true, false, _&&_, _||_, and-false}
@@ -10,7 +10,7 @@ use native.Mathlib.Omega.{arith}
 use native.Mathlib.Decide.{ℕ-discrete, decLt}
 use borrow.Author.Tests.{eq-eqb, ne-eqb, le-leb, lt-leb, lt-ltb, le-ltb}
 use lib.Dec.{leb, ltb, eqb}
-use lib.ListN.{length, take, drop}
+use lib.ListN.{length, getD, take, drop}
 use lib.Seq.{take-all, take-nil, drop-nil, drop-cons}
 use Rattle.tag.specs.Bytes.{byte, run, isSet}
 
@@ -24,6 +24,12 @@ run-snoc (suc n) s = let e : s + suc n ≡ suc s + n = omega arith in rw e (ap (
 
 pub run-more : (s n : ℕ) → run s (n + 1) ≡ run s n ++ ((s + n) ∷ [])
 run-more s n = rw (add-one n) (run-snoc n s)
+
+-- the number after k others
+pub run-nth : (n s k d : ℕ) → k < n → getD (run s n) k d ≡ s + k
+run-nth zero s k d l = absurd (omega arith)
+run-nth (suc n) s zero d l = omega arith
+run-nth (suc n) s (suc k) d l = run-nth n (suc s) k d (omega arith) ∙ omega arith
 
 -- the bytes at a run of places
 pub map-run : (n s : ℕ) (j : List ℕ) → s + n ≤ length j → map (byte j) (run s n) ≡ take n (drop s j)

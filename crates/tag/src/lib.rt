@@ -50,11 +50,11 @@ pub enum Content {
 pub struct Report {
     pub content: Content,
     pub address: Address,
-    // the greatest length that fits, whether the tag is writable or not
-    pub capacity: usize,
     pub length: usize,
     pub interrupted: bool,
     pub writable: bool,
+    // the greatest length that fits, whether the tag is writable or not
+    pub capacity: usize,
 }
 
 // The answer of reading.

@@ -5,8 +5,9 @@ use mathlib.Core.List.{List}
 use Prim.Native.Nat.{ℕ, zero, suc, _+_, _<_, _≤_}
 use native.Mathlib.Decide.{decLt}
 use native.Mathlib.Omega.{arith}
-use lib.ListN.{length, replicate}
+use lib.ListN.{length, getD, replicate}
 use Rattle.tag.specs.Bytes.{byte, run}
+use Rattle.tag.proofs.Runs.{run-nth}
 use Rattle.tlv.specs.Views.Table.{unskipped}
 use Rattle.tlv.specs.Views.Counted.{OneMore, Added, TableOf}
 use Rattle.tlv.proofs.Skipping.{unskipped-all}
@@ -67,3 +68,6 @@ module _ (first end : ℕ) where
 pub none-declared : (end : ℕ) (t : List ℕ) → TableOf end 0 t → (a n : ℕ) → a + n ≤ length t → unskipped t a n ≡ run a n
 unfolding Added
 none-declared end t none a n h = ap (λ s. unskipped s a n) none ∙ unskipped-all (length t) a n h
+
+pub none-nth : (end : ℕ) (t : List ℕ) → TableOf end 0 t → (a n k d : ℕ) → a + n ≤ length t → k < n → getD (unskipped t a n) k d ≡ a + k
+none-nth end t none a n k d h l = ap (λ us. getD us k d) (none-declared end t none a n h) ∙ run-nth n a k d l

@@ -60,8 +60,9 @@ impl Walk {
     }
 }
 
-// The usable address that comes after `k` others, or the end if there are at most `k`. Mostly nothing is skipped on the way there,
-// so the code tests that first: one sweep is quicker than going from each usable address to the next.
+// The usable address that comes after `k` others, or the end if there are at most `k`. Without areas nothing is skipped. With some,
+// mostly nothing is skipped on the way there, so the code tests that first: one sweep is quicker than going from each usable address
+// to the next.
 pub fn nth(w: Walk, k: usize, table: &[u16]) -> Address
     requires { ⌜ Within (now table) w ⌝ }
     ensures is { λ r. ⌜ r .0 ≡ getD (ahead (now (table .entry)) w) k (w .end .0) ⌝ }
@@ -72,6 +73,9 @@ pub fn nth(w: Walk, k: usize, table: &[u16]) -> Address
     let here = w.at.0;
     if stop - here <= k {
         return end;
+    }
+    if w.areas == 0 {
+        return Address(here + k);
     }
     if table::none_skipped(table, w.at, Address(here + k + 1)) {
         return Address(here + k);

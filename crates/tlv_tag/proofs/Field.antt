@@ -7,7 +7,7 @@ use mathlib.Core.Logic.{_⊎_, inl, inr, ⊎-elim}
 use mathlib.Core.List.{List, [], _∷_, _++_, map}
 use Prim.Native.Nat.{ℕ, _+_, _-_, _*_, _/_, _%_, _<_, _≤_}
 use native.Mathlib.Omega.{arith}
-use native.Mathlib.Decide.{decLt, decLe}
+use native.Mathlib.Decide.{decLt}
 use borrow.Author.Tests.{leb-true, leb-false, le-leb, lt-leb, lt-ltb, le-ltb, eq-eqb}
 use lib.Dec.{leb, eqb}
 use lib.ListN.{length, set, take, length-set}
@@ -19,7 +19,7 @@ use Rattle.tag.proofs.Addresses.{Above, above-less, above-hi, above-take, above
 use Rattle.tlv.specs.Walk.{len, longBy, lengthBy, lengthOf}
 use Rattle.tlv.proofs.Sizes.{Sized, length-size}
 use Rattle.tlv_tag.specs.Message.{capacityIn}
-use Rattle.tlv_tag.specs.Update.{Fits, lengthField, tlvBytes, lengthAt}
+use Rattle.tlv_tag.specs.Update.{FitsIn, lengthField, tlvBytes, lengthAt}
 
 -- ---- room
 
@@ -37,7 +37,7 @@ unfolding capacityIn
 capacity-above u l = rw (le-ltb u 255 (omega arith), lt-leb u 257 l)
 
 -- 01's words: a length that fits is at most the capacity
-pub fits-capacity : (u n : ℕ) → Fits u n → n ≤ capacityIn u
+pub fits-capacity : (u n : ℕ) → FitsIn u n → n ≤ capacityIn u
 fits-capacity u n f = go (decLt u 255) (decLt 257 u)
   where
     go : Dec (u < 255) → Dec (257 < u) → n ≤ capacityIn u
@@ -48,10 +48,10 @@ fits-capacity u n f = go (decLt u 255) (decLt 257 u)
         ⊎-elim (λ c. omega (arith, c .0)) (λ c. absurd (omega (arith, c .0, c .1))) f
 
 -- and one that is at most the capacity fits; without a usable byte not even length 0 does
-pub capacity-fits : (u n : ℕ) → 0 < u + n → n ≤ capacityIn u → Fits u n
+pub capacity-fits : (u n : ℕ) → 0 < u + n → n ≤ capacityIn u → FitsIn u n
 capacity-fits u n s l = go (decLt u 255) (decLt 257 u) (decLt 254 n)
   where
-    go : Dec (u < 255) → Dec (257 < u) → Dec (254 < n) → Fits u n
+    go : Dec (u < 255) → Dec (257 < u) → Dec (254 < n) → FitsIn u n
     go (yes h) d (yes b) = absurd (omega (arith, capacity-below u h))
     go (yes h) d (no b) = inl (omega arith, omega (arith, capacity-below u h))
     go (no h) (yes k) (yes b) = inr (omega arith, omega (arith, capacity-above u k))
@@ -137,7 +137,7 @@ module _ (hi : ℕ) where
       }
 
   -- the bound on hi keeps the length in the three-byte form's range
-  pub written : (us m i : List ℕ) (x : ℕ) → Above hi x us → hi ≤ length i → hi ≤ 65534 → Fits (length us) (length m)
+  pub written : (us m i : List ℕ) (x : ℕ) → Above hi x us → hi ≤ length i → hi ≤ 65534 → FitsIn (length us) (length m)
       → Written us m (overlay us (tlvBytes m) i)
   unfolding lengthField
   written us m i x h l w (inl c) =

@@ -25,7 +25,7 @@ use Rattle.tlv.specs.Walk.{Length, bad, len, lengthBy, lengthOf, Found, lost, f
 use Rattle.tlv.proofs.Locality.{find-above, find-same}
 use Rattle.tlv.proofs.Sizes.{length-size}
 use Rattle.tlv_tag.specs.Message.{TlvTag, Located, refuse, located, locateBy, locate, capacityIn, reportOf, readingOf, reading}
-use Rattle.tlv_tag.specs.Update.{usable, Fits, tlvBytes, lengthAt}
+use Rattle.tlv_tag.specs.Update.{usable, FitsIn, tlvBytes, lengthAt}
 use Rattle.tlv_tag.proofs.Field.{Written, written, capacity-fits, fits-less, fits-of, length-some, above-first}
 
 -- ---- a message TLV by its length field
@@ -110,7 +110,7 @@ module _ (T : TlvTag) where
     pub room : length m ≤ capacityIn (length us)
 
   -- it fits, in 01's words
-  pub fits : (i m us : List ℕ) → TlvReady i m us → Fits (length us) (length m)
+  pub fits : (i m us : List ℕ) → TlvReady i m us → FitsIn (length us) (length m)
   fits i m us r = capacity-fits (length us) (length m) (omega (arith, r .some-bytes)) (r .room)
 
   pub located-placed : (i us ms : List ℕ) → locate T i ≡ located us ms → TlvPlaced i us

@@ -16,8 +16,8 @@ usable (located us ms) = us
 
 -- a length n fits (the requirements' word) in u usable bytes, as 01 puts it. No definition uses it: the capacity decides, and it is
 -- proved that the two agree
-abbrev pub Fits : ℕ → ℕ → Type 0
-Fits u n = ((n ≤ 254) × (1 + n ≤ u)) ⊎ ((255 ≤ n) × (3 + n ≤ u))
+abbrev pub FitsIn : ℕ → ℕ → Type 0
+FitsIn u n = ((n ≤ 254) × (1 + n ≤ u)) ⊎ ((255 ≤ n) × (3 + n ≤ u))
 
 -- the length in its shortest form
 unfoldable pub lengthField : ℕ → List ℕ
