@@ -11,6 +11,7 @@ ghost use Rattle.tag.specs.Answers.{oldHeld};
 ghost use Rattle.tag.specs.Contracts.{Read};
 ghost use Rattle.tag.specs.Judge.{holdsAs, readsAs};
 ghost use Rattle.tag.specs.TagType.{held};
+ghost use Rattle.tag.specs.Views.Held.{ReadHeld};
 ghost use Rattle.kinds.specs.Views.Types.{typeOf};
 
 // The length of a gathering buffer in which every interrupted message fits. Only Type 2 has interrupted messages, and none is
@@ -28,13 +29,13 @@ pub fn read(kind: Kind, idm: &[u8; 8], image: &[u8], gathered: &mut [u8]) -> Rea
     }
 }
 
-// The same as `read`, for `is_safe` alone. With one caller the compiler inlines it where the judge reads the tag after each command. A
-// call would return the answer through memory, and the judge of a full Type 3 tag would take twice the time.
+// The same as `read`, but for the capacity, for `is_safe` alone. With one caller the compiler inlines it where the judge reads the tag
+// after each command. A call would return the answer through memory, and the judge of a full Type 3 tag would take twice the time.
 fn read_again(kind: Kind, idm: &[u8; 8], image: &[u8], gathered: &mut [u8]) -> ReadAnswer
-    ensures { λ r. ⌜ Read (typeOf kind (now (idm .entry)) .reading) (now (image .entry)) (now (gathered .entry)) r (now (gathered .exit)) ⌝ }
+    ensures { λ r. ⌜ ReadHeld (typeOf kind (now (idm .entry)) .reading) (now (image .entry)) (now (gathered .entry)) r (now (gathered .exit)) ⌝ }
 {
     match kind {
-        Kind::Type2(e) => type2::read::read(image, gathered),
+        Kind::Type2(e) => type2::read::read_held(image, gathered),
         Kind::Type3(nbw, nmaxb) => type3::read::read(image),
         Kind::Type6(size, blocks) => type6::read::read(image),
     }

@@ -9,10 +9,13 @@ use native.Mathlib.Omega.{arith}
 use borrow.Author.Tests.{ltb-false, le-leb, lt-ltb, le-ltb}
 use lib.ListN.{length, drop, length-append}
 use lib.Seq.{take-append-seam}
+use Rattle.tag.specs.declared.ReadAnswer as code
 use Rattle.tag.specs.Bytes.{overwrite}
 use Rattle.tag.specs.Reading.{Content, message, empty, being-written, Report, Reading, unreadable, reads, tooShort, Answer, refusal, answer, answerOf, gatheredInto, part, shown, Held, broken, heldOf}
 use Rattle.tag.specs.TagType.{TagType, held}
 use Rattle.tag.specs.Answers.{heldBy, oldHeld, isMessage}
+use Rattle.tag.specs.Contracts.{Read}
+use Rattle.tag.specs.Views.Held.{withCapacity, ReadHeld}
 use Rattle.tag.proofs.Logic.{nope}
 use Rattle.tag.proofs.Laws.{Laws}
 
@@ -51,6 +54,47 @@ module _ (v : Reading) (plain : (p : Report) → v ≡ reads p → p .interrupte
       go : (x : Reading) → ((p : Report) → x ≡ reads p → p .interrupted ≡ false) → gatheredInto buffer x ≡ buffer
       go (unreadable r) h = refl
       go (reads p) h = rw (h p refl)
+
+-- ---- what a tag holds does not depend on its capacity
+
+same-capacity : (v : Reading) → (c : ℕ) × (withCapacity c v ≡ v)
+same-capacity (unreadable r) = (0, refl)
+same-capacity (reads p) = (p .capacity, refl)
+
+pub read-held : (reading : List ℕ → Reading) (i buffer : List ℕ) (r : code.ReadAnswer) (out : List ℕ) → Read reading i buffer r out → ReadHeld reading i buffer r out
+read-held reading i buffer r out h = let (c, e) = same-capacity (reading i) in (c, rw e h)
+
+module _ (c : ℕ) where
+  held-alike : (v : Reading) (n : ℕ) (part : List ℕ) → heldBy (answerOf n (withCapacity c v)) part ≡ heldBy (answerOf n v) part
+  held-alike (unreadable r) n part = refl
+  held-alike (reads p) n part = go (tooShort n p) refl
+    where
+      go : (b : Bool) → tooShort n p ≡ b → heldBy (answerOf n (withCapacity c (reads p))) part ≡ heldBy (answerOf n (reads p)) part
+      go true q = rw q
+      go false q = rw q
+
+  shown-alike : (i g : List ℕ) (v : Reading) (n : ℕ) → shown i g (answerOf n (withCapacity c v)) ≡ shown i g (answerOf n v)
+  shown-alike i g (unreadable r) n = refl
+  shown-alike i g (reads p) n = go (tooShort n p) refl (p .content) refl
+    where
+      go : (b : Bool) → tooShort n p ≡ b → (k : Content) → p .content ≡ k → shown i g (answerOf n (withCapacity c (reads p))) ≡ shown i g (answerOf n (reads p))
+      go true q k e = rw q
+      go false q message e = rw (q, e)
+      go false q empty e = rw (q, e)
+      go false q being-written e = rw (q, e)
+
+  gathered-alike : (v : Reading) (buffer : List ℕ) → gatheredInto buffer (withCapacity c v) ≡ gatheredInto buffer v
+  gathered-alike (unreadable r) buffer = refl
+  gathered-alike (reads p) buffer = refl
+
+  -- so a law about reading holds of an answer with any capacity
+  pub held-any : (i before after : List ℕ) (v : Reading) (a : Answer) (part : List ℕ) (h : Held)
+      → ((g x : List ℕ) → g ≡ gatheredInto before v → x ≡ shown i g (answerOf (length before) v) → heldBy (answerOf (length before) v) x ≡ h)
+      → a ≡ answerOf (length before) (withCapacity c v) → after ≡ gatheredInto before (withCapacity c v) → part ≡ shown i after a
+      → heldBy a part ≡ h
+  held-any i before after v a part h law e g s =
+      ap (λ x. heldBy x part) e ∙ held-alike v (length before) part
+      ∙ law after part (g ∙ gathered-alike v before) (s ∙ ap (shown i after) e ∙ shown-alike i after v (length before))
 
 -- the old message, of a tag that reads
 old-held : (a : Answer) (part : List ℕ) → (heldBy a part ≡ broken → ⊥) → oldHeld (isMessage a) part ≡ heldBy a part

@@ -18,6 +18,7 @@ use Rattle.tag.specs.Bytes.{byte, consecutive, overwrite}
 use Rattle.tag.specs.Checks.{fault, firstOf}
 use Rattle.tag.specs.Reading.{message, Reading, unreadable, reads, answerOf, gatheredInto, refusalNumber}
 use Rattle.tag.specs.Answers.{readAs}
+use Rattle.tag.specs.Views.Held.{withCapacity}
 use Rattle.tlv.specs.declared.walk.Walk.{Walk}
 use Rattle.tlv.specs.declared.find.Found as code-found
 use Rattle.tlv.specs.declared.find.Found.the-variants as code-at
@@ -28,7 +29,7 @@ use Rattle.tlv.specs.Views.Finding.{foundAs}
 use Rattle.tlv_value.specs.Views.Values.{at, measured}
 use Rattle.tlv_tag.specs.Message.{TlvTag, Located, refuse, located, locateBy, locateFrom, locate, capacityIn, reportOf, readingOf, reading}
 use Rattle.tlv_tag.specs.Views.BlankArea.{BlankArea}
-use Rattle.tlv_tag.specs.Views.Reading.{areaLocated, tlvLocated, valueReading, refusalOf, reportAs}
+use Rattle.tlv_tag.specs.Views.Reading.{areaLocated, tlvLocated, countedReading, valueReading, refusalOf, reportAs}
 use Rattle.tlv_tag.proofs.Fitting.{Begins, found-all}
 
 -- the answer and the gathering buffer afterwards are those of a reading
@@ -85,21 +86,36 @@ module _ (w : Bool) (c : ℕ) (i us : List ℕ) where
 
 -- ---- the message TLV by its length field
 
-value-is : (w : Bool) (i us vs : List ℕ) (n : ℕ) → readingOf w i (locateBy us (len n vs)) ≡ valueReading w (capacityIn (length us)) i n vs
+value-is : (k w : Bool) (i us vs : List ℕ) (n : ℕ)
+    → countedReading k w i (locateBy us (len n vs)) ≡ valueReading w (cond k (capacityIn (length us)) 0) i n vs
 unfolding locateBy valueReading
-value-is w i us vs n = go (leb n (length vs))
+value-is k w i us vs n = go (leb n (length vs))
   where
-    go : (b : Bool) → readingOf w i (cond b (located us (take n vs)) (refuse 7)) ≡ cond b (reads (reportOf w (capacityIn (length us)) i (take n vs))) (unreadable 7)
+    c : ℕ
+    c = cond k (capacityIn (length us)) 0
+
+    go : (b : Bool) → countedReading k w i (cond b (located us (take n vs)) (refuse 7)) ≡ cond b (reads (reportOf w c i (take n vs))) (unreadable 7)
     go true = refl
     go false = refl
 
-module _ (w : Bool) (i us : List ℕ) where
-  pub field-bad : bad ≡ lengthOf i us → readingOf w i (tlvLocated i us) ≡ unreadable 7
+module _ (k w : Bool) (i us : List ℕ) where
+  pub field-bad : bad ≡ lengthOf i us → countedReading k w i (tlvLocated i us) ≡ unreadable 7
   unfolding locateBy
-  field-bad e = ap (λ l. readingOf w i (locateBy us l)) (sym e)
+  field-bad e = ap (λ l. countedReading k w i (locateBy us l)) (sym e)
 
-  pub field-is : (n : ℕ) (vs : List ℕ) → len n vs ≡ lengthOf i us → readingOf w i (tlvLocated i us) ≡ valueReading w (capacityIn (length us)) i n vs
-  field-is n vs e = ap (λ l. readingOf w i (locateBy us l)) (sym e) ∙ value-is w i us vs n
+  pub field-is : (n : ℕ) (vs : List ℕ) → len n vs ≡ lengthOf i us
+      → countedReading k w i (tlvLocated i us) ≡ valueReading w (cond k (capacityIn (length us)) 0) i n vs
+  field-is n vs e = ap (λ l. countedReading k w i (locateBy us l)) (sym e) ∙ value-is k w i us vs n
+
+-- with its capacity counted it is the reading; else it is the reading with another capacity
+pub counted-is : (w : Bool) (i : List ℕ) (v : Located) → countedReading true w i v ≡ readingOf w i v
+counted-is w i (refuse r) = refl
+counted-is w i (located us ms) = refl
+
+pub uncounted-is : (w : Bool) (i : List ℕ) (v : Located) → countedReading false w i v ≡ withCapacity 0 (readingOf w i v)
+uncounted-is w i (refuse r) = refl
+uncounted-is w i (located us []) = refl
+uncounted-is w i (located us (a ∷ ms)) = refl
 
 -- the refusal of passing the TLV over, or 0
 abbrev passRefusal : Passed → ℕ
@@ -137,9 +153,9 @@ module _ (i t u : List ℕ) (first end : ℕ) (w : Walk) (f : code-found.Found) 
 
 -- ---- a tag by the tests of its type
 
-pub reading-fault : (T : TlvTag) (i : List ℕ) (r : ℕ) → fault r ≡ firstOf ((T .checks) i) → reading T i ≡ unreadable r
-unfolding reading locate
-reading-fault T i r e = rw (← e)
+pub located-fault : (T : TlvTag) (i : List ℕ) (r : ℕ) → fault r ≡ firstOf ((T .checks) i) → locate T i ≡ refuse r
+unfolding locate
+located-fault T i r e = rw (← e)
 
 pub reading-refusal : (w : Bool) (i : List ℕ) (v : Located) → refusalNumber (readingOf w i v) ≡ refusalOf v
 reading-refusal w i (refuse r) = refl

@@ -3,6 +3,7 @@
 use tlv::walk::Walk;
 use tlv_value::value;
 ghost use mathlib.Core.Path.{_≡_};
+ghost use mathlib.Core.Bool.{cond};
 ghost use Prim.Native.Nat.{_<_};
 ghost use lib.ListN.{length};
 ghost use Rattle.tlv.specs.Views.Walks.{ahead, Within};
@@ -30,4 +31,12 @@ pub(crate) fn capacity(w: Walk, table: &[u16]) -> usize
 {
     let u = value::count(w, table);
     capacity_in(u)
+}
+
+// The same if it is to be counted, else 0.
+pub(crate) fn capacity_if(counted: bool, w: Walk, table: &[u16]) -> usize
+    requires { ⌜ Within (now table) w × (0 < length (ahead (now table) w)) ⌝ }
+    ensures { λ r. ⌜ r ≡ cond counted (capacityIn (length (ahead (now (table .entry)) w))) 0 ⌝ }
+{
+    if counted { capacity(w, table) } else { 0 }
 }

@@ -19,9 +19,8 @@ ghost use Rattle.tag.specs.Reading.{reads};
 ghost use Rattle.tag.specs.Contracts.{ReadOf};
 ghost use Rattle.tlv.specs.Views.Counted.{Declared};
 ghost use Rattle.tlv.specs.Views.Walks.{ahead, Placed};
-ghost use Rattle.tlv_tag.specs.Message.{readingOf};
 ghost use Rattle.tlv_tag.specs.Views.BlankArea.{BlankArea};
-ghost use Rattle.tlv_tag.specs.Views.Reading.{areaLocated, tlvLocated, valueReading, refusalOf, reportAs};
+ghost use Rattle.tlv_tag.specs.Views.Reading.{areaLocated, tlvLocated, countedReading, valueReading, refusalOf, reportAs};
 
 // Answers with the message that starts at the walk's place. An interrupted message is gathered, unless the buffer is too short.
 fn deliver(image: &[u8], gathered: &mut [u8], table: &[u16], w: Walk, report: Report) -> ReadAnswer
@@ -86,20 +85,22 @@ fn read_message(
     table: &[u16],
     w: Walk,
     writable: bool,
+    counted: bool,
 ) -> ReadAnswer
     requires { ⌜ Placed (now image) (now table) w ⌝ }
-    ensures read { λ r. ⌜ ReadOf (readingOf writable (now (image .entry)) (tlvLocated (now (image .entry)) (ahead (now (table .entry)) w))) (now (gathered .entry)) r (now (gathered .exit)) ⌝ }
+    ensures read { λ r. ⌜ ReadOf (countedReading counted writable (now (image .entry)) (tlvLocated (now (image .entry)) (ahead (now (table .entry)) w))) (now (gathered .entry)) r (now (gathered .exit)) ⌝ }
 {
     match w.take_length(image, table) {
         Field::Bad => ReadAnswer::Refused(refusals::BAD_LENGTH),
         Field::Is(n, v) => {
-            let capacity = capacity::capacity(w, table);
+            let capacity = capacity::capacity_if(counted, w, table);
             read_value(image, gathered, table, v, n, capacity, writable)
         }
     }
 }
 
-// Reads the data area from `first` up to `end`. The skip table passed in is all zeros.
+// Reads the data area from `first` up to `end`. The skip table passed in is all zeros. The capacity is counted if it is asked for: where
+// areas are declared, that takes a sweep over the skip table.
 pub fn read_area(
     image: &[u8],
     gathered: &mut [u8],
@@ -107,15 +108,16 @@ pub fn read_area(
     first: Address,
     end: Address,
     writable: bool,
+    counted: bool,
 ) -> ReadAnswer
     requires { ⌜ BlankArea (now image) (now table) (first .0) (end .0) ⌝ }
-    ensures read { λ r. ⌜ ReadOf (readingOf writable (now (image .entry)) (areaLocated (now (image .entry)) (first .0) (end .0))) (now (gathered .entry)) r (now (gathered .exit)) ⌝ }
+    ensures read { λ r. ⌜ ReadOf (countedReading counted writable (now (image .entry)) (areaLocated (now (image .entry)) (first .0) (end .0))) (now (gathered .entry)) r (now (gathered .exit)) ⌝ }
     ensures table { λ _. ⌜ Declared (first .0) (end .0) (now (table .entry)) (now (table .exit)) ⌝ }
 {
     let w = Walk::new(first, end);
     match w.find_message(first, image, table) {
         Found::Refused(r) => ReadAnswer::Refused(r),
-        Found::At(_, v) => read_message(image, gathered, table, v, writable),
+        Found::At(_, v) => read_message(image, gathered, table, v, writable, counted),
     }
 }
 

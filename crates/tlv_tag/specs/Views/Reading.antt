@@ -13,7 +13,7 @@ use Rattle.tag.specs.Reading.{Report, Reading, unreadable, reads}
 use Rattle.tag.specs.Answers.{contentOf}
 use Rattle.tlv.specs.Areas.{allowedArea}
 use Rattle.tlv.specs.Walk.{lengthOf, find}
-use Rattle.tlv_tag.specs.Message.{Located, refuse, located, locateBy, locateFrom, reportOf}
+use Rattle.tlv_tag.specs.Message.{Located, refuse, located, locateBy, locateFrom, capacityIn, reportOf}
 
 -- the data area from first up to end
 abbrev pub areaLocated : List ℕ → ℕ → ℕ → Located
@@ -22,6 +22,11 @@ areaLocated i first end = locateFrom i (find (allowedArea first (length i)) (end
 -- a message TLV with the usable addresses us after its type byte
 abbrev pub tlvLocated : List ℕ → List ℕ → Located
 tlvLocated i us = locateBy us (lengthOf i us)
+
+-- the reading of what was located, with its capacity if that is counted, else with 0
+abbrev pub countedReading : Bool → Bool → List ℕ → Located → Reading
+countedReading counted w i (refuse r) = unreadable r
+countedReading counted w i (located us ms) = reads (reportOf w (cond counted (capacityIn (length us)) 0) i ms)
 
 -- a value of n bytes, with the usable addresses us from its first on, on a tag with the capacity c
 unfoldable pub valueReading : Bool → ℕ → List ℕ → ℕ → List ℕ → Reading

@@ -1,8 +1,8 @@
 -- `reading::is_safe` meets its contract. Assumes nothing.
 use mathlib.Core.Path.{ap, _∙_}
 use Rattle.tag.specs.Judge.{readsAs}
-use Rattle.tag.specs.Answers.{readAs, oldHeld}
-use Rattle.kinds.proofs.EachKind.{held-read}
+use Rattle.tag.specs.Answers.{oldHeld}
+use Rattle.kinds.proofs.EachKind.{held-again}
 use borrow.Author.Needs.{needs}
 use Rattle.kinds.proofs.reading.is_safe.Statement.{statement}
 use Rattle.kinds.proofs.reading.is_safe.Tie as tie
@@ -18,8 +18,8 @@ returns c =
     let shown = at-shown .shown in
     c .is-safe .ensures
     ∙ ap (readsAs (a .new .now) (oldHeld (a .present) (a .old .now)))
-    (held-read (a .kind) (a .idm .now) (a .image .now) (a .gathered .now) (r .last .1 .1 .1 .0) (readAs (r .result)) (shown .result .now) (at-start .pre)
-    (r .ensures .0) (r .ensures .1) (shown .ensures))
+    (held-again (a .kind) (a .idm .now) (a .image .now) (a .gathered .now) (r .last .1 .1 .1 .0) (r .result) (shown .result .now) (at-start .pre) (r .ensures)
+    (shown .ensures))
 
 pub is-safe-spec : {M : Type 1} → statement M
 is-safe-spec = tie.close (tie.spec (λ c κs. search needs) (λ c κs. search needs) (λ c κs. search needs) (λ c. search needs) returns)

@@ -9,8 +9,8 @@ use Rattle.tlv_tag.proofs.Reading.{field-bad, field-is}
 use Rattle.tlv_tag.proofs.read.read_message.Statement.{statement}
 use Rattle.tlv_tag.proofs.read.read_message.Tie as tie
 
-capacity-requires : tie.Need-capacity-requires
-capacity-requires c κs =
+capacity-if-requires : tie.Need-capacity-if-requires
+capacity-if-requires c κs =
     let at-n = c .before in
     let at-take-length = at-n .before .before in
     let at-start = at-take-length .before .before .before .before in
@@ -31,7 +31,7 @@ returns c =
     let at-start = at-take-length .before .before .before .before in
     let a = at-start .args in
     let t = a .table .now in
-    rw (field-bad (a .writable) (a .image .now) (ahead t (a .w)) (sym (ap (fieldAs t) (c .enum-told .given .1)) ∙ at-take-length .take-length .ensures .0))
+    rw (field-bad (a .counted) (a .writable) (a .image .now) (ahead t (a .w)) (sym (ap (fieldAs t) (c .enum-told .given .1)) ∙ at-take-length .take-length .ensures .0))
     (refl, refl)
 
 returns-2 : tie.Need-returns-2
@@ -45,7 +45,7 @@ returns-2 c =
     let t = a .table .now in
     let g = at-n .n .given in
     let f = at-take-length .take-length .ensures in
-    rw (field-is (a .writable) (a .image .now) (ahead t (a .w)) _ _ (sym (ap (fieldAs t) (g .1)) ∙ f .0), ← at-capacity .capacity .ensures)
+    rw (field-is (a .counted) (a .writable) (a .image .now) (ahead t (a .w)) _ _ (sym (ap (fieldAs t) (g .1)) ∙ f .0), ← at-capacity .capacity-if .ensures)
     (at-read-value .read-value .ensures)
 
 pub read-message-spec : {M : Type 1} → statement M
@@ -55,7 +55,7 @@ read-message-spec =
     (λ c κs. search needs)
     (λ c. search needs)
     (λ c. search needs)
-    capacity-requires
+    capacity-if-requires
     read-value-requires
     returns
     (λ c. search needs)

@@ -33,7 +33,7 @@ returns-2 c =
     let d = at-data-area .data-area in
     let x = at-read-area .read-area .ensures in
     let h = checks-pass (a .image .now) (d .result) _ _ (d .ensures .0) (d .ensures .1) (at-end .end .given .1) in
-    rw (by-area (a .image .now) _ _ h) (x .0)
+    rw (by-area (a .image .now) _ _ h (a .counted)) (x .0)
 
 pub read-with-spec : {M : Type 1} → statement M
 read-with-spec =

@@ -1,8 +1,7 @@
 -- `read::refusal_with` meets its contract. Assumes nothing.
-use mathlib.Core.Path.{sym, ap, _∙_}
+use mathlib.Core.Path.{sym, _∙_}
 use borrow.Author.Needs.{needs}
-use Rattle.tag.specs.Reading.{refusalNumber}
-use Rattle.type2.proofs.Reading.{refused, checks-pass, blank, refusal-by-area}
+use Rattle.type2.proofs.Reading.{refused, checks-pass, blank, inside-located, refusal-located}
 use Rattle.type2.proofs.read.refusal_with.Statement.{statement}
 use Rattle.type2.proofs.read.refusal_with.Tie as tie
 
@@ -22,7 +21,7 @@ returns c =
     let at-start = at-data-area .before .before .before in
     let a = at-start .args in
     let d = at-data-area .data-area in
-    sym (ap refusalNumber (refused (a .image .now) (d .result) _ (d .ensures .0) (at-r .r .given .1)))
+    sym (refusal-located (a .image .now) _ (refused (a .image .now) (d .result) _ (d .ensures .0) (at-r .r .given .1)))
 
 returns-2 : tie.Need-returns-2
 returns-2 c =
@@ -33,7 +32,7 @@ returns-2 c =
     let a = at-start .args in
     let d = at-data-area .data-area in
     let h = checks-pass (a .image .now) (d .result) _ _ (d .ensures .0) (d .ensures .1) (at-end .end .given .1) in
-    at-area-refusal .area-refusal .ensures .0 ∙ sym (refusal-by-area (a .image .now) _ _ h)
+    at-area-refusal .area-refusal .ensures .0 ∙ sym (refusal-located (a .image .now) _ (inside-located (a .image .now) _ _ h))
 
 pub refusal-with-spec : {M : Type 1} → statement M
 refusal-with-spec =
