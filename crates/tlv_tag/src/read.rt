@@ -46,8 +46,8 @@ fn read_value(
     table: &[u16],
     w: Walk,
     n: usize,
-    capacity: usize,
     writable: bool,
+    capacity: usize,
 ) -> ReadAnswer
     requires { ⌜ Placed (now image) (now table) w ⌝ }
     ensures read { λ r. ⌜ ReadOf (valueReading writable capacity (now (image .entry)) n (ahead (now (table .entry)) w)) (now (gathered .entry)) r (now (gathered .exit)) ⌝ }
@@ -56,10 +56,10 @@ fn read_value(
         return ReadAnswer::Reads(Report {
             content: Content::Empty,
             address: Address(0),
-            capacity,
             length: 0,
             interrupted: false,
             writable,
+            capacity,
         });
     }
     match value::measure(w, n, table) {
@@ -68,17 +68,17 @@ fn read_value(
             let report = Report {
                 content: Content::Message,
                 address,
-                capacity,
                 length: n,
                 interrupted,
                 writable,
+                capacity,
             };
             deliver(image, gathered, table, w, report)
         }
     }
 }
 
-// Reads the message TLV whose type byte the walk has just passed.
+// Reads the message TLV whose type byte the walk has just passed, with its capacity if that is counted.
 fn read_message(
     image: &[u8],
     gathered: &mut [u8],
@@ -94,7 +94,7 @@ fn read_message(
         Field::Bad => ReadAnswer::Refused(refusals::BAD_LENGTH),
         Field::Is(n, v) => {
             let capacity = capacity::capacity_if(counted, w, table);
-            read_value(image, gathered, table, v, n, capacity, writable)
+            read_value(image, gathered, table, v, n, writable, capacity)
         }
     }
 }

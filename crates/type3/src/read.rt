@@ -209,10 +209,10 @@ fn report(a: AttributeInformation) -> Report
     Report {
         content: Content::Message,
         address,
-        capacity,
         length,
         interrupted: false,
         writable,
+        capacity,
     }
 }
 
@@ -223,10 +223,10 @@ fn without(content: Content, writable: bool, capacity: usize) -> Report
     Report {
         content,
         address: Address(0),
-        capacity,
         length: 0,
         interrupted: false,
         writable,
+        capacity,
     }
 }
 

@@ -28,20 +28,20 @@ fn report(c: Container) -> Report
         return Report {
             content: Content::Empty,
             address: Address(0),
-            capacity,
             length: 0,
             interrupted: false,
             writable,
+            capacity,
         };
     }
     let start = container::NLEN + c.file.0;
     Report {
         content: Content::Message,
         address: Address(start),
-        capacity,
         length,
         interrupted: false,
         writable,
+        capacity,
     }
 }
 
