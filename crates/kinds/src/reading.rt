@@ -29,8 +29,8 @@ pub fn read(kind: Kind, idm: &[u8; 8], image: &[u8], gathered: &mut [u8]) -> Rea
     }
 }
 
-// The same as `read`, but for the capacity, for `is_safe` alone. With one caller the compiler inlines it where the judge reads the tag
-// after each command. A call would return the answer through memory, and the judge of a full Type 3 tag would take twice the time.
+// The same as `read` except for the capacity, and for `is_safe` alone. With one caller the compiler inlines it where the judge reads the
+// tag after each command. A call would return the answer through memory, and the judge of a full Type 3 tag would take twice the time.
 fn read_again(kind: Kind, idm: &[u8; 8], image: &[u8], gathered: &mut [u8]) -> ReadAnswer
     ensures { λ r. ⌜ ReadHeld (typeOf kind (now (idm .entry)) .reading) (now (image .entry)) (now (gathered .entry)) r (now (gathered .exit)) ⌝ }
 {

@@ -213,7 +213,7 @@ fn card_lists() {
 }
 
 // E3: the capacity on each side of its limits.
-fn capacities() {
+fn capacities_by_room() {
     type2_tags::read_room(1);
     type2_tags::read_room(47);
     type2_tags::read_room(254);
@@ -224,7 +224,7 @@ fn capacities() {
 }
 
 // The capacity of read-only tags, of one being written, and of a card with blocks of one byte.
-fn unwritable() {
+fn capacities_by_state() {
     type2_tags::read(b"read-only", b"\xE1\x10\x06\x0F\x03\x03\xD0\x00\x00\xFE");
     type3_tags::read(
         b"Type 3, read-only",
@@ -256,6 +256,6 @@ fn main() {
     cards();
     card_lengths();
     card_lists();
-    capacities();
-    unwritable();
+    capacities_by_room();
+    capacities_by_state();
 }

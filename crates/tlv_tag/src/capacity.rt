@@ -33,7 +33,7 @@ pub(crate) fn capacity(w: Walk, table: &[u16]) -> usize
     capacity_in(u)
 }
 
-// The same if it is to be counted, else 0.
+// The capacity if it is to be counted, else 0.
 pub(crate) fn capacity_if(counted: bool, w: Walk, table: &[u16]) -> usize
     requires { ⌜ Within (now table) w × (0 < length (ahead (now table) w)) ⌝ }
     ensures { λ r. ⌜ r ≡ cond counted (capacityIn (length (ahead (now (table .entry)) w))) 0 ⌝ }

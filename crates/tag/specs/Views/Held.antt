@@ -1,4 +1,4 @@
--- Reading a tag for what it holds, whatever its capacity. The judge reads so after each command.
+-- Reading a tag for what it holds, whatever its capacity. The judge reads this way after each command.
 -- Assumes nothing.
 use mathlib.Core.List.{List}
 use Prim.Native.Nat.{ℕ}
