@@ -39,12 +39,34 @@ fn after(image: &[u8], list: &[Command]) -> Vec<u8> {
     image
 }
 
-/// The commands that lead back from the end of our list to the tag handed in.
+/// Our list with nothing left out or, if not `all`, with only its first command put back. On a tag
+/// with areas, blocks without a byte to set may be in between. Empty if writing is refused.
+fn whole(image: &[u8], message: &[u8], all: bool) -> Vec<Command> {
+    let ours = ours(image, message);
+    let Some(last) = ours.last() else {
+        return ours;
+    };
+    let guard = last[1] as usize;
+    let first = match ours[0] {
+        first if first[1] == last[1] && ours.len() > 1 => first,
+        _ => idle(image, guard), // it is shut already
+    };
+    let new = after(image, &ours);
+    let named = ours.iter().map(|command| command[1] as usize);
+    let end = named.fold(guard + message.len() / 4, usize::max);
+    let blocks = (guard + 1..=end).map(|block| idle(&new, block));
+    let mut list = vec![first];
+    list.extend(blocks.filter(|command| all || ours.contains(command)));
+    list.push(*last);
+    list
+}
+
+/// The commands that lead back from the end of a whole list to the tag handed in.
 fn back(image: &[u8], list: &[Command]) -> Vec<Command> {
     let (Some(first), Some(last)) = (list.first(), list.last()) else {
         return Vec::new();
     };
-    // The byte that our first command sets to 00h is the first length byte.
+    // The byte that the first command sets to 00h is the first length byte.
     let held = idle(image, first[1] as usize);
     let length = (2..6).find(|&i| first[i] != held[i]);
     let mut back = Vec::new();
@@ -63,7 +85,7 @@ fn back(image: &[u8], list: &[Command]) -> Vec<Command> {
 
 /// A list that is usually as good as ours.
 fn good(rng: &mut Rng, image: &[u8], message: &[u8]) -> Vec<Command> {
-    let mut list = ours(image, message);
+    let mut list = whole(image, message, rng.percent(70));
     if list.is_empty() {
         return list;
     }
@@ -110,6 +132,9 @@ fn good(rng: &mut Rng, image: &[u8], message: &[u8]) -> Vec<Command> {
                 list[0][length] = first[length];
             }
         }
+    }
+    if rng.percent(30) && list[0] == idle(image, list[0][1] as usize) {
+        list.remove(0);
     }
     list
 }
@@ -175,12 +200,7 @@ pub fn any(rng: &mut Rng, image: &[u8], message: &[u8]) -> Vec<u8> {
         1 => Vec::new(),
         2 | 3 => {
             let (_, capacity) = super::tags2::message_and_capacity(image);
-            let len = match rng.below(3) {
-                0 => message.len(),
-                1 => message.len().saturating_sub(1),
-                _ => super::message_len(rng, message.len(), capacity),
-            };
-            let other = rng.bytes(len.min(capacity));
+            let other = super::other_message(rng, message, capacity);
             ours(image, &other)
         }
         4 if image.len() >= 64 => {

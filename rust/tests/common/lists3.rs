@@ -1,5 +1,6 @@
 //! Foreign command lists for Type 3 tags.
 
+use super::kinds::{Kind, Type3};
 use super::tags3::{message_and_capacity, seal};
 use super::Rng;
 use crate::reference::type3;
@@ -41,18 +42,11 @@ pub fn our_bytes(image: &[u8], message: &[u8], idm: &[u8; 8]) -> Vec<u8> {
 }
 
 fn ours(image: &[u8], message: &[u8]) -> Vec<Command> {
-    let list = our_bytes(image, message, &[0; 8]);
-    split(&list)
+    let kind = Type3 { idm: [0; 8] };
+    let part = |(block, data): (usize, &[u8])| (block as u8, data.try_into().unwrap());
+    split(&kind.ours(image, message))
         .iter()
-        .map(|command| {
-            let count = command[12] as usize;
-            let (block_list, data) = command[13..].split_at(2 * count);
-            block_list
-                .chunks_exact(2)
-                .map(|element| element[1])
-                .zip(data.chunks_exact(16).map(|data| data.try_into().unwrap()))
-                .collect()
-        })
+        .map(|command| kind.parts(command).into_iter().map(part).collect())
         .collect()
 }
 
@@ -72,7 +66,28 @@ fn after(image: &[u8], list: &[Command]) -> Vec<u8> {
     image
 }
 
-/// The commands that lead back from the end of our list to the tag handed in.
+/// Our list with nothing left out, as 01 has it or, if not `all`, with only its first command put
+/// back. Empty if writing is refused.
+fn whole(image: &[u8], message: &[u8], width: usize, all: bool) -> Vec<Command> {
+    let ours = ours(image, message);
+    let Some(last) = ours.last() else {
+        return ours;
+    };
+    let mut shut = image.to_vec();
+    shut[9] = 0x0F;
+    seal(&mut shut);
+    let new = after(image, &ours);
+    let mut blocks: Command = (1..=message.len().div_ceil(16))
+        .map(|block| held(&new, block))
+        .collect();
+    blocks.retain(|&part| all || part != held(image, part.0 as usize));
+    let mut list = vec![vec![held(&shut, 0)]];
+    list.extend(blocks.chunks(width).map(<[_]>::to_vec));
+    list.push(last.clone());
+    list
+}
+
+/// The commands that lead back from the end of a whole list to the tag handed in.
 fn back(image: &[u8], list: &[Command]) -> Vec<Command> {
     let mut closing = after(image, list);
     closing[9] = 0x0F;
@@ -90,7 +105,7 @@ fn back(image: &[u8], list: &[Command]) -> Vec<Command> {
 
 /// A list that is usually as good as ours; `width` blocks go in a command.
 fn good(rng: &mut Rng, image: &[u8], message: &[u8], width: usize) -> Vec<Command> {
-    let mut list = ours(image, message);
+    let mut list = whole(image, message, width, rng.percent(70));
     if list.is_empty() {
         return list;
     }
@@ -163,6 +178,9 @@ fn good(rng: &mut Rng, image: &[u8], message: &[u8], width: usize) -> Vec<Comman
                 }
             }
         }
+    }
+    if rng.percent(30) && list[0] == [held(image, 0)] {
+        list.remove(0);
     }
     list
 }
@@ -242,12 +260,7 @@ pub fn any(rng: &mut Rng, image: &[u8], message: &[u8], idm: &[u8; 8]) -> Vec<u8
         1 => Vec::new(),
         2 | 3 => {
             let (_, capacity) = message_and_capacity(image);
-            let len = match rng.below(3) {
-                0 => message.len(),
-                1 => message.len().saturating_sub(1),
-                _ => super::message_len(rng, message.len(), capacity),
-            };
-            let other = rng.bytes(len.min(capacity));
+            let other = super::other_message(rng, message, capacity);
             ours(image, &other)
         }
         4 if image.len() >= 16 => {

@@ -51,7 +51,23 @@ fn after(image: &[u8], list: &[Command]) -> Vec<u8> {
     image
 }
 
-/// The commands that lead back from the end of our list to the tag handed in.
+/// Our list with nothing left out, as E2 has it or, if not `all`, with only its first command put
+/// back. Empty if writing is refused.
+pub fn whole(image: &[u8], message: &[u8], all: bool) -> Vec<Command> {
+    let ours = ours(image, message);
+    let Some(last) = ours.last() else {
+        return ours;
+    };
+    let (new, guard) = (after(image, &ours), last[2] as usize);
+    let end = (file(block_size(image)) + 1 + message.len()) / block_size(image);
+    let blocks = (guard + 1..=end).map(|block| idle(&new, block));
+    let mut list = vec![shut(&idle(image, guard))];
+    list.extend(blocks.filter(|command| all || ours.contains(command)));
+    list.push(last.clone());
+    list
+}
+
+/// The commands that lead back from the end of a whole list to the tag handed in.
 fn back(image: &[u8], list: &[Command]) -> Vec<Command> {
     let mut back = vec![shut(&list[list.len() - 1])];
     let blocks = list[1..].iter().map(|command| command[2] as usize);
@@ -68,7 +84,7 @@ fn shut(command: &[u8]) -> Command {
 
 /// A list that is usually as good as ours.
 fn good(rng: &mut Rng, image: &[u8], message: &[u8]) -> Vec<Command> {
-    let mut list = ours(image, message);
+    let mut list = whole(image, message, rng.percent(70));
     for _ in 0..rng.pick(&[0, 1, 1, 2, 3]) {
         if list.len() < 2 {
             break;
@@ -218,12 +234,8 @@ pub fn any(rng: &mut Rng, image: &[u8], message: &[u8]) -> Vec<u8> {
         1 => Vec::new(),
         2 | 3 => {
             let (_, capacity) = message_and_capacity(image);
-            let len = match rng.below(3) {
-                0 => message.len(),
-                1 => message.len().saturating_sub(1),
-                _ => super::message_len(rng, message.len(), capacity),
-            };
-            ours(image, &rng.bytes(len.min(capacity)))
+            let other = super::other_message(rng, message, capacity);
+            ours(image, &other)
         }
         4 if blocks(image) > 0 => {
             let block = rng.below(blocks(image));

@@ -3,10 +3,12 @@
 #![allow(dead_code)]
 
 pub mod codec;
+pub mod kinds;
 mod layout2;
 pub mod lists2;
 pub mod lists3;
 pub mod lists6;
+pub mod rewrites;
 pub mod tags2;
 pub mod tags3;
 pub mod tags6;
@@ -238,12 +240,37 @@ pub fn message(rng: &mut Rng, old: &[u8], capacity: usize) -> Vec<u8> {
         3 => old[..rng.below(old.len() + 1)].to_vec(),
         _ => {
             let len = message_len(rng, old.len(), capacity);
-            match rng.below(4) {
-                0 => vec![rng.pick(&[0x00, 0x03, 0xFE, 0xFF]); len],
-                _ => rng.bytes(len),
-            }
+            contents(rng, len)
         }
     }
+}
+
+/// The bytes of a new message: random, or all the same.
+fn contents(rng: &mut Rng, len: usize) -> Vec<u8> {
+    match rng.below(4) {
+        0 => vec![rng.pick(&[0x00, 0x03, 0xFE, 0xFF]); len],
+        _ => rng.bytes(len),
+    }
+}
+
+/// A message other than this one that fits, often of the same length or a byte shorter.
+fn other_message(rng: &mut Rng, message: &[u8], capacity: usize) -> Vec<u8> {
+    let len = match rng.below(3) {
+        0 => message.len(),
+        1 => message.len().saturating_sub(1),
+        _ => message_len(rng, message.len(), capacity),
+    };
+    rng.bytes(len.min(capacity))
+}
+
+/// A message that fits. Long ones are rare, for tests in which every cut costs a whole list.
+pub fn fitting_message(rng: &mut Rng, old: &[u8], capacity: usize) -> Vec<u8> {
+    if !old.is_empty() && rng.percent(10) {
+        return old.to_vec();
+    }
+    let len = message_len(rng, old.len(), capacity).clamp(1, capacity);
+    let most = if rng.percent(5) { capacity } else { 80 };
+    contents(rng, len.min(most))
 }
 
 /// The length of a buffer for a call that writes `needed` bytes: enough, exact or too short.

@@ -1,5 +1,5 @@
 //! The rules of `docs/01-scope.md` in ordinary Rust, with what `docs/02-change-requests.md` has
-//! changed and added: E1, E2, E3.
+//! changed and added: E1, E2, E3, E4.
 //!
 //! This reference was written from these pages alone (Type 6 also from source document 003),
 //! without a look at the verified code, so the two can be tested against each other. It is also the

@@ -7,13 +7,16 @@ mod common;
 mod reference;
 
 mod codec_model;
+mod full_list;
 mod judge_cuts;
 mod naive2;
 mod naive3;
 mod naive6;
-mod read_write;
+mod reading;
 mod specimens;
 mod specimens6;
+mod specimens_left_out;
+mod writing;
 
 /// Random cases of each kind.
 const CASES: u64 = 20_000;

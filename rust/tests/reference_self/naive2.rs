@@ -1,9 +1,10 @@
-//! The naive form of docs/01-scope.md, with E1 of docs/02-change-requests.md, for Type 2, to check
-//! the reference. It is as near to the words as possible and without regard to speed. Addresses are
+//! The naive form of docs/01-scope.md, with E1 and E4 of docs/02-change-requests.md, for Type 2, to
+//! check the reference. It is as near to the words as possible and without regard to speed. Addresses are
 //! tested one by one, and every cut is read from the start.
 
 use std::collections::BTreeSet;
 
+use crate::full_list::Full;
 use crate::reference::Refusal;
 
 /// What a tag gives; an empty message TLV has no value addresses.
@@ -141,17 +142,57 @@ pub fn to_set(tag: &Tag, n: usize) -> BTreeSet<usize> {
     tag.usable.iter().copied().take(length + n + 1).collect()
 }
 
-pub fn judge(image: &[u8], message: &[u8], list: &[u8]) -> Result<usize, Refusal> {
-    let tag = read(image).map_err(Refusal::new)?;
+/// What writing and judging ask of a tag and a message before anything else.
+fn ready(image: &[u8], message: &[u8]) -> Result<Tag, u8> {
+    let tag = read(image)?;
     if message.is_empty() {
-        return Err(Refusal::new(9));
+        return Err(9);
     }
     if !tag.writable {
-        return Err(Refusal::new(10));
+        return Err(10);
     }
     if !fits(message.len(), tag.usable.len()) {
-        return Err(Refusal::new(11));
+        return Err(11);
     }
+    Ok(tag)
+}
+
+/// Whether the first length byte is already 00h, and the tag with that byte 00h.
+pub fn shut(image: &[u8], tag: &Tag) -> (bool, Vec<u8>) {
+    let length = tag.usable[0];
+    let mut shut = image.to_vec();
+    shut[length] = 0x00;
+    (image[length] == 0x00, shut)
+}
+
+pub fn full_list(image: &[u8], message: &[u8]) -> Result<Full, u8> {
+    let tag = ready(image, message)?;
+    let n = message.len();
+    let mut bytes = match n {
+        0..=254 => vec![n as u8],
+        _ => vec![0xFF, (n / 256) as u8, (n % 256) as u8],
+    };
+    bytes.extend(message);
+    bytes.push(0xFE);
+    let to_set = to_set(&tag, n);
+    let mut new = image.to_vec();
+    for (&address, byte) in to_set.iter().zip(bytes) {
+        new[address] = byte;
+    }
+    let (is_shut, shut) = shut(image, &tag);
+    Ok(Full {
+        block_size: 4,
+        guard: tag.usable[0] / 4,
+        is_shut,
+        image: image.to_vec(),
+        shut,
+        new,
+        to_set,
+    })
+}
+
+pub fn judge(image: &[u8], message: &[u8], list: &[u8]) -> Result<usize, Refusal> {
+    let tag = ready(image, message).map_err(Refusal::new)?;
     let set = to_set(&tag, message.len());
     let old = message_on(image).unwrap();
     let mut cut = image.to_vec();

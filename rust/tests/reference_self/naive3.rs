@@ -1,9 +1,10 @@
-//! The naive form of docs/01-scope.md, with E1 of docs/02-change-requests.md, for Type 3, to check
-//! the reference. It is as near to the words as possible and without regard to speed. Addresses are
+//! The naive form of docs/01-scope.md, with E1 and E4 of docs/02-change-requests.md, for Type 3, to
+//! check the reference. It is as near to the words as possible and without regard to speed. Addresses are
 //! tested one by one, and every cut is read from the start.
 
 use std::collections::BTreeSet;
 
+use crate::full_list::Full;
 use crate::reference::Refusal;
 
 /// What a tag gives: being written, Ln, writable.
@@ -84,18 +85,61 @@ pub fn cut_list(list: &[u8]) -> Vec<&[u8]> {
     commands
 }
 
-pub fn judge(image: &[u8], message: &[u8], idm: &[u8; 8], list: &[u8]) -> Result<usize, Refusal> {
-    let (_, _, writable) = read(image).map_err(Refusal::new)?;
+/// What writing and judging ask of a tag and a message before anything else.
+fn ready(image: &[u8], message: &[u8]) -> Result<(), u8> {
+    let (_, _, writable) = read(image)?;
     let nmaxb = 256 * image[3] as usize + image[4] as usize;
     if message.is_empty() {
-        return Err(Refusal::new(9));
+        return Err(9);
     }
     if !writable {
-        return Err(Refusal::new(10));
+        return Err(10);
     }
     if message.len() > 16 * nmaxb {
-        return Err(Refusal::new(11));
+        return Err(11);
     }
+    Ok(())
+}
+
+/// An image with another WriteFlag and the checksum that goes with it.
+fn flagged(image: &[u8], write_flag: u8) -> Vec<u8> {
+    let mut image = image.to_vec();
+    image[9] = write_flag;
+    let sum: usize = (0..14).map(|i| image[i] as usize).sum();
+    image[14] = (sum / 256) as u8;
+    image[15] = (sum % 256) as u8;
+    image
+}
+
+/// Whether WriteFlag is already 0Fh, and the tag with WriteFlag 0Fh.
+pub fn shut(image: &[u8]) -> (bool, Vec<u8>) {
+    (image[9] == 0x0F, flagged(image, 0x0F))
+}
+
+pub fn full_list(image: &[u8], message: &[u8]) -> Result<Full, u8> {
+    ready(image, message)?;
+    let (k, n) = (message.len().div_ceil(16), message.len());
+    let mut new = image.to_vec();
+    new[11] = (n / 65_536) as u8;
+    new[12] = (n / 256 % 256) as u8;
+    new[13] = (n % 256) as u8;
+    for i in 0..16 * k {
+        new[16 + i] = *message.get(i).unwrap_or(&0x00);
+    }
+    let (is_shut, shut) = shut(image);
+    Ok(Full {
+        block_size: 16,
+        guard: 0,
+        is_shut,
+        image: image.to_vec(),
+        shut,
+        new: flagged(&new, 0x00),
+        to_set: [9].into_iter().chain(11..16 + 16 * k).collect(),
+    })
+}
+
+pub fn judge(image: &[u8], message: &[u8], idm: &[u8; 8], list: &[u8]) -> Result<usize, Refusal> {
+    ready(image, message).map_err(Refusal::new)?;
     let k = message.len().div_ceil(16);
     let protected = |address: usize| match address {
         0..=15 => address != 9 && !(11..=15).contains(&address),

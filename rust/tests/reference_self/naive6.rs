@@ -1,9 +1,10 @@
-//! The naive form of E2 of docs/02-change-requests.md, for Type 6, to check the reference. It is as
-//! near to the words as possible and without regard to speed. Addresses are tested one by one, and
-//! every cut is read from the start.
+//! The naive form of E2 of docs/02-change-requests.md, with E4, for Type 6, to check the reference.
+//! It is as near to the words as possible and without regard to speed. Addresses are tested one by
+//! one, and every cut is read from the start.
 
 use std::collections::BTreeSet;
 
+use crate::full_list::Full;
 use crate::reference::Refusal;
 
 /// What a tag gives.
@@ -92,20 +93,55 @@ pub fn cut_list<'a>(tag: &Tag, list: &'a [u8]) -> Vec<&'a [u8]> {
     commands
 }
 
-pub fn judge(image: &[u8], message: &[u8], list: &[u8]) -> Result<usize, Refusal> {
-    let tag = read(image).map_err(Refusal::new)?;
+/// What writing and judging ask of a tag and a message before anything else.
+fn ready(image: &[u8], message: &[u8]) -> Result<Tag, u8> {
+    let tag = read(image)?;
     if message.is_empty() {
-        return Err(Refusal::new(9));
+        return Err(9);
     }
     if !tag.writable {
-        return Err(Refusal::new(10));
+        return Err(10);
     }
     if tag.size == 1 {
-        return Err(Refusal::new(14));
+        return Err(14);
     }
     if message.len() > tag.m {
-        return Err(Refusal::new(11));
+        return Err(11);
     }
+    Ok(tag)
+}
+
+/// Whether NLEN is zero, and the tag with NLEN zero.
+pub fn shut(image: &[u8], tag: &Tag) -> (bool, Vec<u8>) {
+    let mut shut = image.to_vec();
+    shut[tag.file] = 0x00;
+    shut[tag.file + 1] = 0x00;
+    (tag.nlen == 0, shut)
+}
+
+pub fn full_list(image: &[u8], message: &[u8]) -> Result<Full, u8> {
+    let tag = ready(image, message)?;
+    let n = message.len();
+    let mut new = image.to_vec();
+    new[tag.file] = (n % 256) as u8;
+    new[tag.file + 1] = (n / 256) as u8;
+    for (i, &byte) in message.iter().enumerate() {
+        new[tag.file + 2 + i] = byte;
+    }
+    let (is_shut, shut) = shut(image, &tag);
+    Ok(Full {
+        block_size: tag.size,
+        guard: tag.file / tag.size,
+        is_shut,
+        image: image.to_vec(),
+        shut,
+        new,
+        to_set: to_set(&tag, n),
+    })
+}
+
+pub fn judge(image: &[u8], message: &[u8], list: &[u8]) -> Result<usize, Refusal> {
+    let tag = ready(image, message).map_err(Refusal::new)?;
     let set = to_set(&tag, message.len());
     let old = message_on(image).unwrap();
     let mut cut = image.to_vec();

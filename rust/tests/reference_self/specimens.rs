@@ -202,8 +202,7 @@ fn the_program() {
         let bytes: Vec<String> = command.iter().map(|byte| format!("{byte:02X}")).collect();
         output += &format!("{}\n", bytes.join(" "));
     }
-    let expected = "3 commands\n\
-                    A2 04 03 00 FE 00\n\
+    let expected = "2 commands\n\
                     A2 05 00 FE 00 00\n\
                     A2 04 03 03 D0 00\n";
     assert_eq!(output, expected);

@@ -74,14 +74,17 @@ fn list_of_the_second_example() {
     assert!(image == a2);
 }
 
-/// What is left of the last block stays, and a message that fits one block takes two commands.
+/// What is left of the last block stays. A message that fits one block takes two commands, or one
+/// if NLEN is zero.
 #[test]
 fn one_block_and_what_is_left_of_it() {
-    let image = tags6::plain(2, 8, &[0, 0, 1, 2, 3, 4, 5, 6]);
+    let image = tags6::plain(2, 8, &[1, 0, 1, 2, 3, 4, 5, 6]);
     let list = lists6::ours(&image, &[0xD0, 0xD1]);
     let opening = lists6::write(1, &[0, 0, 1, 2, 3, 4, 5, 6]);
     let closing = lists6::write(1, &[2, 0, 0xD0, 0xD1, 3, 4, 5, 6]);
     assert_eq!(list, [opening, closing.clone()]);
+    let image = with(&image, 8, 0);
+    assert_eq!(lists6::ours(&image, &[0xD0, 0xD1]), [&closing[..]]);
     assert_eq!(type6::judge(&image, &[0xD0, 0xD1], &closing), Ok(1));
     for at in 7..11 {
         let list = with(&closing, at, 9);
@@ -136,7 +139,7 @@ fn bytes_of_the_container() {
     assert_eq!(write(&read_only, 1), refused(10));
     // The top three bits of byte 5 are not judged.
     assert_eq!(read(&with(&image, 5, 0xE3)), EMPTY);
-    assert_eq!(write(&with(&image, 5, 0xE3), 118), Ok(31));
+    assert_eq!(write(&with(&image, 5, 0xE3), 118), Ok(30));
     // 30 blocks come after the container.
     assert_eq!(read(&with(&image, 7, 30)), EMPTY);
     assert_eq!(read(&with(&image, 7, 31)), Err(5));
@@ -165,7 +168,8 @@ fn nlen() {
         assert_eq!(read(&image), Ok((Content::Message, 34, length)));
     }
     assert_eq!(read(&with(&with(&image, 32, 0xDF), 33, 0x1F)), Err(7));
-    assert_eq!(write(&image, 8158), Ok(256));
+    assert_eq!(write(&image, 8158), Ok(255));
+    assert_eq!(write(&with(&image, 33, 0x01), 8158), Ok(256));
     assert_eq!(write(&image, 8159), refused(11));
 }
 

@@ -4,19 +4,16 @@ use super::tag::Tag;
 use super::{decode, BLOCK, COMMAND, TERMINATOR, WRITE};
 use crate::reference::Refusal;
 
-/// What writing a message means for a tag.
+/// Where the bytes to set are.
 struct Plan {
-    /// The image when all is written.
-    image: Vec<u8>,
-    /// The bytes to set; all others are protected.
-    to_set: Vec<bool>,
-    /// The usable addresses after the type byte; the first `used` of them are to be set.
+    /// The usable addresses after the type byte. The first `used` of them are to be set; all other
+    /// bytes are protected.
     places: Vec<usize>,
     used: usize,
 }
 
 impl Plan {
-    /// Tests 1 to 11 and, if they pass, what has to be set.
+    /// Tests 1 to 11 and, if they pass, the plan.
     fn new(image: &[u8], message: &[u8]) -> Result<Self, Refusal> {
         let tag = Tag::scan(image)?;
         let n = message.len();
@@ -27,62 +24,80 @@ impl Plan {
             return Err(Refusal::new(10));
         }
         let places = tag.places();
-        let header_len = if n <= 254 { 1 } else { 3 };
+        let header_len = header_len(n);
         if places.len() < header_len || places.len() - header_len < n {
             return Err(Refusal::new(11));
         }
+        let used = places.len().min(header_len + n + 1);
+        Ok(Plan { places, used })
+    }
 
+    /// The image when all is written.
+    fn written(&self, image: &[u8], message: &[u8]) -> Vec<u8> {
+        let n = message.len();
         let long = [0xFF, (n >> 8) as u8, n as u8];
-        let header = &long[3 - header_len..];
-        let (header_places, rest) = places.split_at(header_len);
+        let header = &long[3 - header_len(n)..];
+        let (header_places, rest) = self.places.split_at(header.len());
         let (message_places, rest) = rest.split_at(n);
         let mut new = image.to_vec();
-        let mut to_set = vec![false; image.len()];
         let mut set = |places: &[usize], bytes: &[u8]| {
             for (&address, &byte) in places.iter().zip(bytes) {
                 new[address] = byte;
-                to_set[address] = true;
             }
         };
         set(header_places, header);
         set(message_places, message);
         set(rest, &[TERMINATOR]); // nothing if no place is left
-        let used = places.len().min(header_len + n + 1);
-        Ok(Plan {
-            image: new,
-            to_set,
-            places,
-            used,
-        })
+        new
     }
 }
 
-/// Writes the commands that put `message` on the tag to `list`; returns how many there are.
+/// How many bytes the length of a message of `n` bytes takes.
+fn header_len(n: usize) -> usize {
+    if n <= 254 {
+        1
+    } else {
+        3
+    }
+}
+
+/// Writes the commands that put `message` on the tag to `list`; returns how many there are. What
+/// the tag already holds is left out.
 pub fn write(image: &[u8], message: &[u8], list: &mut [u8]) -> Result<usize, Refusal> {
     let plan = Plan::new(image, message)?;
-    let mut blocks: Vec<usize> = plan.places[..plan.used].iter().map(|a| a / BLOCK).collect();
-    blocks.dedup();
-    let count = blocks.len() + 1;
-    if list.len() < COMMAND * count {
+    let new = plan.written(image, message);
+    let (length, end) = (plan.places[0], plan.places[plan.used - 1]);
+    let (guard, last) = (length / BLOCK, end / BLOCK);
+
+    // The guard block comes last, whether it changes or not.
+    let mut order = Vec::with_capacity(last - guard + 1);
+    order.extend((guard + 1..=last).filter(|&b| held(image, b) != held(&new, b)));
+    order.push(guard);
+
+    let shut = image[length] == 0;
+    let count = usize::from(!shut) + order.len();
+    let Some(mut list) = list.get_mut(..COMMAND * count) else {
         return Err(Refusal::new(12));
+    };
+    if !shut {
+        let mut data = *held(image, guard);
+        data[length % BLOCK] = 0;
+        let (first, rest) = list.split_at_mut(COMMAND);
+        put(first, guard, &data);
+        list = rest;
     }
-
-    // The block of the first length byte goes out twice, the first time with a length of 0.
-    let home = blocks[0];
-    let mut cleared = [0; BLOCK];
-    cleared.copy_from_slice(&image[home * BLOCK..(home + 1) * BLOCK]);
-    cleared[plan.places[0] % BLOCK] = 0;
-    put(&mut list[..COMMAND], home, &cleared);
-
-    let order = blocks[1..].iter().chain(&blocks[..1]);
-    for (command, &block) in list[COMMAND..].chunks_exact_mut(COMMAND).zip(order) {
-        let data = &plan.image[block * BLOCK..(block + 1) * BLOCK];
-        put(command, block, data);
+    for (command, block) in list.chunks_exact_mut(COMMAND).zip(order) {
+        put(command, block, held(&new, block));
     }
     Ok(count)
 }
 
-fn put(command: &mut [u8], block: usize, data: &[u8]) {
+/// What a block of the image holds.
+fn held(image: &[u8], block: usize) -> &[u8; BLOCK] {
+    image[block * BLOCK..].first_chunk().expect("whole blocks")
+}
+
+fn put(command: &mut [u8], block: usize, data: &[u8; BLOCK]) {
     command[0] = WRITE;
     command[1] = block as u8;
     command[2..].copy_from_slice(data);
@@ -94,6 +109,10 @@ fn put(command: &mut [u8], block: usize, data: &[u8]) {
 /// list is good, only the length and the value of the message TLV have to be read again.
 pub fn judge(image: &[u8], message: &[u8], list: &[u8]) -> Result<usize, Refusal> {
     let plan = Plan::new(image, message)?;
+    let mut to_set = vec![false; image.len()];
+    for &address in &plan.places[..plan.used] {
+        to_set[address] = true;
+    }
     let mut now = image.to_vec();
     let old = bytes_at(image, value_places(image, &plan.places).unwrap_or(&[]));
 
@@ -104,7 +123,7 @@ pub fn judge(image: &[u8], message: &[u8], list: &[u8]) -> Result<usize, Refusal
         };
         let start = command.block as usize * BLOCK;
         for (address, byte) in (start..).zip(command.data) {
-            if !plan.to_set[address] && now[address] != byte {
+            if !to_set[address] && now[address] != byte {
                 return Err(Refusal::at(21, count));
             }
         }

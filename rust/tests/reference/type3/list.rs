@@ -25,7 +25,8 @@ pub fn command_len(count: usize) -> usize {
     HEADER + count * (2 + BLOCK)
 }
 
-/// Writes the commands that put `message` on the tag to `list`; returns how many there are.
+/// Writes the commands that put `message` on the tag to `list`; returns how many there are. What
+/// the tag already holds is left out.
 pub fn write(
     image: &[u8],
     message: &[u8],
@@ -35,51 +36,67 @@ pub fn write(
     let information = writable_for(image, message)?;
     let blocks = message.len().div_ceil(BLOCK);
     let width = MAX_COUNT.min(information.nbw as usize);
-    let full = blocks / width;
-    let rest = blocks % width;
-    let data_commands = full + usize::from(rest > 0);
-    let size = 2 * command_len(1) + data_commands * HEADER + blocks * (2 + BLOCK);
-    if list.len() < size {
-        return Err(Refusal::new(12));
-    }
 
+    // What the blocks after block 0 are to hold, and those of them that do not hold it yet.
+    let mut new = vec![[0; BLOCK]; blocks];
+    new.as_flattened_mut()[..message.len()].copy_from_slice(message);
+    let old = image[BLOCK..].chunks_exact(BLOCK);
+    let pairs = (1..).zip(&new).zip(old);
+    let mut changed: Vec<Part> = Vec::with_capacity(blocks);
+    changed.extend(pairs.filter_map(|(part, old)| (part.1 != old).then_some(part)));
+
+    let shut = information.being_written;
+    let data_commands = changed.len().div_ceil(width);
+    let count = usize::from(!shut) + data_commands + 1;
+    let size = (count - data_commands) * command_len(1)
+        + data_commands * HEADER
+        + changed.len() * (2 + BLOCK);
+    let Some(mut rest) = list.get_mut(..size) else {
+        return Err(Refusal::new(12));
+    };
     let mut block0 = [0; BLOCK];
     block0.copy_from_slice(&image[..BLOCK]);
-    block0[WRITE_FLAG] = BEING_WRITTEN;
-    let sum = checksum(&block0);
-    block0[14..].copy_from_slice(&sum);
-    let mut rest = put(list, idm, 0, &block0);
-
-    let mut first = 1;
-    for part in message.chunks(width * BLOCK) {
-        rest = put(rest, idm, first, part);
-        first += width;
+    if !shut {
+        block0[WRITE_FLAG] = BEING_WRITTEN;
+        seal(&mut block0);
+        rest = put(rest, idm, &[(0, &block0)]);
     }
-
+    for parts in changed.chunks(width) {
+        rest = put(rest, idm, parts);
+    }
     block0[WRITE_FLAG] = 0;
     block0[11..14].copy_from_slice(&(message.len() as u32).to_be_bytes()[1..]);
-    let sum = checksum(&block0);
-    block0[14..].copy_from_slice(&sum);
-    put(rest, idm, 0, &block0);
-    Ok(2 + data_commands)
+    seal(&mut block0);
+    put(rest, idm, &[(0, &block0)]);
+    Ok(count)
 }
 
-/// Puts one command that writes `bytes` from block `first` on, the last block filled with 00h;
-/// returns what is left of the list.
-fn put<'a>(list: &'a mut [u8], idm: &[u8; 8], first: usize, bytes: &[u8]) -> &'a mut [u8] {
-    let count = bytes.len().div_ceil(BLOCK);
+/// A block and what to store in it.
+type Part<'a> = (usize, &'a [u8; BLOCK]);
+
+/// Sets the checksum of block 0.
+fn seal(block0: &mut [u8; BLOCK]) {
+    let sum = checksum(block0);
+    block0[14..].copy_from_slice(&sum);
+}
+
+/// Puts one command that writes these blocks; returns what is left of the list.
+fn put<'a>(list: &'a mut [u8], idm: &[u8; 8], parts: &[Part]) -> &'a mut [u8] {
+    let count = parts.len();
     let (command, rest) = list.split_at_mut(command_len(count));
     command[0] = 0x08;
     command[1..9].copy_from_slice(idm);
     command[9..12].copy_from_slice(&[0x01, 0x09, 0x00]);
     command[12] = count as u8;
     let (block_list, data) = command[HEADER..].split_at_mut(2 * count);
-    for (element, block) in block_list.chunks_exact_mut(2).zip(first..) {
+    let places = block_list
+        .chunks_exact_mut(2)
+        .zip(data.chunks_exact_mut(BLOCK));
+    for ((element, data), &(block, bytes)) in places.zip(parts) {
         element[0] = 0x80;
         element[1] = block as u8;
+        data.copy_from_slice(bytes);
     }
-    data[..bytes.len()].copy_from_slice(bytes);
-    data[bytes.len()..].fill(0);
     rest
 }
 

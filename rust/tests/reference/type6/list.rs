@@ -23,35 +23,42 @@ fn writable_for(image: &[u8], message: &[u8]) -> Result<Tag, Refusal> {
     Ok(tag)
 }
 
-/// Writes the commands that put `message` on the tag to `list`; returns how many there are.
+/// Writes the commands that put `message` on the tag to `list`; returns how many there are. What
+/// the tag already holds is left out.
 pub fn write(image: &[u8], message: &[u8], list: &mut [u8]) -> Result<usize, Refusal> {
     let tag = writable_for(image, message)?;
-    let size = tag.block_size;
-    let count = 1 + (NLEN + message.len()).div_ceil(size);
-    let Some(list) = list.get_mut(..count * (HEADER + size)) else {
+    let (file, size) = (tag.file, tag.block_size);
+    let end = file + NLEN + message.len();
+    let (guard, blocks) = (file / size, end.div_ceil(size));
+
+    let mut new = image[..blocks * size].to_vec();
+    new[file..file + NLEN].copy_from_slice(&(message.len() as u16).to_le_bytes());
+    new[file + NLEN..end].copy_from_slice(message);
+
+    // The guard block comes last, whether it changes or not.
+    let bytes = |block: usize| block * size..(block + 1) * size;
+    let mut order = Vec::with_capacity(blocks - guard);
+    order.extend((guard + 1..blocks).filter(|&b| image[bytes(b)] != new[bytes(b)]));
+    order.push(guard);
+
+    let shut = tag.length == 0;
+    let count = usize::from(!shut) + order.len();
+    let Some(mut list) = list.get_mut(..count * (HEADER + size)) else {
         return Err(Refusal::new(12));
     };
-
-    // NLEN and the front of the message are in the first block of the file.
-    let first = tag.file / size;
-    let (front, rest) = message.split_at(message.len().min(size - NLEN));
-    let nlen = (message.len() as u16).to_le_bytes();
-
-    let mut commands = list.chunks_exact_mut(HEADER + size);
-    let mut put = |block: usize, bytes: &[u8], more: &[u8]| {
-        let command = commands.next().expect("there are `count` of them");
+    let put = |command: &mut [u8], block: usize, image: &[u8]| {
         command[..HEADER].copy_from_slice(&[FLAGS, WRITE_SINGLE, block as u8]);
-        let data = &mut command[HEADER..];
-        data.copy_from_slice(&image[block * size..(block + 1) * size]);
-        let (to, after) = data.split_at_mut(bytes.len());
-        to.copy_from_slice(bytes);
-        after[..more.len()].copy_from_slice(more);
+        command[HEADER..].copy_from_slice(&image[bytes(block)]);
     };
-    put(first, &[0; NLEN], &[]);
-    for (block, part) in (first + 1..).zip(rest.chunks(size)) {
-        put(block, part, &[]);
+    if !shut {
+        let (first, rest) = list.split_at_mut(HEADER + size);
+        put(first, guard, image);
+        first[HEADER..HEADER + NLEN].fill(0);
+        list = rest;
     }
-    put(first, &nlen, front);
+    for (command, block) in list.chunks_exact_mut(HEADER + size).zip(order) {
+        put(command, block, &new);
+    }
     Ok(count)
 }
 
