@@ -10,24 +10,29 @@ mod reference;
 #[path = "cuts/types.rs"]
 mod types;
 
-use common::{message_len, tags2, tags3, tags6, Rng};
+use common::rewrites::Rewrite;
+use common::{fitting_message, Rng};
 use types::{Type, Type2, Type3, Type6};
 
 /// Accepted lists of each type in the normal run, and in the long one (`-- --ignored`).
 const SUBSET: u64 = 2_000;
 const WHOLE: u64 = 20_000;
+/// Tags of each type whose message is rewritten, with all that lies between, likewise.
+const REWRITES_SUBSET: u64 = 500;
+const REWRITES_WHOLE: u64 = 5_000;
 
 /// Follows one accepted list; returns how many cuts it has.
 fn follow(tag: &impl Type, rng: &mut Rng, image: &[u8], message: &[u8], list: &[u8]) -> u64 {
     let old = tag.message(image).unwrap();
-    let ours = tag.write(image, message);
+    let ours = tag.list(image, message);
     let mut end = image.to_vec();
-    for command in tag.split(&ours) {
+    for command in tag.commands(&ours) {
         assert!(tag.model(&mut end, &command));
     }
     assert_eq!(tag.message(&end).as_deref(), Some(message));
 
-    let commands = tag.split(list);
+    let commands = tag.commands(list);
+    assert_eq!(commands, tag.split(list));
     let mut cut = image.to_vec(); // by the model
     let mut expected = image.to_vec(); // by storing
     for command in commands.iter().map(Some).chain([None]) {
@@ -35,10 +40,10 @@ fn follow(tag: &impl Type, rng: &mut Rng, image: &[u8], message: &[u8], list: &[
         assert!(now.is_empty() || now == old || now == message);
 
         // Writing afresh.
-        let afresh = tag.write(&cut, message);
-        assert_eq!(afresh, tag.reference_list(&cut, message));
+        let afresh = tag.list(&cut, message);
+        assert_eq!(afresh, tag.ours(&cut, message));
         let mut again = cut.clone();
-        for command in tag.split(&afresh) {
+        for command in tag.commands(&afresh) {
             assert!(tag.model(&mut again, &command));
         }
         assert!(again == end, "writing afresh ends elsewhere");
@@ -62,48 +67,31 @@ fn follow(tag: &impl Type, rng: &mut Rng, image: &[u8], message: &[u8], list: &[
     commands.len() as u64 + 1
 }
 
-/// A message that fits; long ones are rare, because every cut costs a whole list.
-fn fitting_message(rng: &mut Rng, old: &[u8], capacity: usize) -> Vec<u8> {
-    if rng.percent(10) {
-        return old.to_vec();
-    }
-    let len = message_len(rng, old.len(), capacity).clamp(1, capacity);
-    let most = if rng.percent(5) { capacity } else { 80 };
-    let len = len.min(most.min(capacity));
-    rng.bytes(len)
-}
-
-fn run<T: Type>(
-    name: &str,
-    lists: u64,
-    seed: u64,
-    tag_and_image: impl Fn(&mut Rng) -> (T, Vec<u8>),
-    message_and_capacity: impl Fn(&[u8]) -> (Vec<u8>, usize),
-) {
+fn run<T: Type>(name: &str, lists: u64, seed: u64) {
     let (mut done, mut foreign, mut rewritten, mut not_1_0, mut cuts) = (0, 0, 0, 0, 0);
     for index in 0.. {
         if done == lists {
             break;
         }
         let mut rng = Rng::case(seed, index);
-        let (tag, image) = tag_and_image(&mut rng);
-        let (old, capacity) = message_and_capacity(&image);
+        let (tag, image) = T::tag(&mut rng);
+        let (old, capacity) = tag.message_and_capacity(&image);
         if capacity == 0 {
             continue;
         }
         let message = fitting_message(&mut rng, &old, capacity);
         let list = if rng.percent(20) {
-            tag.reference_list(&image, &message)
+            tag.ours(&image, &message)
         } else {
             tag.foreign(&mut rng, &image, &message)
         };
         let Some(count) = tag.judge(&image, &message, &list) else {
             continue;
         };
-        assert_eq!(count, tag.split(&list).len());
+        assert_eq!(count, tag.commands(&list).len());
         cuts += follow(&tag, &mut rng, &image, &message, &list);
         done += 1;
-        foreign += (list != tag.reference_list(&image, &message)) as u64;
+        foreign += (list != tag.ours(&image, &message)) as u64;
         rewritten += !old.is_empty() as u64;
         not_1_0 += T::VERSION.is_some_and(|at| image[at] != 0x10) as u64;
     }
@@ -112,89 +100,79 @@ fn run<T: Type>(
     assert!(T::VERSION.is_none() || not_1_0 >= lists / 8);
 }
 
-fn type2(lists: u64) {
-    let tag_and_image = |rng: &mut Rng| {
-        let image = match rng.below(20) {
-            0 | 1 => tags2::defaults()[rng.below(4)].clone(),
-            2 => tags2::crowded(rng, 170),
-            _ => tags2::valid(rng),
-        };
-        (Type2, image)
-    };
-    run(
-        "type2",
-        lists,
-        41,
-        tag_and_image,
-        tags2::message_and_capacity,
-    );
-}
-
-fn type3(lists: u64) {
-    let tag_and_image = |rng: &mut Rng| {
-        let idm = rng.next().to_be_bytes();
-        let image = match rng.below(20) {
-            0 | 1 => tags3::default(),
-            _ => tags3::valid(rng),
-        };
-        (Type3 { idm }, image)
-    };
-    run(
-        "type3",
-        lists,
-        42,
-        tag_and_image,
-        tags3::message_and_capacity,
-    );
-}
-
-fn type6(lists: u64) {
-    let tag_and_image = |rng: &mut Rng| {
-        let image = match rng.below(20) {
-            0 | 1 => tags6::default(),
-            _ => tags6::writable(rng),
-        };
-        let block_size = tags6::block_size(&image);
-        (Type6 { block_size }, image)
-    };
-    run(
-        "type6",
-        lists,
-        43,
-        tag_and_image,
-        tags6::message_and_capacity,
-    );
+/// Our lists on tags that hold a part of the message already (E4). Where a write broke off, or its
+/// commands came in another order, the end is that of the write from the start.
+fn rewrites<T: Type>(name: &str, cases: u64, seed: u64) {
+    let (mut lists, mut cuts) = (0, 0);
+    for index in 0..cases {
+        let mut rng = Rng::case(seed, index);
+        let rewrite = Rewrite::<T>::random(&mut rng);
+        let (tag, message) = (&rewrite.kind, &rewrite.message);
+        let halfway = rewrite.halfway(&mut rng);
+        for image in &halfway {
+            let list = tag.list(image, message);
+            assert!(tag.after(image, &list) == rewrite.after);
+        }
+        for image in halfway.into_iter().chain(rewrite.near(&mut rng)) {
+            let list = tag.list(&image, message);
+            assert_eq!(
+                tag.judge(&image, message, &list),
+                Some(tag.split(&list).len())
+            );
+            cuts += follow(tag, &mut rng, &image, message, &list);
+            lists += 1;
+        }
+    }
+    println!("{name} rewrites {lists}, cuts {cuts}");
 }
 
 #[test]
 fn type2_subset() {
-    type2(SUBSET);
+    run::<Type2>("type2", SUBSET, 41);
 }
 
 #[test]
 fn type3_subset() {
-    type3(SUBSET);
+    run::<Type3>("type3", SUBSET, 42);
 }
 
 #[test]
 fn type6_subset() {
-    type6(SUBSET);
+    run::<Type6>("type6", SUBSET, 43);
+}
+
+#[test]
+fn type2_rewrites() {
+    rewrites::<Type2>("type2", REWRITES_SUBSET, 44);
+}
+
+#[test]
+fn type3_rewrites() {
+    rewrites::<Type3>("type3", REWRITES_SUBSET, 45);
+}
+
+#[test]
+fn type6_rewrites() {
+    rewrites::<Type6>("type6", REWRITES_SUBSET, 46);
 }
 
 #[test]
 #[ignore = "long"]
 fn type2_whole() {
-    type2(WHOLE);
+    run::<Type2>("type2", WHOLE, 41);
+    rewrites::<Type2>("type2", REWRITES_WHOLE, 44);
 }
 
 #[test]
 #[ignore = "long"]
 fn type3_whole() {
-    type3(WHOLE);
+    run::<Type3>("type3", WHOLE, 42);
+    rewrites::<Type3>("type3", REWRITES_WHOLE, 45);
 }
 
 #[test]
 #[ignore = "long"]
 fn type6_whole() {
-    type6(WHOLE);
+    run::<Type6>("type6", WHOLE, 43);
+    rewrites::<Type6>("type6", REWRITES_WHOLE, 46);
 }

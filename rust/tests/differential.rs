@@ -10,6 +10,8 @@ compile_error!("libzanfirotta.a is missing: run `rt staticlib zanfirotta` at the
 mod capacity;
 mod common;
 mod reference;
+#[path = "differential/rewrites.rs"]
+mod rewrites;
 #[path = "differential/type2.rs"]
 mod type2;
 #[path = "differential/type3.rs"]
@@ -27,7 +29,7 @@ use zanfirotta::{Refusal, Report};
 const SUBSET: u64 = 20_000;
 const WHOLE: u64 = 200_000;
 
-/// Two tests for each operation of a type.
+/// Two tests for each operation of a type, and for the tags that are rewritten.
 macro_rules! operations {
     ($($tests:ident: $type:ident::$operation:ident,)*) => {$(
         mod $tests {
@@ -64,6 +66,9 @@ operations! {
     type6_model: type6::model,
     type6_encode: type6::encode,
     type6_decode: type6::decode,
+    type2_rewrites: rewrites::type2,
+    type3_rewrites: rewrites::type3,
+    type6_rewrites: rewrites::type6,
 }
 
 #[test]
