@@ -4,6 +4,8 @@ use std::time::Instant;
 
 use zanfirotta::type6;
 
+use crate::cases::Case;
+
 const RUNS: usize = 301;
 /// A run should take about this long.
 const NANOSECONDS: f64 = 50_000.0;
@@ -46,14 +48,18 @@ fn median(mut times: Vec<f64>) -> f64 {
     times[times.len() / 2]
 }
 
-/// Times both and prints a line of the table.
+/// Times both and prints a line of the table. Reading and the model do not go by the message, so
+/// they are not timed again on a tag that holds a part of it.
 pub fn compare(
-    tag: &str,
+    case: &Case,
     operation: &str,
-    image: &[u8],
     library: &dyn Fn(&mut Buffers),
     reference: &dyn Fn(&mut Buffers),
 ) {
+    if case.is_rewrite && ["read", "model"].contains(&operation) {
+        return;
+    }
+    let (tag, image) = (case.name, &case.image[..]);
     let mut buffers = Buffers::new(image);
     let mut calls = |call| {
         let once = (0..5).map(|_| run(1, image, &mut buffers, call));
