@@ -1,7 +1,8 @@
 /*
  * Writes a message on a tag in memory: on a Type 2 tag, on a Type 3 tag, and on a Type 6 tag. Asks
  * for the list, has it judged (Type 2 only), gives it to the tag command by command, and reads the
- * tag after each command. See README.md for how to compile.
+ * tag after each command. The tags are empty: on Type 2 and Type 6 the length is 0 already, so the
+ * list leaves out the command that would set it to 0. See README.md for how to compile.
  */
 #include <inttypes.h>
 #include <stdio.h>

@@ -18,8 +18,8 @@
 //! let mut list = [0; type2::LIST_MAX];
 //! let count = type2::write(&image, &message, &mut list)?;
 //! let list = &list[..count * type2::COMMAND];
-//! assert_eq!(count, 3);
-//! assert_eq!(list[..6], [0xA2, 0x04, 0x03, 0x00, 0xFE, 0x00]);
+//! assert_eq!(count, 2);
+//! assert_eq!(list[..6], [0xA2, 0x05, 0x00, 0xFE, 0x00, 0x00]);
 //!
 //! // The tag takes them one after the other and then reads as the message.
 //! for command in type2::commands(list) {

@@ -66,6 +66,11 @@ pub fn read(image: &[u8], gathered: &mut [u8]) -> Result<Report, Refusal> {
 /// Writes the commands that put `message` on the tag to the front of `list`, end to end; returns
 /// how many there are.
 ///
+/// The first command writes the guard block, which holds the first length byte of the message TLV,
+/// with that byte 00h. The last writes it with all its new bytes, and those between write the other
+/// blocks. Rewriting wears a tag, so what is already there is left out: the first command if that
+/// byte is 00h, and each other block that holds its new bytes. The last command always stays.
+///
 /// # Errors
 ///
 /// Refusals 1 to 12.
@@ -76,11 +81,18 @@ pub fn read(image: &[u8], gathered: &mut [u8]) -> Result<Report, Refusal> {
 /// let mut image = [0; 64];
 /// image[12..19].copy_from_slice(&[0xE1, 0x10, 0x06, 0x00, 0x03, 0x00, 0xFE]);
 /// let mut list = [0; type2::LIST_MAX];
-/// assert_eq!(type2::write(&image, &[0xD0, 0x00, 0x00], &mut list), Ok(3));
-/// assert_eq!(list[..6], [0xA2, 0x04, 0x03, 0x00, 0xFE, 0x00]);
+/// // The tag is empty, so its first length byte is 00h.
+/// assert_eq!(type2::write(&image, &[0xD0, 0x00, 0x00], &mut list), Ok(2));
+/// assert_eq!(list[..6], [0xA2, 0x05, 0x00, 0xFE, 0x00, 0x00]);
+/// assert_eq!(list[6..12], [0xA2, 0x04, 0x03, 0x03, 0xD0, 0x00]);
+///
+/// // A write that breaks off here goes on with the last command.
+/// type2::model(&mut image, &list[..6])?;
+/// assert_eq!(type2::write(&image, &[0xD0, 0x00, 0x00], &mut list), Ok(1));
 ///
 /// let refusal = type2::write(&image, &[0; 47], &mut list).unwrap_err();
 /// assert_eq!(refusal.number, RefusalNumber::MessageTooLong);
+/// # Ok::<(), zanfirotta::Refusal>(())
 /// ```
 pub fn write(image: &[u8], message: &[u8], list: &mut [u8]) -> Result<usize, Refusal> {
     answer(ffi::type2_write(image, message, list))

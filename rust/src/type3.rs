@@ -153,6 +153,12 @@ pub fn read(image: &[u8]) -> Result<Report, Refusal> {
 /// Writes the commands that put `message` on the tag to the front of `list`, end to end; returns
 /// how many there are.
 ///
+/// The first command writes block 0, the guard block, with WriteFlag 0Fh. The last writes it with
+/// WriteFlag 00h and the new Ln, and those between write the blocks of the message. Rewriting wears
+/// a tag, so what is already there is left out: the first command if WriteFlag is 0Fh, and each
+/// block of the message that holds its new bytes. The blocks that remain go Nbw to a command, at
+/// most eight, so a command may name blocks that are no neighbours. The last command always stays.
+///
 /// # Errors
 ///
 /// Refusals 1 to 5, 7, and 9 to 12.
@@ -171,6 +177,11 @@ pub fn read(image: &[u8]) -> Result<Report, Refusal> {
 /// }
 /// let report = type3::read(&image)?;
 /// assert_eq!(report.message(&image, &[]), [7; 35]);
+///
+/// // Of the three blocks of this message only the first changes.
+/// let mut message = [7; 35];
+/// message[0] = 8;
+/// assert_eq!(type3::write(&image, &message, &idm, &mut list), Ok(3));
 /// # Ok::<(), zanfirotta::Refusal>(())
 /// ```
 pub fn write(

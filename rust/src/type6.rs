@@ -105,6 +105,11 @@ pub fn read(image: &[u8]) -> Result<Report, Refusal> {
 /// Writes the commands that put `message` on the tag to the front of `list`, end to end; returns
 /// how many there are.
 ///
+/// The first command writes the guard block, which holds NLEN, with NLEN zero. The last writes it
+/// with all its new bytes, and those between write the other blocks. Rewriting wears a tag, so what
+/// is already there is left out: the first command if NLEN is zero, and each other block that holds
+/// its new bytes. The last command always stays.
+///
 /// # Errors
 ///
 /// Refusals 1 to 5, 7, 9, 10, 14, 11 and 12; they are tested in this order.
@@ -115,15 +120,22 @@ pub fn read(image: &[u8]) -> Result<Report, Refusal> {
 /// let mut image = [0; 128];
 /// image[..8].copy_from_slice(&[0x4E, 0x44, 0x45, 0x10, 0x1F, 0x03, 0x00, 0x1E]);
 /// let mut list = [0; type6::LIST_MAX];
-/// assert_eq!(type6::write(&image, &[0xD0, 0x00, 0x00], &mut list), Ok(3));
-/// assert_eq!(list[..7], [0x02, 0x21, 0x02, 0x00, 0x00, 0x00, 0x00]);
+/// // NLEN is zero, and block 3 already holds the message's third byte.
+/// assert_eq!(type6::write(&image, &[0xD0, 0x00, 0x00], &mut list), Ok(1));
+/// assert_eq!(list[..7], [0x02, 0x21, 0x02, 0x03, 0x00, 0xD0, 0x00]);
+///
+/// // Over that message, another one takes three commands.
+/// type6::model(&mut image, &list[..7])?;
+/// let count = type6::write(&image, &[0xD0, 0x00, 0x01], &mut list)?;
+/// assert_eq!(count, 3);
+/// assert_eq!(list[..7], [0x02, 0x21, 0x02, 0x00, 0x00, 0xD0, 0x00]);
 ///
 /// let size = type6::block_size(&image).unwrap();
-/// for command in type6::commands(&list, size).take(3) {
+/// for command in type6::commands(&list, size).take(count) {
 ///     type6::model(&mut image, command)?;
 /// }
 /// let report = type6::read(&image)?;
-/// assert_eq!(report.message(&image, &[]), [0xD0, 0x00, 0x00]);
+/// assert_eq!(report.message(&image, &[]), [0xD0, 0x00, 0x01]);
 ///
 /// let refusal = type6::write(&image, &[0; 119], &mut list).unwrap_err();
 /// assert_eq!(refusal.number, RefusalNumber::MessageTooLong);

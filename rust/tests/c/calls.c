@@ -46,12 +46,12 @@ static int type2(void)
     int i;
 
     empty2(image);
-    HOLDS(zan_type2_write(image, 64, message, 3, list, sizeof list) == 3 * 256);
-    HOLDS(zan_type2_write(image, 64, message, 3, list, 17) == ZAN_REFUSED_SHORT_BUFFER);
-    HOLDS(zan_type2_judge(image, 64, message, 3, list, 18) == 3 * 256);
-    HOLDS(zan_type2_judge(image, 64, message, 3, list, 13) == ZAN_REFUSED_MALFORMED_COMMAND + 2 * 256);
+    HOLDS(zan_type2_write(image, 64, message, 3, list, sizeof list) == 2 * 256);
+    HOLDS(zan_type2_write(image, 64, message, 3, list, 11) == ZAN_REFUSED_SHORT_BUFFER);
+    HOLDS(zan_type2_judge(image, 64, message, 3, list, 12) == 2 * 256);
+    HOLDS(zan_type2_judge(image, 64, message, 3, list, 7) == ZAN_REFUSED_MALFORMED_COMMAND + 256);
     HOLDS(zan_type2_judge(image, 64, message, 3, list, 0) == ZAN_REFUSED_UNFINISHED);
-    for (i = 0; i < 3; i++)
+    for (i = 0; i < 2; i++)
         HOLDS(zan_type2_model(image, 64, list + 6 * i, 6) == 0);
     HOLDS(zan_type2_model(image, 64, list, 5) == ZAN_REFUSED_MALFORMED_COMMAND);
     HOLDS(zan_type2_read(image, 64, gathered, sizeof gathered, &report) == 0);
@@ -59,6 +59,9 @@ static int type2(void)
     HOLDS(report.interrupted == 0 && report.writable == 1 && report.capacity == 46 && gathered[0] == 0xAA);
     HOLDS(zan_type2_read(image, 63, gathered, sizeof gathered, &report) == ZAN_REFUSED_IMAGE_SIZE);
     HOLDS(report.length == 3);
+    /* Written again, the tag is shut and opened. */
+    HOLDS(zan_type2_write(image, 64, message, 3, list, 12) == 2 * 256);
+    HOLDS(memcmp(list, "\xA2\x04\x03\x00\xD0\x00\xA2\x04\x03\x03\xD0\x00", 12) == 0);
 
     HOLDS(zan_type2_encode(5, data, 16, bytes, sizeof bytes) == 6 * 256);
     HOLDS(memcmp(bytes, "\xA2\x05\x01\x02\x03\x04", 6) == 0);
@@ -93,6 +96,8 @@ static int type3(void)
     HOLDS(zan_type3_command_len(list + at, 0) == ZAN_REFUSED_MALFORMED_COMMAND);
     HOLDS(zan_type3_command_len(list, 30) == ZAN_REFUSED_MALFORMED_COMMAND);
     HOLDS(report.address == 16 && report.length == 3 && report.writable == 1 && report.capacity == 32);
+    HOLDS(zan_type3_write(image, 48, message, 3, idm, list, 62) == 2 * 256);
+    HOLDS(zan_type3_write(image, 48, message, 3, idm, list, 61) == ZAN_REFUSED_SHORT_BUFFER);
 
     HOLDS(zan_type3_encode(2, blocks, data, idm, 2, 2, bytes, sizeof bytes) == 49 * 256);
     HOLDS(memcmp(bytes + 12, "\x02\x80\x02\x80\x01\x07", 6) == 0);
@@ -104,13 +109,13 @@ static int type3(void)
     return 0;
 }
 
-/* An empty Type 6 tag of four blocks of four bytes. */
-static void empty6(uint8_t image[16])
+/* A Type 6 tag of four blocks of four bytes that holds the message C0 C1 C2. */
+static void old6(uint8_t image[16])
 {
-    static const uint8_t container[8] = {0x4E, 0x44, 0x45, 0x10, 3, 3, 0x00, 2};
+    static const uint8_t bytes[13] = {0x4E, 0x44, 0x45, 0x10, 3, 3, 0x00, 2, 3, 0, 0xC0, 0xC1, 0xC2};
 
     memset(image, 0, 16);
-    memcpy(image, container, 8);
+    memcpy(image, bytes, sizeof bytes);
 }
 
 static int type6(void)
@@ -120,7 +125,7 @@ static int type6(void)
     zan_report report = {0, 0, 0, 0, 0, 0};
     size_t len, i;
 
-    empty6(image);
+    old6(image);
     len = ZAN_TYPE6_COMMAND(image);
     HOLDS(len == 7 && ZAN_TYPE6_BLOCK_SIZE(image) == 4 && ZAN_TYPE6_BLOCKS(image) == 4);
     HOLDS(zan_type6_write(image, 16, message, 3, list, sizeof list) == 3 * 256);
@@ -132,6 +137,8 @@ static int type6(void)
         HOLDS(zan_type6_model(image, 16, list + len * i, len) == 0);
         HOLDS(zan_type6_read(image, 16, &report) == 0);
         HOLDS(report.content == (i < 2 ? ZAN_CONTENT_EMPTY : ZAN_CONTENT_MESSAGE));
+        /* A write that breaks off here goes on with what is left; a whole one, made again, takes two commands. */
+        HOLDS(zan_type6_write(image, 16, message, 3, bytes, sizeof bytes) == 256 * (i == 1 ? 1u : 2u));
     }
     HOLDS(zan_type6_model(image, 16, list, 6) == ZAN_REFUSED_MALFORMED_COMMAND);
     HOLDS(report.address == 10 && report.length == 3 && report.interrupted == 0 && report.writable == 1);
