@@ -124,8 +124,10 @@ uint64_t zan_type2_read(const uint8_t *image, size_t image_len, uint8_t *gathere
                         size_t gathered_len, zan_report *report);
 
 /*
- * Fills list with the commands that write the message on a Type 2 tag, six bytes each. Returns the
- * number of commands as its count, or refusal 1 to 12.
+ * Fills list with the commands that write the message on a Type 2 tag, six bytes each. Leaves out
+ * what the tag already holds: the first command if the first length byte is 00h, and each other
+ * block that has its new bytes. The last command always stays. Returns the number of commands as
+ * its count, or refusal 1 to 12.
  */
 uint64_t zan_type2_write(const uint8_t *image, size_t image_len, const uint8_t *message,
                          size_t message_len, uint8_t *list, size_t list_len);
@@ -166,8 +168,11 @@ uint64_t zan_type3_read(const uint8_t *image, size_t image_len, zan_report *repo
 
 /*
  * Fills list with the commands (Update) that write the message on a Type 3 tag; idm is the
- * manufacturer number (IDm) that they carry. Returns the number of commands as its count, or
- * refusal 1 to 5, 7, or 9 to 12. Commands differ in length: see zan_type3_command_len.
+ * manufacturer number (IDm) that they carry. Leaves out what the tag already holds: the first
+ * command if WriteFlag is 0Fh, and each other block that has its new bytes, so the blocks of a
+ * command need not be neighbours. The last command always stays. Returns the number of commands as
+ * its count, or refusal 1 to 5, 7, or 9 to 12. Commands differ in length: see
+ * zan_type3_command_len.
  */
 uint64_t zan_type3_write(const uint8_t *image, size_t image_len, const uint8_t *message,
                          size_t message_len, const uint8_t idm[8], uint8_t *list,
@@ -219,8 +224,10 @@ uint64_t zan_type6_read(const uint8_t *image, size_t image_len, zan_report *repo
 
 /*
  * Fills list with the commands (Write Single Block) that write the message on a Type 6 tag,
- * ZAN_TYPE6_COMMAND(image) bytes each. Returns the number of commands as its count, or refusal 1 to
- * 5, 7, 9, 10, 14, 11 or 12; they are tested in this order.
+ * ZAN_TYPE6_COMMAND(image) bytes each. Leaves out what the tag already holds: the first command if
+ * NLEN is zero, and each other block that has its new bytes. The last command always stays. Returns
+ * the number of commands as its count, or refusal 1 to 5, 7, 9, 10, 14, 11 or 12; they are tested in
+ * this order.
  */
 uint64_t zan_type6_write(const uint8_t *image, size_t image_len, const uint8_t *message,
                          size_t message_len, uint8_t *list, size_t list_len);

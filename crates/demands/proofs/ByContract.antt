@@ -15,12 +15,13 @@ use Rattle.tag.specs.declared.JudgeAnswer.the-variants as verdict
 use Rattle.tag.specs.declared.ModelAnswer as model-answer
 use Rattle.tag.specs.declared.ModelAnswer.the-variants as storing
 use Rattle.tag.specs.Bytes.{overwrite}
-use Rattle.tag.specs.Plan.{list}
+use Rattle.tag.specs.Plan.{list, commandCount}
 use Rattle.tag.specs.TagType.{TagType, Output, refused-output, output, outputInto, fitted, writing, written, writeBy, write, pieces, commands}
 use Rattle.tag.specs.Judge.{accepted, refused, judged}
 use Rattle.tag.specs.Model.{Modelled, refused-storing, stored, model, imageAfter}
 use Rattle.tag.specs.Answers.{refusesOne, gives, countOf, countAs, verdictAs, storingOf, modelAs}
 use Rattle.tag.specs.Contracts.{Wrote, Judged, Took}
+use Rattle.tag.proofs.Counts.{length-list}
 use Rattle.tag.proofs.Logic.{nope}
 use Rattle.demands.specs.Demand3.{cutOf, ourBytes, ourImage, Demand3}
 use Rattle.demands.specs.ByContract.{Run, end, give, refuse, Code3}
@@ -36,12 +37,12 @@ took-none T j command f k (a, b) = b ∙ refused-same (model T j command) j f a
 
 -- where `write` answers a count, it has written our list to the buffer
 pub wrote-ours : (T : TagType) (i m : List ℕ) → writing T i m ≡ written ((T .plan) i m) → (buffer out : List ℕ) (n : ℕ) → Wrote T i m buffer (counted.Count n) out
-    → (length (list ((T .plan) i m) i) ≡ n) × (write T (length buffer) i m ≡ output n (ourBytes T i m)) × (take (length (ourBytes T i m)) out ≡ ourBytes T i m)
+    → (commandCount ((T .plan) i m) i ≡ n) × (write T (length buffer) i m ≡ output n (ourBytes T i m)) × (take (length (ourBytes T i m)) out ≡ ourBytes T i m)
 wrote-ours T i m w buffer out n wrote =
     let (all, e, q) = put-counted (λ room. write T room i m) buffer out n wrote in
     let by-plan : write T (length buffer) i m ≡ fitted (length buffer) (length (list ((T .plan) i m) i)) (ourBytes T i m) = ap (writeBy T (length buffer) i) w in
     let (k, b) = fitted-is (length buffer) (length (list ((T .plan) i m) i)) n (ourBytes T i m) all (sym by-plan ∙ e) in (
-      k,
+      sym (length-list ((T .plan) i m) i) ∙ k,
       e ∙ ap (output n) (sym b),
       ap (take (length (ourBytes T i m))) (q ∙ ap (λ x. overwrite x buffer) (sym b)) ∙ take-append-seam (ourBytes T i m) (drop (length (ourBytes T i m)) buffer),
     )
@@ -91,7 +92,7 @@ module _ (T : TagType) (i m : List ℕ) (d : Demand3 T i m) (w : writing T i m �
 
     afresh : (k : ℕ) → k ≤ n → (buffer out : List ℕ) (r : count.CountAnswer) → length (ourBytes T (cutOf T i bytes k) m) ≤ length buffer
         → Wrote T (cutOf T i bytes k) m buffer r out
-        → (r ≡ counted.Count (length (list ((T .plan) (cutOf T i bytes k) m) (cutOf T i bytes k))))
+        → (r ≡ counted.Count (commandCount ((T .plan) (cutOf T i bytes k) m) (cutOf T i bytes k)))
         × (ourImage T (cutOf T i bytes k) m ≡ ourImage T i m)
         × (take (length (ourBytes T (cutOf T i bytes k) m)) out ≡ ourBytes T (cutOf T i bytes k) m)
     afresh k l buffer out r room wrote =
@@ -100,7 +101,7 @@ module _ (T : TagType) (i m : List ℕ) (d : Demand3 T i m) (w : writing T i m �
         let o : write T (length buffer) x m ≡ output (length (list ((T .plan) x m) x)) (ourBytes T x m)
         = ap (writeBy T (length buffer) x) u ∙ rw (le-leb (length (ourBytes T x m)) (length buffer) room) in
         let (c, b) = put-all (λ room. write T room x m) buffer out r (length (list ((T .plan) x m) x)) (ourBytes T x m) wrote o in
-        (c, v, ap (take (length (ourBytes T x m))) b ∙ take-append-seam (ourBytes T x m) (drop (length (ourBytes T x m)) buffer))
+        (c ∙ ap counted.Count (length-list ((T .plan) x m) x), v, ap (take (length (ourBytes T x m))) b ∙ take-append-seam (ourBytes T x m) (drop (length (ourBytes T x m)) buffer))
 
   pub by-contract : Code3 T i m
   by-contract = record {

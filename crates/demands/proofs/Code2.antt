@@ -21,7 +21,7 @@ use Rattle.tag.specs.declared.ModelAnswer as model-answer
 use Rattle.tag.specs.declared.ModelAnswer.the-variants as storing
 use Rattle.tag.specs.Refusals.{message-too-long, short-buffer, short-gathering-buffer}
 use Rattle.tag.specs.Reading.{Content, message, empty, being-written, Report, Reading, unreadable, reads, answerOf, tooShort, refusal, answer, shown, broken, nothing, holds, heldOf}
-use Rattle.tag.specs.Plan.{list}
+use Rattle.tag.specs.Plan.{list, commandCount}
 use Rattle.tag.specs.TagType.{TagType, held, Writing, refused-write, written, writing, listBytes, writeBy, pieces}
 use Rattle.tag.specs.Stores.{Command}
 use Rattle.tag.specs.Judge.{Task, accepted, judgeBy, judged}
@@ -64,12 +64,16 @@ module _ (T : TagType) where
           absurd (nope (cc))
 
   -- where `write` answers a count, the tag was ready
-  pub counted-ready : (i m buffer out : List ℕ) (n : ℕ) → Wrote T i m buffer (counted.Count n) out → Ready T i m
+  counted-ready : (i m buffer out : List ℕ) (n : ℕ) → Wrote T i m buffer (counted.Count n) out → Ready T i m
   counted-ready i m buffer out n (a, b) = go (writing T i m) refl
     where
       go : (w : Writing) → writing T i m ≡ w → Ready T i m
       go (refused-write r) q = let z : gives n ≡ refusesOne r = a ∙ ap (λ w. countOf (writeBy T (length buffer) i w)) q in absurd (nope (cc))
       go (written p) q = written-ready T i m p q .0
+
+  -- and the count is the formula's
+  pub counts-answer : (i m buffer out : List ℕ) (n : ℕ) → Wrote T i m buffer (counted.Count n) out → n ≡ commandCount ((T .plan) i m) i
+  counts-answer i m buffer out n w = sym (wrote-ours T i m (ready-written T i m (counted-ready i m buffer out n w)) buffer out n w .0)
 
   -- 11 is answered exactly if writing is refused with it
   pub too-long-answer : (i m buffer out : List ℕ) (r : count.CountAnswer) → Wrote T i m buffer r out

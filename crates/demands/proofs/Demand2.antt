@@ -10,9 +10,10 @@ use lib.ListN.{length, length-map}
 use Rattle.tag.specs.Refusals.{short-buffer}
 use Rattle.tag.specs.Reading.{holds}
 use Rattle.tag.specs.Stores.{stores}
-use Rattle.tag.specs.Plan.{list}
+use Rattle.tag.specs.Plan.{list, commandCount}
 use Rattle.tag.specs.TagType.{TagType, held, Writing, refused-write, written, writing, refused-output, output, fitted, write, listBytes, commands}
 use Rattle.tag.proofs.Logic.{nope}
+use Rattle.tag.proofs.Counts.{length-list}
 use Rattle.tag.proofs.Laws.{Laws, written-ready}
 use Rattle.tag.proofs.Showing.{shown-part}
 use Rattle.demands.specs.Demand3.{cutOf, ourBytes}
@@ -44,9 +45,22 @@ module _ (T : TagType) (L : Laws T) where
           = sym k ∙ ap (λ p. length (list p i)) (sym u) ∙ sym (ap length (our-commands T L i m r) ∙ length-map (list ((T .plan) i m) i) stores) in
           (c ∙ ap (λ all. length (commands T i all)) b′, rw (← b′, c) (ap (held T) (our-image T L i m r) ∙ L .sound i m r .new-reads))
 
+  -- the number answered is the formula's
+  formula : (room n : ℕ) (i m bytes : List ℕ) → write T room i m ≡ output n bytes → n ≡ commandCount ((T .plan) i m) i
+  formula room n i m bytes e = go (writing T i m) refl
+    where
+      go : (w : Writing) → writing T i m ≡ w → n ≡ commandCount ((T .plan) i m) i
+      go (refused-write r) q = let f : refused-output r ≡ output n bytes = rw q at e in absurd (nope (cc))
+      go (written p) q =
+          let f : fitted room (length (list p i)) (listBytes T p i) ≡ output n bytes = rw q at e in
+          sym (fitted-is room (length (list p i)) n (listBytes T p i) bytes f .0)
+          ∙ length-list p i
+          ∙ ap (λ p. commandCount p i) (sym (written-ready T i m p q .1))
+
   pub claim : Demand2 T
   claim = record {
     written-reads = reads-back;
+    counts = formula;
     refusals = L .numbered;
     shown-is = λ i buffer p e f. rw e (shown-part T L i buffer p e f);
     too-long = longer T;

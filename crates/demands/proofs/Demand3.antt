@@ -20,6 +20,7 @@ use Rattle.tag.proofs.Each.{Each, each-map, each-of}
 use Rattle.tag.proofs.Images.{restart, length-cut}
 use Rattle.tag.proofs.Judge.{accepts-exactly, refuses-exactly, cut-after}
 use Rattle.tag.proofs.Writes.{list-accepted, list-ends}
+use Rattle.tag.proofs.Counts.{length-list}
 use Rattle.tag.proofs.Pieces.{SelfDelimiting, pieces-joined}
 use Rattle.tag.proofs.Laws.{Laws, Sent, Near, ready-written, ready-reads}
 use Rattle.demands.specs.Demand3.{cutOf, ourBytes, ourImage, Calls, end, give, refuse, imageOf, Demand3}
@@ -138,7 +139,7 @@ module _ (T : TagType) (L : Laws T) where
     claim = record {
       exactly = λ bytes n. rw (by-commands bytes) (accepts-exactly t reading-ok (commands T i bytes) n);
       first-fault = λ bytes f p. rw (by-commands bytes) (refuses-exactly t (commands T i bytes) f p);
-      ours = by-commands (ourBytes T i m) ∙ rw (our-commands i m r) (list-accepted T i m ((T .plan) i m) (L .sound i m r) reading-ok);
+      ours = by-commands (ourBytes T i m) ∙ rw (our-commands i m r) (list-accepted T i m ((T .plan) i m) (L .sound i m r) reading-ok) ∙ ap accepted (length-list ((T .plan) i m) i);
       refuses-none = stores-next;
       followed = λ bytes n e k h calls c. calls-from bytes n e c 0 k refl (omega arith) refl ∙ ap (cutOf T i bytes) (zero-add k);
       restart = λ bytes n e k h. afresh (cutOf T i bytes k) (near bytes n e k h);

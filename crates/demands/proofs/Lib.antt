@@ -5,6 +5,7 @@ pub mod Demand2
 pub mod Octets
 pub mod TooLong
 pub mod TooSmall
+pub mod LeftOut
 pub mod Codecs
 pub mod Answered
 pub mod ByContract

@@ -1,44 +1,33 @@
 -- The theorems of demands 2 and 3 by name, for each type of tag. What each says is in `specs/Demand2.antt`, `specs/Demand3.antt`,
 -- `specs/Code2.antt` and `specs/ByContract.antt`.
 -- Assumes nothing.
-use mathlib.Core.Path.{_≡_, refl, sym, _∙_}
+use mathlib.Core.Path.{_≡_}
 use mathlib.Core.List.{List}
-use Prim.Native.Nat.{ℕ, _/_}
-use native.Mathlib.Omega.{arith}
+use Prim.Native.Nat.{ℕ}
 use lib.ListN.{length}
 use Rattle.tag.specs.Cuts.{Ready}
-use Rattle.tag.proofs.Blocks.{block-of}
-use Rattle.tag.proofs.Counts.{length-single}
-use Rattle.tag.proofs.Writes.{touch-of}
 use Rattle.tag.proofs.Laws.{ready-written}
-use Rattle.tlv_tag.specs.Message.{locate}
-use Rattle.tlv_tag.specs.Update.{usable, tlvBytes, lengthAt}
-use Rattle.tlv_tag.proofs.Field.{first-set}
-use Rattle.tlv_tag.proofs.Writes as writes
-use Rattle.type2.specs.Memory.{memory}
-use Rattle.type2.specs.Codec.{encoded}
-use Rattle.type2.specs.Type2.{command, span, type2}
-use Rattle.type2.proofs.Memory.{memory-laws}
+use Rattle.type2.specs.Type2.{type2}
 use Rattle.type2.proofs.Laws.{type2-laws}
 use Rattle.type3.specs.Type3.{type3}
 use Rattle.type3.proofs.Laws.{type3-laws}
-use Rattle.type3.proofs.Counts.{list-count}
 use Rattle.type6.specs.Type6.{type6}
 use Rattle.type6.proofs.Laws.{suffice-exactly, type6-laws}
-use Rattle.type6.proofs.Counts as counts6
-use Rattle.demands.specs.Demand2.{Demand2, Capacity, Fits2, Fits3, Fits6, Alike3, Alike6, TooLong2, TooLong3, TooLong6, LargeBlocks6, TooSmall6, Codec2, Codec3, Codec6, Count2, Count3, Count6, MostBytes6}
+use Rattle.type6.proofs.Counts.{list-most}
+use Rattle.demands.specs.Demand2.{Demand2, Capacity, Fits2, Fits3, Fits6, Alike3, Alike6, TooLong2, TooLong3, TooLong6, LargeBlocks6, TooSmall6, Codec2, Codec3, Codec6, LeftOut, MostBytes6}
 use Rattle.demands.specs.Demand3.{Demand3}
 use Rattle.demands.specs.ByContract.{Code3}
-use Rattle.demands.specs.Code2.{codec2, codec3, codec6, alike2, count2, count3, count6, Code2}
+use Rattle.demands.specs.Code2.{codec2, codec3, codec6, alike2, Code2}
 use Rattle.demands.proofs.Demand2 as demand2
 use Rattle.demands.proofs.Demand3 as demand3
 use Rattle.demands.proofs.Capacity.{capacity-2, capacity-3, capacity-6}
 use Rattle.demands.proofs.TooLong.{too-long-2, alike-2, too-long-3, too-long-6}
 use Rattle.demands.proofs.TooSmall.{too-small-6}
-use Rattle.demands.proofs.ByContract.{wrote-ours, by-contract}
+use Rattle.demands.proofs.LeftOut.{left-out-2, left-out-3, left-out-6}
+use Rattle.demands.proofs.ByContract.{by-contract}
 use Rattle.demands.proofs.Codecs.{codec-2, codec-3, codec-6}
 use Rattle.demands.proofs.CodecsOfCode.{back-2, there-2, back-3, there-3, back-6, there-6}
-use Rattle.demands.proofs.Code2.{chained, written-tells, counted-ready, too-long-answer, capacity-answer, unreadable-answer, short-answer}
+use Rattle.demands.proofs.Code2.{chained, written-tells, counts-answer, too-long-answer, capacity-answer, unreadable-answer, short-answer}
 
 -- ---- Type 2
 
@@ -54,20 +43,14 @@ type2-too-long-exactly = too-long-2
 pub type2-codec : Codec2
 type2-codec = codec-2
 
-pub type2-count : Count2
-type2-count i m r =
-    let us = usable (locate memory i) in
-    let some = writes.some memory memory-laws command span encoded i m r in
-    length-single ((type2 .plan) i m) i refl (type2-laws .sound i m r .blockwise .inside)
-    (touch-of 4 us (tlvBytes m) (lengthAt us) (lengthAt us / 4) (first-set us m some) (block-of 4 (lengthAt us) (omega arith)))
+pub type2-left-out : LeftOut type2
+type2-left-out = left-out-2
 
 -- demand 2 about the code, through the contracts of read, shown, write, model, encode and decode
-pub type2-code2 : (blocks end : ℕ) → Code2 type2 (codec2 blocks) (alike2 end) count2
+pub type2-code2 : (blocks end : ℕ) → Code2 type2 (codec2 blocks) (alike2 end)
 type2-code2 blocks end = record {
   written-reads = written-tells type2 type2-laws;
-  counts = λ i m buffer out n w.
-      let r = counted-ready type2 i m buffer out n w in
-      sym (wrote-ours type2 i m (ready-written type2 i m r) buffer out n w .0) ∙ type2-count i m r;
+  counts = counts-answer type2;
   too-long-exactly = λ i m a buffer out r w. chained (too-long-answer type2 i m buffer out r w) (alike-2 i m a end);
   capacity-decides = capacity-answer type2 type2-laws;
   refuses = unreadable-answer type2 type2-laws;
@@ -98,15 +81,13 @@ module _ (idm : List ℕ) (eight : length idm ≡ 8) where
   pub type3-codec : Codec3 idm
   type3-codec = codec-3 idm eight
 
-  pub type3-count : Count3 idm
-  type3-count = list-count idm
+  pub type3-left-out : LeftOut (type3 idm)
+  type3-left-out = left-out-3 idm eight
 
-  pub type3-code2 : (nbw nmaxb : ℕ) → Code2 (type3 idm) (codec3 idm nbw nmaxb) Alike3 count3
+  pub type3-code2 : (nbw nmaxb : ℕ) → Code2 (type3 idm) (codec3 idm nbw nmaxb) Alike3
   type3-code2 nbw nmaxb = record {
     written-reads = written-tells (type3 idm) (type3-laws idm eight);
-    counts = λ i m buffer out n w.
-        let r = counted-ready (type3 idm) i m buffer out n w in
-        sym (wrote-ours (type3 idm) i m (ready-written (type3 idm) i m r) buffer out n w .0) ∙ type3-count i m r;
+    counts = counts-answer (type3 idm);
     too-long-exactly = λ i m a buffer out r w. chained (too-long-answer (type3 idm) i m buffer out r w) (type3-too-long-exactly i m a);
     capacity-decides = capacity-answer (type3 idm) (type3-laws idm eight);
     refuses = unreadable-answer (type3 idm) (type3-laws idm eight);
@@ -141,18 +122,16 @@ type6-too-small-exactly = too-small-6
 pub type6-codec : Codec6
 type6-codec = codec-6
 
-pub type6-count : Count6
-type6-count = counts6.list-count
+pub type6-left-out : LeftOut type6
+type6-left-out = left-out-6
 
 pub type6-most-bytes : MostBytes6
-type6-most-bytes = counts6.list-most
+type6-most-bytes = list-most
 
-pub type6-code2 : (z blocks : ℕ) (Chosen : ℕ → Type 0) → Code2 type6 (codec6 z blocks) (Alike6 Chosen) count6
+pub type6-code2 : (z blocks : ℕ) (Chosen : ℕ → Type 0) → Code2 type6 (codec6 z blocks) (Alike6 Chosen)
 type6-code2 z blocks Chosen = record {
   written-reads = written-tells type6 type6-laws;
-  counts = λ i m buffer out n w.
-      let r = counted-ready type6 i m buffer out n w in
-      sym (wrote-ours type6 i m (ready-written type6 i m r) buffer out n w .0) ∙ type6-count i m r;
+  counts = counts-answer type6;
   too-long-exactly = λ i m a buffer out r w. chained (too-long-answer type6 i m buffer out r w) (type6-too-long-exactly i m a Chosen);
   capacity-decides = capacity-answer type6 type6-laws;
   refuses = unreadable-answer type6 type6-laws;

@@ -12,7 +12,7 @@ use Rattle.tag.specs.declared.JudgeAnswer as judge
 use Rattle.tag.specs.declared.JudgeAnswer.the-variants as verdict
 use Rattle.tag.specs.declared.ModelAnswer as model-answer
 use Rattle.tag.specs.declared.ModelAnswer.the-variants as storing
-use Rattle.tag.specs.Plan.{list}
+use Rattle.tag.specs.Plan.{commandCount}
 use Rattle.tag.specs.TagType.{TagType, pieces, commands}
 use Rattle.tag.specs.Judge.{task}
 use Rattle.tag.specs.Cuts.{SafeList, FirstFault}
@@ -49,6 +49,6 @@ pub record Code3 (T : TagType) (i m : List ℕ) : Type 0 where
   -- list ends in the same image as our list for the tag handed in
   pub restart : (bytes : List ℕ) (n : ℕ) → Judged T i m bytes (verdict.Accepted n) → (k : ℕ) → k ≤ n
       → (buffer out : List ℕ) (r : count.CountAnswer) → length (ourBytes T (cutOf T i bytes k) m) ≤ length buffer → Wrote T (cutOf T i bytes k) m buffer r out
-      → (r ≡ counted.Count (length (list ((T .plan) (cutOf T i bytes k) m) (cutOf T i bytes k))))
+      → (r ≡ counted.Count (commandCount ((T .plan) (cutOf T i bytes k) m) (cutOf T i bytes k)))
       × (ourImage T (cutOf T i bytes k) m ≡ ourImage T i m)
       × (take (length (ourBytes T (cutOf T i bytes k) m)) out ≡ ourBytes T (cutOf T i bytes k) m)

@@ -6,7 +6,7 @@ use mathlib.Core.Path.{_≡_}
 use mathlib.Core.Bool.{true}
 use mathlib.Core.Logic.{_↔_}
 use mathlib.Core.List.{List}
-use Prim.Native.Nat.{ℕ, _+_, _-_, _*_, _/_, _<_, _≤_}
+use Prim.Native.Nat.{ℕ, _*_, _<_, _≤_}
 use lib.ListN.{length, take, replicate}
 use Rattle.tag.specs.declared.Report as code
 use Rattle.tag.specs.declared.Content.the-variants as content
@@ -18,25 +18,22 @@ use Rattle.tag.specs.declared.JudgeAnswer as judge
 use Rattle.tag.specs.declared.JudgeAnswer.the-variants as verdict
 use Rattle.tag.specs.declared.ModelAnswer as model-answer
 use Rattle.tag.specs.declared.ModelAnswer.the-variants as storing
-use Rattle.tag.specs.Bytes.{byte, overwrite}
+use Rattle.tag.specs.Bytes.{overwrite}
 use Rattle.tag.specs.Refusals.{message-too-long, short-gathering-buffer}
 use Rattle.tag.specs.Reading.{Report, unreadable, reads, tooShort, holds}
-use Rattle.tag.specs.Plan.{touched}
+use Rattle.tag.specs.Plan.{commandCount}
 use Rattle.tag.specs.TagType.{TagType, held, pieces}
 use Rattle.tag.specs.Contracts.{Read, Showed, Wrote, Judged}
 use Rattle.tlv.specs.Walk.{found, messageTlv}
 use Rattle.type2.specs.declared.Command as command2
 use Rattle.type2.specs.declared.commands.Decoded as decoded2
 use Rattle.type2.specs.Memory.{layout}
-use Rattle.type2.specs.Type2.{type2}
 use Rattle.type2.specs.CodecContracts as views2
 use Rattle.type3_commands.specs.declared.Command as command3
 use Rattle.type3_commands.specs.declared.commands.Decoded as decoded3
-use Rattle.type3.specs.Update.{blocksFor, blocksPerCommand}
 use Rattle.type3_commands.specs.CodecContracts as views3
 use Rattle.type6.specs.declared.Command as command6
 use Rattle.type6.specs.declared.commands.Decoded as decoded6
-use Rattle.type6.specs.Container.{blockSize}
 use Rattle.type6.specs.CodecContracts as views6
 use Rattle.demands.specs.Demand3.{ourBytes}
 use Rattle.demands.specs.Demand2.{Octets, Asked, Alike2}
@@ -110,16 +107,6 @@ codec6 z blocks =
 abbrev pub alike2 : ℕ → List ℕ → List ℕ → Type 0
 alike2 end i j = (t : ℕ) (us : List ℕ) → messageTlv layout i ≡ found t us → Alike2 end t us i j
 
--- the number of commands: blocks touched + 1 for Type 2, 2 + k/w rounded up for Type 3, 1 + (n + 2)/size rounded up for Type 6
-abbrev pub count2 : List ℕ → List ℕ → ℕ
-count2 i m = touched ((type2 .plan) i m) i + 1
-
-abbrev pub count3 : List ℕ → List ℕ → ℕ
-count3 i m = 2 + (blocksFor (length m) + (blocksPerCommand (byte i 2) - 1)) / blocksPerCommand (byte i 2)
-
-abbrev pub count6 : List ℕ → List ℕ → ℕ
-count6 i m = 1 + (2 + length m + (blockSize i - 1)) / blockSize i
-
 -- ---- the claim
 
 -- the answer r and the part shown say that the tag holds the message m
@@ -130,7 +117,7 @@ pub record Tells (m : List ℕ) (r : read.ReadAnswer) (part : List ℕ) : Type 0
   pub its-length : report .length ≡ length m
   pub its-bytes : part ≡ m
 
-pub record Code2 (T : TagType) (C : CommandCodec) (Alike : List ℕ → List ℕ → Type 0) (commands : List ℕ → List ℕ → ℕ) : Type 0 where
+pub record Code2 (T : TagType) (C : CommandCodec) (Alike : List ℕ → List ℕ → Type 0) : Type 0 where
   -- given the commands written, one a call, the model stores each; the tag that it leaves reads as the message, and the message is
   -- shown, unless the gathering buffer is too short
   pub written-reads : (i m buffer out : List ℕ) (n : ℕ) → Wrote T i m buffer (counted.Count n) out
@@ -139,8 +126,8 @@ pub record Code2 (T : TagType) (C : CommandCodec) (Alike : List ℕ → List ℕ
       × (
       (gathering gathered part : List ℕ) (r : read.ReadAnswer) → Read (T .reading) j gathering r gathered → Showed j gathered r part
       → (r ≡ reading.Refused short-gathering-buffer → ⊥) → Tells m r part)
-  -- the list has as many commands as the requirements say
-  pub counts : (i m buffer out : List ℕ) (n : ℕ) → Wrote T i m buffer (counted.Count n) out → n ≡ commands i m
+  -- the list has as many commands as 02's formula gives: 1 if the first stays, r/w rounded up, and 1 for the last
+  pub counts : (i m buffer out : List ℕ) (n : ℕ) → Wrote T i m buffer (counted.Count n) out → n ≡ commandCount ((T .plan) i m) i
   -- 11 exactly if no image that differs only in what writing may set reads as the message
   pub too-long-exactly : (i m : List ℕ) → Asked T i m → (buffer out : List ℕ) (r : count.CountAnswer) → Wrote T i m buffer r out
       → (r ≡ counted.Refused message-too-long) ↔ ((j : List ℕ) → Octets j → Alike i j → held T j ≡ holds m → ⊥)

@@ -6,12 +6,13 @@ use mathlib.Core.Path.{_≡_}
 use mathlib.Core.Bool.{true, false}
 use mathlib.Core.Logic.{_⊎_, _↔_}
 use mathlib.Core.List.{List, [], _∷_}
-use Prim.Native.Nat.{ℕ, _+_, _-_, _*_, _/_, _<_, _≤_}
+use Prim.Native.Nat.{ℕ, _+_, _*_, _/_, _<_, _≤_}
 use lib.ListN.{length, take}
 use Rattle.tag.specs.Bytes.{byte, has}
 use Rattle.tag.specs.Refusals.{message-too-long, block-too-small}
 use Rattle.tag.specs.Reading.{Report, unreadable, reads, answerOf, tooShort, gatheredInto, shown, holds}
-use Rattle.tag.specs.Plan.{touched, list}
+use Rattle.tag.specs.Stores.{put}
+use Rattle.tag.specs.Plan.{newImage, blockOf, between, firstStore, commandCount}
 use Rattle.tag.specs.TagType.{TagType, held, writing, refused-write, output, write, commands}
 use Rattle.tag.specs.Cuts.{Ready}
 use Rattle.tlv.specs.Walk.{found, messageTlv}
@@ -20,7 +21,6 @@ use Rattle.type2.specs.Memory.{layout}
 use Rattle.type2.specs.Type2.{type2}
 use Rattle.type2.specs.Codec as codec2
 use Rattle.type3.specs.Type3.{type3}
-use Rattle.type3.specs.Update.{blocksFor, blocksPerCommand}
 use Rattle.type3.specs.Codec as codec3
 use Rattle.type6.specs.Container.{blockSize, fileAt, fileRoom}
 use Rattle.type6.specs.Type6.{type6}
@@ -33,6 +33,9 @@ pub record Demand2 (T : TagType) : Type 0 where
   -- the tag that took the commands written reads as the message, and the number answered is the number of commands
   pub written-reads : (room n : ℕ) (i m bytes : List ℕ) → write T room i m ≡ output n bytes
       → (n ≡ length (commands T i bytes)) × (held T (cutOf T i bytes n) ≡ holds m)
+  -- it is 1 if the first command stays, r/w rounded up, and 1 for the last, with r the blocks other than the guard block whose new
+  -- bytes differ and w the most blocks of one command (02, E4)
+  pub counts : (room n : ℕ) (i m bytes : List ℕ) → write T room i m ≡ output n bytes → n ≡ commandCount ((T .plan) i m) i
   -- a tag that does not read gets one of 1 to 8
   pub refusals : (i : List ℕ) (r : ℕ) → (T .reading) i ≡ unreadable r → (1 ≤ r) × (r ≤ 8)
   -- the part shown after reading is the message
@@ -151,22 +154,18 @@ pub record Codec6 : Type 0 where
   pub encode-decode : (z blocks : ℕ) (all : List ℕ) (b : ℕ) (bytes : List ℕ) (room : ℕ) → length all ≤ room
       → codec6.decode z blocks all ≡ codec6.decoded b bytes → codec6.encode z blocks b bytes room ≡ output (length all) all
 
--- ---- the number of commands
+-- ---- what is left out (02, E4)
 
--- Type 2: blocks touched + 1
-abbrev pub Count2 : Type 0
-Count2 = (i m : List ℕ) → Ready type2 i m → length (list ((type2 .plan) i m) i) ≡ touched ((type2 .plan) i m) i + 1
+pub record LeftOut (T : TagType) : Type 0 where
+  -- the first command is left out exactly if it would change nothing. The plan has 02's own words for when it is left out, which differ
+  -- from type to type
+  pub first : (i m : List ℕ) (p : Report) → (T .reading) i ≡ reads p → Octets i → ((T .plan) i m .is-shut ≡ true) ↔ (put i (firstStore ((T .plan) i m)) ≡ i)
+  -- and so is every other block: it is not written exactly if storing its new bytes would change nothing
+  pub others : (i m : List ℕ) → Ready T i m → (b : ℕ) → b < length i / (T .plan) i m .block-size → (b ≡ (T .plan) i m .guard → ⊥)
+      → (between ((T .plan) i m) i b ≡ false) ↔ (put i (blockOf ((T .plan) i m .block-size) (newImage ((T .plan) i m) i) b) ≡ i)
 
--- Type 3: 2 + k/w rounded up
-abbrev pub Count3 : List ℕ → Type 0
-Count3 idm = (i m : List ℕ) → Ready (type3 idm) i m
-    → length (list ((type3 idm .plan) i m) i)
-    ≡ 2 + (blocksFor (length m) + (blocksPerCommand (byte i 2) - 1)) / blocksPerCommand (byte i 2)
+-- ---- the bytes of a list
 
--- Type 6: 1 + (n + 2)/size rounded up
-abbrev pub Count6 : Type 0
-Count6 = (i m : List ℕ) → Ready type6 i m → length (list ((type6 .plan) i m) i) ≡ 1 + (2 + length m + (blockSize i - 1)) / blockSize i
-
--- and the bytes of its list: a buffer of 256 · 35 bytes is long enough on every tag
+-- a buffer of 256 · 35 bytes is long enough for the list of every Type 6 tag
 abbrev pub MostBytes6 : Type 0
 MostBytes6 = (i m : List ℕ) → Ready type6 i m → length (ourBytes type6 i m) ≤ 256 * 35

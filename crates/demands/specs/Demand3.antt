@@ -8,7 +8,7 @@ use mathlib.Core.List.{List, [], _∷_}
 use Prim.Native.Nat.{ℕ, suc, _<_, _≤_}
 use lib.ListN.{length, getD, take}
 use Rattle.tag.specs.Stores.{cut}
-use Rattle.tag.specs.Plan.{list}
+use Rattle.tag.specs.Plan.{commandCount}
 use Rattle.tag.specs.TagType.{TagType, writing, written, listBytes, pieces, commands}
 use Rattle.tag.specs.Judge.{task, accepted, refused, judged}
 use Rattle.tag.specs.Model.{model, refused-storing, stored, imageAfter}
@@ -42,14 +42,15 @@ pub record Demand3 (T : TagType) (i m : List ℕ) : Type 0 where
   pub exactly : (bytes : List ℕ) (n : ℕ) → (judged T i m bytes ≡ accepted n) ↔ ((n ≡ length (commands T i bytes)) × SafeList (task T i m) (commands T i bytes))
   -- and gives a refusal and a position exactly if that is the first fault
   pub first-fault : (bytes : List ℕ) (r p : ℕ) → (judged T i m bytes ≡ refused r p) ↔ FirstFault (task T i m) (commands T i bytes) r p
-  -- our list is accepted
-  pub ours : judged T i m (ourBytes T i m) ≡ accepted (length (list ((T .plan) i m) i))
+  -- our list is accepted, with the number of commands that 02's formula gives
+  pub ours : judged T i m (ourBytes T i m) ≡ accepted (commandCount ((T .plan) i m) i)
   -- the model, given the commands of an accepted list one a call, refuses none: it takes cut k to cut k + 1
   pub refuses-none : (bytes : List ℕ) (n : ℕ) → judged T i m bytes ≡ accepted n → (k : ℕ) → k < n
       → model T (cutOf T i bytes k) (getD (pieces T i bytes) k []) ≡ stored (cutOf T i bytes (suc k))
   -- and given the first k it leaves cut k; calls that it refuses may come between
   pub followed : (bytes : List ℕ) (n : ℕ) → judged T i m bytes ≡ accepted n → (k : ℕ) → k ≤ n
       → (calls : List (List ℕ)) → Calls T i (take k (pieces T i bytes)) calls → imageOf T i calls ≡ cutOf T i bytes k
-  -- writing afresh to any cut of an accepted list is not refused and ends in the image that our list gives for the tag handed in
+  -- writing afresh to any cut of an accepted list is not refused and ends in the image that our list gives for the tag handed in; our
+  -- list for that cut leaves out what the cut already holds
   pub restart : (bytes : List ℕ) (n : ℕ) → judged T i m bytes ≡ accepted n → (k : ℕ) → k ≤ n
       → (writing T (cutOf T i bytes k) m ≡ written ((T .plan) (cutOf T i bytes k) m)) × (ourImage T (cutOf T i bytes k) m ≡ ourImage T i m)

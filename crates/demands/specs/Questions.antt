@@ -75,6 +75,8 @@ pub data Question : Type 0 where
   written : ℕ → Question
   -- which byte does an address have once a message of n bytes is written
   written-at : ℕ → ℕ → Question
+  -- which commands are written for a message
+  list-of : List ℕ → Question
   -- what does the judge answer for a message and a list
   judge-list : List ℕ → List ℕ → Question
 
@@ -85,6 +87,8 @@ pub data Outcome : Type 0 where
   -- the commands were written, and the tag that took them reads as the message
   fits : Outcome
   holds-byte : ℕ → Outcome
+  -- the number of commands, and their bytes
+  gives : ℕ → List ℕ → Outcome
   accepts : ℕ → Outcome
   refuses-at : ℕ → ℕ → Outcome
   misread : Outcome
@@ -105,6 +109,10 @@ abbrev pub ofByte : TagType → List ℕ → ℕ → Output → Outcome
 ofByte T i a (refused-output r) = refuses r
 ofByte T i a (output n bytes) = holds-byte (byte (took T i bytes) a)
 
+abbrev pub ofList : Output → Outcome
+ofList (refused-output r) = refuses r
+ofList (output n bytes) = gives n bytes
+
 abbrev pub ofVerdict : Verdict → Outcome
 ofVerdict (accepted n) = accepts n
 ofVerdict (refused r p) = refuses-at r p
@@ -117,6 +125,7 @@ abbrev pub outcome : TagType → List ℕ → Question → Outcome
 outcome T i read = ofAnswer (answerOf roomy ((T .reading) i))
 outcome T i (written n) = ofWrite T i (some n) (write T roomy i (some n))
 outcome T i (written-at n a) = ofByte T i a (write T roomy i (some n))
+outcome T i (list-of m) = ofList (write T roomy i m)
 outcome T i (judge-list m bytes) = ofVerdict (judged T i m bytes)
 
 -- an outcome as numbers, which can be compared
@@ -133,6 +142,7 @@ numbers (holds-byte v) = 3 ∷ v ∷ []
 numbers (accepts n) = 4 ∷ n ∷ []
 numbers (refuses-at r p) = 5 ∷ r ∷ p ∷ []
 numbers misread = 6 ∷ []
+numbers (gives n bytes) = 7 ∷ n ∷ bytes
 
 pub record Row : Type 0 where
   pub kind : TagType

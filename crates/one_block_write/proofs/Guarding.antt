@@ -1,116 +1,104 @@
--- The whole list, the guard block's two commands and those between them: its length, what is answered for it, and its three parts
--- as they are written one after the other.
+-- The whole list, the guard block's two commands and those between them: its length, and what is answered for it.
 -- Assumes nothing.
-use mathlib.Core.Path.{_≡_, sym, ap, _∙_}
-use mathlib.Core.List.{List, _++_, append-assoc}
-use Prim.Native.Nat.{ℕ, _+_, _-_, _*_, _/_, _<_, _≤_}
+use mathlib.Core.Path.{_≡_, refl, sym, ap, _∙_}
+use mathlib.Core.Bool.{Bool, true, false, cond}
+use mathlib.Core.List.{List, [], _++_}
+use Prim.Native.Nat.{ℕ, _+_, _*_, _/_, _<_, _≤_}
 use native.Mathlib.Omega.{arith}
 use borrow.Author.Tests.{le-leb, lt-leb}
-use borrow.Rule.Slice.PartMut.{putMid}
-use lib.ListN.{length, take, drop, length-append, length-take, length-drop}
-use Rattle.tag.specs.Bytes.{overwrite}
+use lib.ListN.{length, take, length-append}
+use lib.Seq.{length-take-le}
+use Rattle.tag.specs.Bytes.{byte}
+use Rattle.tag.specs.Plan.{betweenBy, picked}
 use Rattle.tag.specs.TagType.{refused-output, output}
-use Rattle.tag.proofs.Filling.{lay-part}
-use Rattle.one_block_write.specs.Views.Listing.{commandLength, commandBytes, blockBytes, marked, markedCount, markedBytes, guardedBytes, guardedOutput, Listed}
-use Rattle.one_block_write.proofs.Laying.{block-inside, length-command, length-block, length-picked}
+use Rattle.tag.proofs.Picks.{picked-in}
+use Rattle.one_block_write.specs.Views.Listing.{commandLength, commandBytes, blockBytes, blocksBytes, shutCommand, shutLength, chosen, guardedBytes, guardedOutput, BlocksAsked, Listed}
+use Rattle.one_block_write.proofs.Laying.{product-short, block-inside, length-command, length-block, length-blocks}
 
-module _ (front : List ℕ) (z : ℕ) (new marks : List ℕ) (g : ℕ) (shut : List ℕ) (h : Listed front z new marks g shut) where
+-- the command that shuts the guard block, if it stays, is one command long
+pub shut-step : (front : List ℕ) (z : ℕ) (is-shut : Bool) → shutLength front z is-shut ≡ commandLength front z * cond is-shut 0 1
+shut-step front z true = omega arith
+shut-step front z false = omega arith
+
+pub length-shut : (front : List ℕ) (g : ℕ) (shut : List ℕ) (is-shut : Bool) → length (shutCommand front g shut is-shut) ≡ shutLength front (length shut) is-shut
+length-shut front g shut true = refl
+length-shut front g shut false = length-command front g shut
+
+module _ (front : List ℕ) (z : ℕ) (i new : List ℕ) (g : ℕ) (shut : List ℕ) (h : Listed front z i new g shut) where
   pub guard-inside : z * g + z ≤ length new
   guard-inside = block-inside z g (length new / z) (length new) (h .inside) (omega (arith, h .whole))
 
-  length-shut : length (commandBytes front g shut) ≡ commandLength front z
-  length-shut = length-command front g shut ∙ ap (commandLength front) (h .shut-whole)
+  -- the blocks between lie in the image
+  pub chosen-inside : (j : ℕ) → j < length (chosen z i new g) → z * byte (chosen z i new g) j + z ≤ length new
+  chosen-inside j l =
+      block-inside z (byte (chosen z i new g) j) (length new / z) (length new)
+      (omega (arith, picked-in (betweenBy z g i new) (length new / z) 0 j l .1)) (omega (arith, h .whole))
 
-  length-marked : length (markedBytes front z new marks (length new / z)) ≡ commandLength front z * markedCount marks (length new / z)
-  length-marked = length-picked front z (h .some-size) (marked marks) new (length new / z) (omega (arith, h .whole))
+  pub length-middle : length (blocksBytes front z new (chosen z i new g)) ≡ commandLength front z * length (chosen z i new g)
+  length-middle = length-blocks front z new (chosen z i new g) chosen-inside
 
-  length-open : length (blockBytes front z new g) ≡ commandLength front z
-  length-open = length-block front z new g guard-inside
+  -- as the code has them: n numbers at the front of an array, and u commands that shut the guard block
+  pub record Counted (is-shut : Bool) (blocks : List ℕ) (n u : ℕ) : Type 0 where
+    pub are : take n blocks ≡ chosen z i new g
+    pub many : length (chosen z i new g) ≡ n
+    pub few : n ≤ 256
+    pub small : u + n + 1 ≤ 258
+    -- the length that the code tests
+    pub whole-length : commandLength front z * (u + n + 1) ≡ shutLength front z is-shut + commandLength front z * n + commandLength front z
+    pub whole-short : commandLength front z * (u + n + 1) ≤ 66048
+    pub total : u + n + 1 ≡ cond is-shut 0 1 + length (chosen z i new g) + 1
 
-  length-guarded : length (guardedBytes front z new marks g shut) ≡ commandLength front z * (2 + markedCount marks (length new / z))
-  length-guarded =
-      omega (
-        arith,
-        length-append (commandBytes front g shut) (markedBytes front z new marks (length new / z) ++ blockBytes front z new g),
-        length-append (markedBytes front z new marks (length new / z)) (blockBytes front z new g),
-        length-shut,
-        length-marked,
-        length-open,
-      )
+  pub counted : (is-shut : Bool) (end n u : ℕ) (blocks : List ℕ) → end ≡ length new / z → length blocks ≡ 256 → n ≤ end
+      → take n blocks ≡ picked (betweenBy z g i new) 0 end → u ≡ cond is-shut 0 1 → Counted is-shut blocks n u
+  counted is-shut end n u blocks all size few which e = record {
+    are = are;
+    many = many;
+    few = omega (arith, h .few);
+    small = small;
+    whole-length = omega (arith, shut-step front z is-shut, ap (λ k. commandLength front z * k) e);
+    whole-short = product-short (commandLength front z) (u + n + 1) (h .short) small;
+    total = omega (arith, many);
+  }
+    where
+      are : take n blocks ≡ chosen z i new g
+      are = which ∙ ap (picked (betweenBy z g i new) 0) all
 
-  pub guarded-short : (room : ℕ) → room < commandLength front z * (2 + markedCount marks (length new / z)) → guardedOutput room front z new marks g shut ≡ refused-output 12
-  guarded-short room l = rw (lt-leb (length (guardedBytes front z new marks g shut)) room (omega (arith, length-guarded)))
+      many : length (chosen z i new g) ≡ n
+      many = sym (ap length are) ∙ length-take-le n blocks (omega (arith, h .few))
 
-  pub guarded-fits : (room : ℕ) → commandLength front z * (2 + markedCount marks (length new / z)) ≤ room
-      → guardedOutput room front z new marks g shut ≡ output (2 + markedCount marks (length new / z)) (guardedBytes front z new marks g shut)
-  guarded-fits room l = rw (le-leb (length (guardedBytes front z new marks g shut)) room (omega (arith, length-guarded)))
+      shut-most : (c : Bool) → cond c 0 1 ≤ 1
+      shut-most true = omega arith
+      shut-most false = omega arith
 
-  -- the guard block shut, the blocks between, the guard block opened; the tag has b blocks, and n of them are between
-  module _ (b n : ℕ) (all : b ≡ length new / z) (few : n ≡ markedCount marks b) where
-    pub guarded-count : n + 2 ≡ 2 + markedCount marks (length new / z)
-    guarded-count = omega (arith, ap (markedCount marks) all)
+      small : u + n + 1 ≤ 258
+      small = omega (arith, h .few, shut-most is-shut)
 
-    pub guarded-length : commandLength front z * (n + 2) ≡ commandLength front z * (2 + markedCount marks (length new / z))
-    guarded-length = ap (λ k. commandLength front z * k) guarded-count
+  module _ (is-shut : Bool) where
+    length-guarded : length (guardedBytes front z new (chosen z i new g) g shut is-shut) ≡ commandLength front z * (cond is-shut 0 1 + length (chosen z i new g) + 1)
+    length-guarded =
+        let first = shutCommand front g shut is-shut in
+        let mid = blocksBytes front z new (chosen z i new g) in
+        let long : length first ≡ commandLength front z * cond is-shut 0 1
+        = length-shut front g shut is-shut ∙ ap (λ n. shutLength front n is-shut) (h .shut-whole) ∙ shut-step front z is-shut in
+        omega (
+          arith,
+          length-append first (mid ++ blockBytes front z new g),
+          length-append mid (blockBytes front z new g),
+          long,
+          length-middle,
+          length-block front z new g guard-inside,
+        )
 
-    pub whole-blocks : z * b ≤ length new
-    whole-blocks = omega (arith, h .whole, ap (λ k. z * k) all)
+    pub guarded-short : (room : ℕ) → room < commandLength front z * (cond is-shut 0 1 + length (chosen z i new g) + 1)
+        → guardedOutput room front z i new g shut is-shut ≡ refused-output 12
+    guarded-short room l = rw (lt-leb (length (guardedBytes front z new (chosen z i new g) g shut is-shut)) room (omega (arith, length-guarded)))
 
-    -- what the blocks between need
-    pub middle-room : (room : ℕ) → commandLength front z * (n + 2) ≤ room → commandLength front z * markedCount marks b + commandLength front z ≤ room
-    middle-room room l = omega (arith, ap (λ k. commandLength front z * k) few)
+    pub guarded-fits : (room : ℕ) → commandLength front z * (cond is-shut 0 1 + length (chosen z i new g) + 1) ≤ room
+        → guardedOutput room front z i new g shut is-shut
+        ≡ output (cond is-shut 0 1 + length (chosen z i new g) + 1) (guardedBytes front z new (chosen z i new g) g shut is-shut)
+    guarded-fits room l = rw (le-leb (length (guardedBytes front z new (chosen z i new g) g shut is-shut)) room (omega (arith, length-guarded)))
 
-    -- the first two parts: the guard block shut, then the blocks between, in a borrowed part
-    module _ (list first y : List ℕ) (l : commandLength front z * (n + 2) ≤ length list)
-        (p : first ≡ commandBytes front g shut ++ drop (commandLength front (length shut)) list)
-        (m : length first ≡ length list)
-        (q : y ≡ markedBytes front z new marks b ++ drop (commandLength front z * markedCount marks b) (take (length first - commandLength front z) (drop (commandLength front z) first))) where
-      abbrev two : List ℕ
-      two = putMid (commandLength front z) (length first - commandLength front z) first y
-
-      abbrev far : ℕ
-      far = commandLength front z * n + commandLength front z
-
-      count : commandLength front z * markedCount marks b ≡ commandLength front z * n
-      count = sym (ap (λ k. commandLength front z * k) few)
-
-      long : length (markedBytes front z new marks b) ≡ commandLength front z * n
-      long =
-          ap (λ k. length (markedBytes front z new marks k)) all
-          ∙ length-marked
-          ∙ ap (λ k. commandLength front z * markedCount marks k) (sym all)
-          ∙ count
-
-      laid : two ≡ (commandBytes front g shut ++ markedBytes front z new marks b) ++ drop far list
-      laid =
-          let step = commandLength front z in
-          let x = commandBytes front g shut in
-          let mid = markedBytes front z new marks b in
-          let begun : first ≡ x ++ drop step list = p ∙ ap (λ d. x ++ drop (commandLength front d) list) (h .shut-whole) in
-          let k : step + step * markedCount marks b ≡ far = omega (arith, count) in
-          lay-part first x list step begun length-shut mid y (length first) (step * markedCount marks b) (omega (arith, count)) (omega arith) q
-          ∙ ap (λ d. (x ++ mid) ++ drop d list) k
-
-      far-is : length (commandBytes front g shut ++ markedBytes front z new marks b) ≡ far
-      far-is = length-append (commandBytes front g shut) (markedBytes front z new marks b) ∙ omega (arith, length-shut, long)
-
-      same : length two ≡ length list
-      same =
-          ap length laid
-          ∙ length-append (commandBytes front g shut ++ markedBytes front z new marks b) (drop far list)
-          ∙ omega (arith, far-is, length-drop far list)
-
-      pub open-room : commandLength front z ≤ length (take (length two - far) (drop far two))
-      open-room = rw (length-take, length-drop) (omega (arith, same))
-
-      pub guarded-parts : (w : List ℕ) → w ≡ blockBytes front z new g ++ drop (commandLength front z) (take (length two - far) (drop far two))
-          → putMid far (length two - far) two w ≡ overwrite (guardedBytes front z new marks g shut) list
-      guarded-parts w s =
-          let step = commandLength front z in
-          let x = commandBytes front g shut in
-          let mid = markedBytes front z new marks b in
-          let last = blockBytes front z new g in
-          let end : far + step ≡ length (guardedBytes front z new marks g shut) = omega (arith, length-guarded, guarded-length) in
-          lay-part two (x ++ mid) list far laid far-is last w (length two) step (omega (arith, same)) (omega arith) s
-          ∙ ap (λ bytes. bytes ++ drop (far + step) list) (append-assoc x mid last ∙ ap (λ d. x ++ (markedBytes front z new marks d ++ last)) all)
-          ∙ ap (λ d. guardedBytes front z new marks g shut ++ drop d list) end
+    -- where the list ends
+    pub guarded-end : shutLength front z is-shut + commandLength front z * length (chosen z i new g) + commandLength front z
+        ≡ length (guardedBytes front z new (chosen z i new g) g shut is-shut)
+    guarded-end = omega (arith, length-guarded, shut-step front z is-shut)

@@ -1,26 +1,20 @@
--- The bytes of write commands: one command as the code lays it, the command of a block, and stores laid end to end, a command each.
+-- The bytes of write commands: one command as the code lays it, the command of a block, and the commands of several blocks.
 -- Assumes nothing.
 use mathlib.Core.Path.{_≡_, refl, sym, ap, _∙_}
-use mathlib.Core.Bool.{Bool, true, false, cond}
 use mathlib.Core.List.{List, [], _∷_, _++_, append-nil, append-assoc}
-use Prim.Native.Nat.{ℕ, suc, _+_, _-_, _*_, _/_, _<_, _≤_}
+use Prim.Native.Nat.{ℕ, suc, _+_, _-_, _*_, _<_, _≤_}
 use native.Mathlib.Nat.{mul-le-mul-left, mul-div-cancel-left}
 use native.Mathlib.Numerals.{add-one}
 use native.Mathlib.Omega.{arith}
 use borrow.Rule.Slice.PartMut.{putMid}
 use lib.ListN.{length, getD, set, take, drop, length-append, length-drop}
-use lib.Seq.{take-length, drop-cons, drop-at, set-at, length-take-le}
+use lib.Seq.{take-length, drop-cons, drop-at, set-at, length-take-le, take-suc, getD-take}
 use Rattle.tag.specs.Bytes.{byte}
-use Rattle.tag.specs.Stores.{Store}
-use Rattle.tag.specs.Plan.{blockOf, picks, counted}
-use Rattle.tag.proofs.Each.{Each}
+use Rattle.tag.specs.Plan.{blockOf}
 use Rattle.tag.proofs.Runs.{bytes-of}
 use Rattle.tag.proofs.Blocks.{block-length}
-use Rattle.tag.proofs.Filling.{lent, lay-more}
-use Rattle.tag.proofs.Picks.{length-picks, picked, picks-next}
-use Rattle.tag.proofs.Counts.{counted-yes, counted-no, counted-more}
-use Rattle.tag.proofs.Sending.{Named, picks-named}
-use Rattle.one_block_write.specs.Views.Listing.{commandLength, commandBytes, blockBytes, storeBytes, oneEach}
+use Rattle.tag.proofs.Filling.{lent, lay-part}
+use Rattle.one_block_write.specs.Views.Listing.{commandLength, commandBytes, blockBytes, blocksBytes, storeBytes}
 
 -- a product of two small numbers is small
 pub product-short : (a b : ℕ) → a ≤ 256 → b ≤ 258 → a * b ≤ 66048
@@ -38,10 +32,6 @@ six-laid front held out laid b e f p =
     p
     ∙ ap (λ xs. (xs ++ b ∷ byte held 0 ∷ byte held 1 ∷ byte held 2 ∷ byte held 3 ∷ []) ++ drop 6 out) (bytes-of front 1 e)
     ∙ ap (λ ys. commandBytes front b ys ++ drop 6 out) (bytes-of held 4 f)
-
--- room that a test asks for
-pub room-yes : (c : Bool) (a n room : ℕ) → c ≡ true → a + cond c n 0 ≤ room → a + n ≤ room
-room-yes c a n room q l = rw q at l
 
 module _ (front : List ℕ) where
   -- ---- one command
@@ -92,81 +82,52 @@ module _ (front : List ℕ) where
     pub length-block : (i : List ℕ) (b : ℕ) → z * b + z ≤ length i → length (blockBytes front z i b) ≡ commandLength front z
     length-block i b h = length-command b (take z (drop (z * b) i)) ∙ ap (commandLength front) (block-length z i b h)
 
-    -- ---- a command for each store
-
-    one-append : (ss rs : List Store) → oneEach front z (ss ++ rs) ≡ oneEach front z ss ++ oneEach front z rs
-    unfolding oneEach
-    one-append [] rs = refl
-    one-append (s ∷ ss) rs = ap (λ bytes. storeBytes front z s ++ bytes) (one-append ss rs) ∙ sym (append-assoc (storeBytes front z s) (oneEach front z ss) (oneEach front z rs))
-
-    length-one : (Q : ℕ → Type 0) (ss : List Store) → Each (Named z Q) ss → length (oneEach front z ss) ≡ commandLength front z * length ss
-    unfolding oneEach
-    length-one Q [] h = omega arith
-    length-one Q (s ∷ ss) h =
-        omega (
-          arith,
-          length-append (storeBytes front z s) (oneEach front z ss),
-          length-command (s .at / z) (s .bytes),
-          length-one Q ss (h .1),
-          h .0 .whole .full,
-        )
-
     -- the command of a block as a store
     pub block-one : 0 < z → (i : List ℕ) (b : ℕ) → storeBytes front z (blockOf z i b) ≡ blockBytes front z i b
     block-one pos i b = ap (λ c. commandBytes front c (take z (drop (z * b) i))) (mul-div-cancel-left b pos)
 
-    -- ---- the blocks that a test picks
+    -- ---- the commands of several blocks
 
-    module _ (pos : 0 < z) (t : ℕ → Bool) (i : List ℕ) where
-      pub length-picked : (k : ℕ) → z * k ≤ length i → length (oneEach front z (picks t z i 0 k)) ≡ commandLength front z * counted t 0 k
-      length-picked k h =
-          let Q : ℕ → Type 0 = λ b. Unit {0} in
-          length-one Q (picks t z i 0 k) (picks-named z i Q t k 0 k (omega arith) h (λ c l e. tt))
-          ∙ ap (λ n. commandLength front z * n) (length-picks t z i 0 k)
+    module _ (i : List ℕ) where
+      blocks-append : (xs ys : List ℕ) → blocksBytes front z i (xs ++ ys) ≡ blocksBytes front z i xs ++ blocksBytes front z i ys
+      unfolding blocksBytes
+      blocks-append [] ys = refl
+      blocks-append (b ∷ xs) ys =
+          ap (λ bytes. blockBytes front z i b ++ bytes) (blocks-append xs ys)
+          ∙ sym (append-assoc (blockBytes front z i b) (blocksBytes front z i xs) (blocksBytes front z i ys))
 
-      -- one block more
-      picked-next : (k : ℕ) → oneEach front z (picks t z i 0 (k + 1)) ≡ oneEach front z (picks t z i 0 k) ++ cond (t k) (blockBytes front z i k) []
-      unfolding oneEach
-      picked-next k =
-          ap (oneEach front z) (picks-next t z i k)
-          ∙ one-append (picks t z i 0 k) (picked t z i k)
-          ∙ ap (λ bytes. oneEach front z (picks t z i 0 k) ++ bytes) (go (t k))
-        where
-          go : (c : Bool) → oneEach front z (cond c (blockOf z i k ∷ []) []) ≡ cond c (blockBytes front z i k) []
-          go true = append-nil (storeBytes front z (blockOf z i k)) ∙ block-one pos i k
-          go false = refl
+      pub length-blocks : (bs : List ℕ) → ((j : ℕ) → j < length bs → z * byte bs j + z ≤ length i)
+          → length (blocksBytes front z i bs) ≡ commandLength front z * length bs
+      unfolding blocksBytes
+      length-blocks [] h = omega arith
+      length-blocks (b ∷ bs) h =
+          omega (
+            arith,
+            length-append (blockBytes front z i b) (blocksBytes front z i bs),
+            length-block i b (h 0 (omega arith)),
+            length-blocks bs (λ j l. h (suc j) (omega arith)),
+          )
 
-      -- how far the commands go, with one block more
-      pub further : (k : ℕ) → commandLength front z * counted t 0 (k + 1) ≡ commandLength front z * counted t 0 k + cond (t k) (commandLength front z) 0
-      further k = go (t k) refl
-        where
-          go : (c : Bool) → t k ≡ c
-              → commandLength front z * counted t 0 (k + 1) ≡ commandLength front z * counted t 0 k + cond (t k) (commandLength front z) 0
-          go true q = rw (q, counted-yes t k q) (omega arith)
-          go false q = rw (q, counted-no t k q) (omega arith)
+      blocks-more : (bs : List ℕ) (j : ℕ) → j < length bs
+          → blocksBytes front z i (take (j + 1) bs) ≡ blocksBytes front z i (take j bs) ++ blockBytes front z i (byte bs j)
+      unfolding blocksBytes
+      blocks-more bs j l =
+          rw (add-one j, take-suc bs j 0 l)
+          (blocks-append (take j bs) (byte bs j ∷ [])
+          ∙ ap (λ bytes. blocksBytes front z i (take j bs) ++ bytes) (append-nil (blockBytes front z i (byte bs j))))
 
-      -- and so there is room for that block's command, if it is picked
-      pub room-next : (k n room : ℕ) → k < n → commandLength front z * counted t 0 n ≤ room
-          → commandLength front z * counted t 0 k + cond (t k) (commandLength front z) 0 ≤ room
-      room-next k n room l h =
-          let m : commandLength front z * counted t 0 (k + 1) ≤ commandLength front z * counted t 0 n
-          = mul-le-mul-left (commandLength front z) (counted-more t (k + 1) n (omega arith)) in
-          omega (arith, further k)
-
-      -- a turn of the loop over the blocks: what is written so far grows by the block's command, or stays
-      pub picked-out : (out rest : List ℕ) (k : ℕ) → z * k ≤ length i
-          → out ≡ oneEach front z (picks t z i 0 k) ++ drop (commandLength front z * counted t 0 k) rest
-          → cond (t k) (take (commandLength front z * counted t 0 k) out ++ (blockBytes front z i k ++ drop (commandLength front z * counted t 0 k + commandLength front z) out)) out
-          ≡ oneEach front z (picks t z i 0 (k + 1)) ++ drop (commandLength front z * counted t 0 (k + 1)) rest
-      picked-out out rest k h e = rw (picked-next k, further k) (go (t k))
-        where
-          far : ℕ
-          far = commandLength front z * counted t 0 k
-
-          go : (c : Bool)
-              → cond c (take far out ++ (blockBytes front z i k ++ drop (far + commandLength front z) out)) out
-              ≡ (oneEach front z (picks t z i 0 k) ++ cond c (blockBytes front z i k) []) ++ drop (far + cond c (commandLength front z) 0) rest
-          go true = lay-more out (oneEach front z (picks t z i 0 k)) rest far e (length-picked k h) (blockBytes front z i k) (commandLength front z)
-          go false =
-              let d : far + 0 ≡ far = omega arith in
-              rw (d, append-nil (oneEach front z (picks t z i 0 k))) e
+      -- a turn of the loop over the blocks: what is written so far grows by the block's command
+      pub block-next : (bs out list part : List ℕ) (j : ℕ) → j < length bs → ((k : ℕ) → k < length bs → z * byte bs k + z ≤ length i)
+          → commandLength front z * (j + 1) ≤ length out
+          → out ≡ blocksBytes front z i (take j bs) ++ drop (commandLength front z * j) list
+          → part ≡ blockBytes front z i (byte bs j) ++ drop (commandLength front z) (take (length out - commandLength front z * j) (drop (commandLength front z * j) out))
+          → putMid (commandLength front z * j) (length out - commandLength front z * j) out part
+          ≡ blocksBytes front z i (take (j + 1) bs) ++ drop (commandLength front z * (j + 1)) list
+      block-next bs out list part j l h room e q =
+          let step = commandLength front z in
+          let next : step * j + step ≡ step * (j + 1) = omega arith in
+          let few : length (take j bs) ≡ j = length-take-le j bs (omega arith) in
+          let long : length (blocksBytes front z i (take j bs)) ≡ step * j
+          = length-blocks (take j bs) (λ k u. rw (getD-take j bs k 0 (omega (arith, few))) (h k (omega (arith, few)))) ∙ ap (λ n. step * n) few in
+          lay-part out (blocksBytes front z i (take j bs)) list (step * j) e long (blockBytes front z i (byte bs j)) part (length out) step (omega arith) (omega arith) q
+          ∙ rw (next, blocks-more bs j l)

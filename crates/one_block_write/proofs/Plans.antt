@@ -1,106 +1,102 @@
--- A plan whose commands store one block each: the list made from the new image and the marks is the plan's, for every type whose
--- command is the front, the block's number and the block's bytes. A type has to show this of whole blocks only.
+-- A plan whose commands store one block each: the list made from the two images is the plan's, for every type whose command is the
+-- front, the block's number and the block's bytes. A type has to show this of whole blocks only.
 -- Assumes nothing.
 use mathlib.Core.Path.{_≡_, refl, sym, ap, _∙_}
 use mathlib.Core.Bool.{Bool, true, false, cond}
 use mathlib.Core.List.{List, [], _∷_, _++_, map}
-use Prim.Native.Nat.{ℕ, _+_, _-_, _*_, _/_, _<_, _≤_}
+use Prim.Native.Nat.{ℕ, suc, _+_, _-_, _*_, _/_, _<_, _≤_}
 use native.Mathlib.Omega.{arith}
-use lib.Dec.{eqb}
-use lib.ListN.{length, take, drop}
+use lib.ListN.{length, take, drop, length-map}
 use Rattle.tag.specs.Bytes.{byte}
 use Rattle.tag.specs.Stores.{Store}
-use Rattle.tag.specs.Plan.{Plan, newImage, blockOf, between, picks, chunk, chunks, middle, list}
+use Rattle.tag.specs.Plan.{Plan, newImage, blockOf, betweenBy, between, picks, chunk, chunks, lastStore, middle, list, counted, differing}
 use Rattle.tag.specs.TagType.{TagType, written, joined, listBytes, fitted, writeBy}
-use Rattle.tag.proofs.Each.{Each, each-of}
 use Rattle.tag.proofs.Images.{length-overlay}
 use Rattle.tag.proofs.Blocks.{Blockwise, block-length}
-use Rattle.tag.proofs.Sending.{Named, picks-named}
-use Rattle.tag.proofs.Picks.{picks-same}
+use Rattle.tag.proofs.Picks.{length-picked, picked-in, picks-picked}
 use Rattle.tag.proofs.Chunks.{joined-append}
-use Rattle.tag.proofs.Counts.{length-list, counted-same}
-use Rattle.one_block_write.specs.Views.Listing.{commandBytes, blockBytes, storeBytes, oneEach, marked, markedCount, markedBytes, guardedBytes, guardedOutput}
+use Rattle.tag.proofs.Counts.{length-list}
+use Rattle.one_block_write.specs.Views.Listing.{commandBytes, blockBytes, blocksBytes, storeBytes, chosen, guardedBytes, guardedOutput}
 use Rattle.one_block_write.proofs.Laying.{block-inside, block-one}
 
-module _ (T : TagType) (front : List ℕ) (p : Plan) (i new marks shut : List ℕ)
+module _ (T : TagType) (front : List ℕ) (p : Plan) (i new shut : List ℕ)
     (each : (s : Store) → length (s .bytes) ≡ p .block-size → (T .encoded) (s ∷ []) ≡ storeBytes front (p .block-size) s)
     (w : Blockwise p i)
     (one : p .width ≡ 1)
     (new-is : new ≡ newImage p i)
-    (as-long : length new ≡ length i)
-    (marks-are : (b : ℕ) → b < length i / p .block-size → byte marks b ≡ cond (between p b) 1 0)
     (shut-is : shut ≡ take (p .block-size) (drop (p .block-size * p .guard) (p .closed))) where
-  -- the marked blocks are those between
-  agree : (b : ℕ) → b < length i / p .block-size → between p b ≡ marked marks b
-  agree b l = rw (marks-are b l) (go (between p b))
-    where
-      go : (c : Bool) → c ≡ eqb (cond c 1 0) 1
-      go true = refl
-      go false = refl
+  abbrev z : ℕ
+  z = p .block-size
 
-  -- a command for each store
-  chunk-one : (ss : List Store) → Each (λ s. length (s .bytes) ≡ p .block-size) ss
-      → joined (map (T .encoded) (chunk 1 (length ss) ss)) ≡ oneEach front (p .block-size) ss
-  unfolding oneEach
+  as-long : length new ≡ length i
+  as-long = ap length new-is ∙ length-overlay (p .addresses) (p .values) i
+
+  -- the blocks between
+  abbrev bs : List ℕ
+  bs = chosen (p .block-size) i new (p .guard)
+
+  block-is : (j : List ℕ) (b : ℕ) → z * b + z ≤ length j → (T .encoded) (blockOf z j b ∷ []) ≡ blockBytes front z j b
+  block-is j b h = each (blockOf z j b) (block-length z j b h) ∙ block-one front z (w .some-size) j b
+
+  guard-is : (j : List ℕ) → length j ≡ length i → (T .encoded) (blockOf z j (p .guard) ∷ []) ≡ blockBytes front z j (p .guard)
+  guard-is j l = block-is j (p .guard) (block-inside z (p .guard) (length i / z) (length j) (w .inside) (omega (arith, w .whole)))
+
+  -- a command for each block
+  chunk-one : (cs : List ℕ) → ((j : ℕ) → j < length cs → z * byte cs j + z ≤ length new)
+      → joined (map (T .encoded) (chunk 1 (length cs) (map (blockOf z new) cs))) ≡ blocksBytes front z new cs
+  unfolding blocksBytes
   chunk-one [] h = refl
-  chunk-one (s ∷ ss) h =
-      ap (λ bytes. bytes ++ joined (map (T .encoded) (chunk 1 (length ss) ss))) (each s (h .0))
-      ∙ ap (λ bytes. storeBytes front (p .block-size) s ++ bytes) (chunk-one ss (h .1))
+  chunk-one (b ∷ cs) h =
+      ap (λ bytes. bytes ++ joined (map (T .encoded) (chunk 1 (length cs) (map (blockOf z new) cs)))) (block-is new b (h 0 (omega arith)))
+      ∙ ap (λ bytes. blockBytes front z new b ++ bytes) (chunk-one cs (λ j l. h (suc j) (omega arith)))
 
-  chunks-one : (ss : List Store) → Each (λ s. length (s .bytes) ≡ p .block-size) ss
-      → joined (map (T .encoded) (chunks 1 ss)) ≡ oneEach front (p .block-size) ss
-  chunks-one ss h =
-      let e : (length ss + (1 - 1)) / 1 ≡ length ss = omega arith in
-      ap (λ c. joined (map (T .encoded) (chunk 1 c ss))) e ∙ chunk-one ss h
+  bs-inside : (j : ℕ) → j < length bs → z * byte bs j + z ≤ length new
+  bs-inside j l =
+      block-inside z (byte bs j) (length new / z) (length new)
+      (omega (arith, picked-in (betweenBy z (p .guard) i new) (length new / z) 0 j l .1))
+      (omega (arith, as-long, w .whole, ap (λ n. z * (n / z)) as-long))
 
-  block-is : (j : List ℕ) → length j ≡ length i
-      → (T .encoded) (blockOf (p .block-size) j (p .guard) ∷ []) ≡ blockBytes front (p .block-size) j (p .guard)
-  block-is j l =
-      let h : p .block-size * p .guard + p .block-size ≤ length j
-      = block-inside (p .block-size) (p .guard) (length i / p .block-size) (length j) (w .inside) (omega (arith, w .whole)) in
-      each (blockOf (p .block-size) j (p .guard)) (block-length (p .block-size) j (p .guard) h)
-      ∙ block-one front (p .block-size) (w .some-size) j (p .guard)
-
-  -- the blocks between are whole
-  picks-whole : Each (λ s. length (s .bytes) ≡ p .block-size) (picks (between p) (p .block-size) (newImage p i) 0 (length i / p .block-size))
-  picks-whole =
-      let Q : ℕ → Type 0 = λ b. Unit {0} in
-      each-of (Named (p .block-size) Q) (λ s. length (s .bytes) ≡ p .block-size)
-      (picks (between p) (p .block-size) (newImage p i) 0 (length i / p .block-size)) (λ s h. h .whole .full)
-      (picks-named (p .block-size) (newImage p i) Q (between p) (length i / p .block-size) 0 (length i / p .block-size) (omega arith)
-      (omega (arith, w .whole, length-overlay (p .addresses) (p .values) i)) (λ c l e. tt))
-
-  count-is : 2 + markedCount marks (length new / p .block-size) ≡ length (list p i)
-  count-is =
-      let e : counted-of (length new) ≡ counted-of (length i) = ap counted-of as-long in
-      sym (length-list p i ∙ rw one (omega (arith, e, counted-same (between p) (marked marks) (length i / p .block-size) agree)))
-    where
-      counted-of : ℕ → ℕ
-      counted-of n = markedCount marks (n / p .block-size)
-
-  middle-is : joined (map (T .encoded) (middle p i)) ≡ markedBytes front (p .block-size) new marks (length new / p .block-size)
+  middle-is : joined (map (T .encoded) (middle p i)) ≡ blocksBytes front z new bs
   middle-is =
-      let made = newImage p i in
-      ap (λ w. joined (map (T .encoded) (chunks w (picks (between p) (p .block-size) made 0 (length i / p .block-size))))) one
-      ∙ chunks-one (picks (between p) (p .block-size) made 0 (length i / p .block-size)) picks-whole
-      ∙ ap (oneEach front (p .block-size)) (picks-same (between p) (marked marks) (p .block-size) made (length i / p .block-size) agree)
-      ∙ ap (λ j. markedBytes front (p .block-size) j marks (length i / p .block-size)) (sym new-is)
-      ∙ ap (λ n. markedBytes front (p .block-size) new marks (n / p .block-size)) (sym as-long)
+      let n = length i / z in
+      let stores = map (blockOf z new) bs in
+      let many : (length stores + (1 - 1)) / 1 ≡ length bs = omega (arith, length-map bs (blockOf z new)) in
+      ap (λ v. joined (map (T .encoded) (chunks v (picks (between p i) z (newImage p i) 0 n)))) one
+      ∙ ap (λ j. joined (map (T .encoded) (chunks 1 (picks (betweenBy z (p .guard) i j) z j 0 n)))) (sym new-is)
+      ∙ ap (λ k. joined (map (T .encoded) (chunks 1 (picks (betweenBy z (p .guard) i new) z new 0 (k / z))))) (sym as-long)
+      ∙ ap (λ ss. joined (map (T .encoded) (chunks 1 ss))) (picks-picked (betweenBy z (p .guard) i new) z new (length new / z) 0)
+      ∙ ap (λ c. joined (map (T .encoded) (chunk 1 c stores))) many
+      ∙ chunk-one bs bs-inside
 
-  bytes-are : listBytes T p i ≡ guardedBytes front (p .block-size) new marks (p .guard) shut
-  bytes-are =
-      let mid = markedBytes front (p .block-size) new marks (length new / p .block-size) in
-      let last : List Store = blockOf (p .block-size) (newImage p i) (p .guard) ∷ [] in
-      let opened : (T .encoded) last ≡ blockBytes front (p .block-size) new (p .guard)
-      = block-is (newImage p i) (length-overlay (p .addresses) (p .values) i) ∙ ap (λ j. blockBytes front (p .block-size) j (p .guard)) (sym new-is) in
-      let rest : joined (map (T .encoded) (middle p i ++ last ∷ [])) ≡ mid ++ blockBytes front (p .block-size) new (p .guard)
-      = joined-append (T .encoded) (middle p i) last
-      ∙ ap (λ bytes. bytes ++ (T .encoded) last) middle-is
-      ∙ ap (λ bytes. mid ++ bytes) opened in
-      ap (λ bytes. bytes ++ joined (map (T .encoded) (middle p i ++ last ∷ []))) (block-is (p .closed) (w .closed-length) ∙ ap (commandBytes front (p .guard)) (sym shut-is))
-      ∙ ap (λ bytes. commandBytes front (p .guard) shut ++ bytes) rest
+  count-is : cond (p .is-shut) 0 1 + length bs + 1 ≡ length (list p i)
+  count-is =
+      let e : length bs ≡ differing p i
+      = length-picked (betweenBy z (p .guard) i new) 0 (length new / z)
+      ∙ ap (λ n. counted (betweenBy z (p .guard) i new) 0 (n / z)) as-long
+      ∙ ap (λ j. counted (betweenBy z (p .guard) i j) 0 (length i / z)) new-is in
+      sym (length-list p i ∙ rw one (omega (arith, e)))
+
+  bytes-are : listBytes T p i ≡ guardedBytes front z new bs (p .guard) shut (p .is-shut)
+  bytes-are = go (p .is-shut) refl
+    where
+      opened : (T .encoded) (lastStore p i ∷ []) ≡ blockBytes front z new (p .guard)
+      opened = guard-is (newImage p i) (length-overlay (p .addresses) (p .values) i) ∙ ap (λ j. blockBytes front z j (p .guard)) (sym new-is)
+
+      rest : joined (map (T .encoded) (middle p i ++ (lastStore p i ∷ []) ∷ [])) ≡ blocksBytes front z new bs ++ blockBytes front z new (p .guard)
+      rest =
+          joined-append (T .encoded) (middle p i) (lastStore p i ∷ [])
+          ∙ ap (λ bytes. bytes ++ (T .encoded) (lastStore p i ∷ [])) middle-is
+          ∙ ap (λ bytes. blocksBytes front z new bs ++ bytes) opened
+
+      go : (c : Bool) → p .is-shut ≡ c → listBytes T p i ≡ guardedBytes front z new bs (p .guard) shut (p .is-shut)
+      go true q = rw q rest
+      go false q =
+          rw q
+          (ap (λ bytes. bytes ++ joined (map (T .encoded) (middle p i ++ (lastStore p i ∷ []) ∷ [])))
+          (guard-is (p .closed) (w .closed-length) ∙ ap (commandBytes front (p .guard)) (sym shut-is))
+          ∙ ap (λ bytes. commandBytes front (p .guard) shut ++ bytes) rest)
 
   -- what is written is the plan's list
-  pub plan-output : (room : ℕ) → guardedOutput room front (p .block-size) new marks (p .guard) shut ≡ writeBy T room i (written p)
+  pub plan-output : (room : ℕ) → guardedOutput room front z i new (p .guard) shut (p .is-shut) ≡ writeBy T room i (written p)
   plan-output room =
-      ap (λ n. fitted room n (guardedBytes front (p .block-size) new marks (p .guard) shut)) count-is ∙ ap (fitted room (length (list p i))) (sym bytes-are)
+      ap (λ n. fitted room n (guardedBytes front z new bs (p .guard) shut (p .is-shut))) count-is ∙ ap (fitted room (length (list p i))) (sym bytes-are)

@@ -1,2 +1,3 @@
 -- Views of the writer of lists.
+pub mod Between
 pub mod Listing

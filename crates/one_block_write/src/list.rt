@@ -1,19 +1,24 @@
-// The list of write commands: the guard block shut, then each marked block, rising, then the guard block with all its new bytes.
+// The list of write commands: the guard block shut, then the other blocks that change, rising, then the guard block with all its new
+// bytes.
 //
 // A type of tag passes in what is particular to it. A command is the bytes of `front`, the block's number, and the `size` bytes of
 // the block.
 
+use crate::between;
 use tag::Address;
 use tag::Block;
 use tag::CountAnswer;
+use tag::numbers;
 use tag::refusals;
 ghost use mathlib.Core.Path.{_≡_};
-ghost use mathlib.Core.Bool.{cond};
 ghost use mathlib.Core.List.{_++_};
 ghost use Prim.Native.Nat.{_+_, _*_, _<_, _≤_};
-ghost use lib.ListN.{length, take, drop};
+ghost use lib.ListN.{length, drop};
 ghost use Rattle.tag.specs.Contracts.{PutOut};
-ghost use Rattle.one_block_write.specs.Views.Listing.{commandLength, commandBytes, blockBytes, marked, markedCount, markedBytes, guardedOutput, Listed};
+ghost use Rattle.one_block_write.specs.Views.Listing.{commandLength, commandBytes, blockBytes, blocksBytes, shutCommand, shutLength, guardedOutput, BlocksAsked, Listed};
+
+// The most blocks that a list writes: a byte names each of them.
+const MOST_BLOCKS: usize = 256;
 
 // Writes a command of six bytes, with one before the block's number and four behind it.
 fn put_six(front: &[u8], block: Block, held: &[u8], out: &mut [u8])
@@ -52,82 +57,58 @@ fn put_block(front: &[u8], size: usize, image: &[u8], block: Block, out: &mut [u
     put_command(front, block, &image[at..at + size], out);
 }
 
-// How many of the first `blocks` blocks are marked. A mark is 1.
-fn count_marked(marks: &[u8], blocks: usize) -> usize
-    requires { ⌜ (blocks ≤ length (now marks)) × (blocks ≤ 256) ⌝ }
-    ensures { λ r. ⌜ (r ≡ markedCount (now (marks .entry)) blocks) × (r ≤ blocks) ⌝ }
+// Writes the commands of the blocks, in order, to the front of `out`, with the bytes that the image has there.
+fn put_blocks(front: &[u8], size: usize, image: &[u8], blocks: &[u8], out: &mut [u8])
+    requires { ⌜ BlocksAsked (now front) size (now image) (now blocks) × (commandLength (now front) size * length (now blocks) ≤ length (now out)) ⌝ }
+    ensures { λ _. ⌜ now (out .exit) ≡ blocksBytes (now (front .entry)) size (now (image .entry)) (now (blocks .entry)) ++ drop (commandLength (now (front .entry)) size * length (now (blocks .entry))) (now (out .entry)) ⌝ }
 {
-    let mut count = 0usize;
-    let mut b = 0usize;
-    while b < blocks {
-        if marks[b] == 1 {
-            count += 1;
-        }
-        b += 1;
-    }
-    count
-}
-
-// Writes the command of a block at `at` if the block is marked, and returns where the next command goes.
-fn put_if_marked(
-    front: &[u8],
-    size: usize,
-    image: &[u8],
-    marks: &[u8],
-    block: Block,
-    at: usize,
-    out: &mut [u8],
-) -> usize
-    requires { ⌜ (block .0 < 256) × (commandLength (now front) size ≤ 256) × (size * block .0 + size ≤ length (now image)) × (block .0 < length (now marks)) × (at + cond (marked (now marks) (block .0)) (commandLength (now front) size) 0 ≤ length (now out)) ⌝ }
-    ensures next { λ r. ⌜ r ≡ at + cond (marked (now (marks .entry)) (block .0)) (commandLength (now (front .entry)) size) 0 ⌝ }
-    ensures puts { λ _. ⌜ now (out .exit) ≡ cond (marked (now (marks .entry)) (block .0)) (take at (now (out .entry)) ++ (blockBytes (now (front .entry)) size (now (image .entry)) (block .0) ++ drop (at + commandLength (now (front .entry)) size) (now (out .entry)))) (now (out .entry)) ⌝ }
-{
-    let b = block.0;
-    if marks[b] != 1 {
-        return at;
-    }
-    put_block(front, size, image, block, &mut out[at..]);
     let step = front.len() + 1 + size;
-    at + step
-}
-
-// Writes the commands of the marked blocks among the first `blocks`, rising, to the front of `out`.
-fn put_marked(front: &[u8], size: usize, image: &[u8], marks: &[u8], blocks: usize, out: &mut [u8])
-    requires { ⌜ (blocks ≤ 256) × (commandLength (now front) size ≤ 256) × (size * blocks ≤ length (now image)) × (blocks ≤ length (now marks)) × (commandLength (now front) size * markedCount (now marks) blocks ≤ length (now out)) × (0 < size) ⌝ }
-    ensures { λ _. ⌜ now (out .exit) ≡ markedBytes (now (front .entry)) size (now (image .entry)) (now (marks .entry)) blocks ++ drop (commandLength (now (front .entry)) size * markedCount (now (marks .entry)) blocks) (now (out .entry)) ⌝ }
-{
-    let mut at = 0usize;
-    let mut b = 0usize;
-    while b < blocks {
-        at = put_if_marked(front, size, image, marks, Block(b), at, out);
-        b += 1;
+    let mut j = 0usize;
+    while j < blocks.len() {
+        let block = Block(numbers::wide(blocks[j]));
+        put_block(front, size, image, block, &mut out[step * j..]);
+        j += 1;
     }
 }
 
-// Writes the list to the front of `list`. The guard block is shut with the bytes of `shut`; all else is stored from the new image.
-// Refuses with 12 if the list is longer than its buffer.
+// Writes the command that shuts the guard block, unless that is shut already, and returns where the next command goes.
+fn put_shut(front: &[u8], guard: Block, shut: &[u8], already: bool, out: &mut [u8]) -> usize
+    requires { ⌜ (guard .0 < 256) × (commandLength (now front) (length (now shut)) ≤ 256) × (shutLength (now front) (length (now shut)) already ≤ length (now out)) ⌝ }
+    ensures next { λ r. ⌜ r ≡ shutLength (now (front .entry)) (length (now (shut .entry))) already ⌝ }
+    ensures puts { λ _. ⌜ now (out .exit) ≡ shutCommand (now (front .entry)) (guard .0) (now (shut .entry)) already ++ drop (shutLength (now (front .entry)) (length (now (shut .entry))) already) (now (out .entry)) ⌝ }
+{
+    if already {
+        return 0;
+    }
+    put_command(front, guard, shut, out);
+    front.len() + 1 + shut.len()
+}
+
+// Writes the list that turns `image` into `new` to the front of `list`. The guard block is shut with the bytes of `shut`, unless
+// it is shut `already`; all else is stored from the new image. Refuses with 12 if the list is longer than its buffer.
 pub fn put_list(
     front: &[u8],
     size: usize,
+    image: &[u8],
     new: &[u8],
-    marks: &[u8],
     guard: Block,
     shut: &[u8],
+    already: bool,
     list: &mut [u8],
 ) -> CountAnswer
-    requires { ⌜ Listed (now front) size (now new) (now marks) (guard .0) (now shut) ⌝ }
-    ensures { λ r. ⌜ PutOut (λ room. guardedOutput room (now (front .entry)) size (now (new .entry)) (now (marks .entry)) (guard .0) (now (shut .entry))) (now (list .entry)) r (now (list .exit)) ⌝ }
+    requires { ⌜ Listed (now front) size (now image) (now new) (guard .0) (now shut) ⌝ }
+    ensures { λ r. ⌜ PutOut (λ room. guardedOutput room (now (front .entry)) size (now (image .entry)) (now (new .entry)) (guard .0) (now (shut .entry)) already) (now (list .entry)) r (now (list .exit)) ⌝ }
 {
+    let mut blocks = [0u8; MOST_BLOCKS];
     let end = Address(new.len()).block(size);
-    let blocks = end.0;
-    let between = count_marked(marks, blocks);
-    let count = between + 2;
+    let between = between::blocks_to_write(size, image, new, guard, end.0, &mut blocks);
+    let count = numbers::one_unless(already) + between + 1;
     let step = front.len() + 1 + size;
     if list.len() < step * count {
         return CountAnswer::Refused(refusals::SHORT_BUFFER);
     }
-    put_command(front, guard, shut, list);
-    put_marked(front, size, new, marks, blocks, &mut list[step..]);
-    put_block(front, size, new, guard, &mut list[step * between + step..]);
+    let at = put_shut(front, guard, shut, already, list);
+    put_blocks(front, size, new, &blocks[..between], &mut list[at..]);
+    put_block(front, size, new, guard, &mut list[at + step * between..]);
     CountAnswer::Count(count)
 }

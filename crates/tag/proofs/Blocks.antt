@@ -61,11 +61,11 @@ module _ (z : ℕ) (n : List ℕ) where
   pub block-length : (b : ℕ) → z * b + z ≤ length n → length (blockOf z n b .bytes) ≡ z
   block-length b h = length-take-le z (drop (z * b) n) (rw length-drop (omega arith))
 
-  block-part : (b : ℕ) → z * b + z ≤ length n → PartOf n (blockOf z n b)
+  pub block-part : (b : ℕ) → z * b + z ≤ length n → PartOf n (blockOf z n b)
   block-part b h k l =
       getD-take z (drop (z * b) n) k 0 (omega (arith, block-length b h)) ∙ getD-drop (z * b) n k 0
 
-  block-in : (b a : ℕ) → z * b + z ≤ length n → In (blockOf z n b) a ↔ (inBlock z b a ≡ true)
+  pub block-in : (b a : ℕ) → z * b + z ≤ length n → In (blockOf z n b) a ↔ (inBlock z b a ≡ true)
   block-in b a h = (
     (λ i. in-block z b a .1 (i .0, omega (arith, i .1, block-length b h))),
     (λ e. let (lo, up) = in-block z b a .0 e in (lo, omega (arith, block-length b h))),

@@ -56,3 +56,27 @@ pub copied : (xs ys : List ℕ) → length ys ≡ length xs → take (length xs)
 copied xs ys e =
     let h : length ys ≤ length xs = omega arith in
     rw (take-length xs, drop-of-length-le ys h) (append-nil xs)
+
+-- ---- three parts
+
+-- the first laid at the front, the other two through parts of the buffer
+module _ (list first x y part : List ℕ) (a b c : ℕ) (begun : first ≡ x ++ drop a list) (as-long : length first ≡ length list)
+    (x-long : length x ≡ a) (y-long : length y ≡ b) (room : a + b + c ≤ length list)
+    (second : part ≡ y ++ drop b (take (length first - a) (drop a first))) where
+  abbrev two : List ℕ
+  two = putMid a (length first - a) first part
+
+  two-laid : two ≡ (x ++ y) ++ drop (a + b) list
+  two-laid = lay-part first x list a begun x-long y part (length first) b (omega arith) (omega arith) second
+
+  two-long : length two ≡ length list
+  two-long = ap length two-laid ∙ length-append (x ++ y) (drop (a + b) list) ∙ omega (arith, length-append x y, length-drop (a + b) list)
+
+  pub third-room : c ≤ length (take (length two - (a + b)) (drop (a + b) two))
+  third-room = rw (length-take, length-drop) (omega (arith, two-long))
+
+  pub three-laid : (z w : List ℕ) → w ≡ z ++ drop c (take (length two - (a + b)) (drop (a + b) two))
+      → putMid (a + b) (length two - (a + b)) two w ≡ (x ++ (y ++ z)) ++ drop (a + b + c) list
+  three-laid z w third =
+      lay-part two (x ++ y) list (a + b) two-laid (length-append x y ∙ omega arith) z w (length two) c (omega (arith, two-long)) (omega arith) third
+      ∙ ap (λ bytes. bytes ++ drop (a + b + c) list) (append-assoc x y z)

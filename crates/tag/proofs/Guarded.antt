@@ -29,7 +29,7 @@ In s a = (s .at ≤ a) × (a < s .at + length (s .bytes))
 abbrev pub PartOf : List ℕ → Store → Type 0
 PartOf n s = (k : ℕ) → k < length (s .bytes) → getD (s .bytes) k 0 ≡ byte n (s .at + k)
 
-put-cases : (n j : List ℕ) (s : Store) (a : ℕ) → PartOf n s → a < length j
+pub put-cases : (n j : List ℕ) (s : Store) (a : ℕ) → PartOf n s → a < length j
     → (In s a × (byte (put j s) a ≡ byte n a)) ⊎ ((In s a → ⊥) × (byte (put j s) a ≡ byte j a))
 put-cases n j s a p l = go (decLe (s .at) a) (decLt a (s .at + length (s .bytes)))
   where
@@ -200,6 +200,22 @@ module _ (t : Task) (g : Guard t) where
 
     ending-cut : cut (length (ending last mids)) j (ending last mids) ≡ g .new
     ending-cut = cut-runs mids j (stores (last ∷ []) ∷ []) ∙ last-new
+
+  -- the list without its first command, for a tag whose guard block is shut
+  module _ (last : Store) (mids : List (List Store)) (s : Tail last mids)
+      (is-shut : (a : ℕ) → a < length (t .start) → (g .block) a ≡ true → byte (t .start) a ≡ byte (g .closed) a) where
+    start-shut : Btw (t .start)
+    start-shut = (refl, λ a l. go a l ((g .block) a) refl)
+      where
+        go : (a : ℕ) → a < length (t .start) → (c : Bool) → (g .block) a ≡ c → Cell (g .block) (t .start) (g .closed) (g .new) (t .start) a
+        go a l true q = shut q (is-shut a l q)
+        go a l false q = old q refl
+
+    pub shut-accepts : judge t 0 (t .start) (ending last mids) ≡ accepted (1 + length mids)
+    shut-accepts = ending-accepts last mids s (t .start) start-shut (λ a l q. refl) 0 ∙ ap accepted (omega arith)
+
+    pub shut-last-cut : cut (length (ending last mids)) (t .start) (ending last mids) ≡ g .new
+    shut-last-cut = ending-cut last mids s (t .start) start-shut (λ a l q. refl)
 
   -- the whole list, with its first command
   pub record Shuts (first : Store) : Type 0 where

@@ -85,10 +85,13 @@ written-ready T i m p e = go ((T .reading) i) refl
               cc,
             )
 
-pub ready-reads : (T : TagType) (i m : List ℕ) → Ready T i m → held T i ≡ broken → ⊥
-ready-reads T i m r e = go (r .report .content) refl
+pub reads-held : (T : TagType) (i : List ℕ) (p : Report) → (T .reading) i ≡ reads p → held T i ≡ broken → ⊥
+reads-held T i p r e = go (p .content) refl
   where
-    go : (w : Content) → r .report .content ≡ w → ⊥
-    go message q = let e′ : holds (r .report .bytes) ≡ broken = rw (r .reads-as, q) at e in nope (cc)
-    go empty q = let e′ : nothing ≡ broken = rw (r .reads-as, q) at e in nope (cc)
-    go being-written q = let e′ : nothing ≡ broken = rw (r .reads-as, q) at e in nope (cc)
+    go : (w : Content) → p .content ≡ w → ⊥
+    go message q = let e′ : holds (p .bytes) ≡ broken = rw (r, q) at e in nope (cc)
+    go empty q = let e′ : nothing ≡ broken = rw (r, q) at e in nope (cc)
+    go being-written q = let e′ : nothing ≡ broken = rw (r, q) at e in nope (cc)
+
+pub ready-reads : (T : TagType) (i m : List ℕ) → Ready T i m → held T i ≡ broken → ⊥
+ready-reads T i m r = reads-held T i (r .report) (r .reads-as)

@@ -11,6 +11,7 @@ pub mod Judge
 pub mod Guarded
 pub mod Chunks
 pub mod Blocks
+pub mod There
 pub mod Writes
 pub mod Runs
 pub mod Sending

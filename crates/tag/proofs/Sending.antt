@@ -2,9 +2,9 @@
 -- and no more of them than a command may store. From this a type shows that its commands are well formed.
 -- Assumes nothing.
 use mathlib.Core.Path.{_≡_, refl}
-use mathlib.Core.Bool.{Bool, true, false, not, false≢true}
+use mathlib.Core.Bool.{Bool, true, false, not, cond, false≢true}
 use mathlib.Core.Logic.{⊎-elim}
-use mathlib.Core.List.{List, [], _∷_, map}
+use mathlib.Core.List.{List, [], _∷_, _++_, map}
 use Prim.Native.Nat.{ℕ, zero, suc, _+_, _-_, _*_, _/_, _<_, _≤_}
 use native.Mathlib.Nat.{mul-le-mul-left, mul-div-cancel-left}
 use native.Mathlib.Omega.{arith}
@@ -12,7 +12,7 @@ use borrow.Author.Tests.{eqb-false, not-true}
 use lib.Dec.{eqb}
 use lib.ListN.{length, take, drop, length-take, length-drop}
 use Rattle.tag.specs.Stores.{Store}
-use Rattle.tag.specs.Plan.{Plan, newImage, blockOf, inBlock, touches, between, picks, chunk, chunks, middle, list}
+use Rattle.tag.specs.Plan.{Plan, newImage, blockOf, inBlock, touches, isThere, between, picks, chunk, chunks, firstStore, lastStore, first, middle, list}
 use Rattle.tag.proofs.Logic.{and-l, and-r, or-cases}
 use Rattle.tag.proofs.Each.{Each, each-append, each-both}
 use Rattle.tag.proofs.Images.{length-overlay}
@@ -20,6 +20,7 @@ use Rattle.tag.proofs.Addresses.{Above, Rising, above-less, above-hi, a
 use Rattle.tag.proofs.Runs.{map-take, map-drop}
 use Rattle.tag.proofs.Chunks.{rounded-up}
 use Rattle.tag.proofs.Blocks.{Blockwise, chunk-each, block-length}
+use Rattle.tag.proofs.There.{touched-new}
 
 -- ---- whole blocks
 
@@ -133,23 +134,35 @@ module _ (p : Plan) (i : List ℕ) (w : Blockwise p i) (Q : ℕ → Type 0) (n :
         (omega arith, omega (arith, w .some-width), rw d (w .inside)),
       )
 
+  first-command : Each Good (first p)
+  first-command = go (p .is-shut)
+    where
+      go : (c : Bool) → Each Good (cond c [] ((firstStore p ∷ []) ∷ []))
+      go true = tt
+      go false = (guard-command (p .closed) (w .closed-length), tt)
+
+  -- a block between the guard block's two commands is none that is there, so it holds a byte to set
+  between-good : (b : ℕ) → b < length i / p .block-size → between p i b ≡ true → Q b
+  between-good b l e =
+      let changes = not (isThere (p .block-size) i (newImage p i) b) in
+      n .touched-good b l (eqb-false b (p .guard) (not-true (eqb b (p .guard)) (and-l (not (eqb b (p .guard))) changes e)))
+      (touched-new (p .block-size) (p .addresses) (p .values) i b (and-r (not (eqb b (p .guard))) changes e))
+
   -- each command of the list stores whole blocks that may be listed, rising, and from one up to as many as a command may store
   pub list-good : Each Good (list p i)
-  list-good = (
-    guard-command (p .closed) (w .closed-length),
-    each-append Good (middle p i) ((blockOf (p .block-size) (newImage p i) (p .guard) ∷ []) ∷ [])
-        (each-both (Each (Named (p .block-size) Q)) (Sized (p .block-size) (p .width) (length i / p .block-size)) (middle p i) named-blocks
-        (chunks-sized (p .block-size) (p .width) (length i / p .block-size) chosen (w .some-width)
-        (picks-rising (p .block-size) (w .some-size) (newImage p i) (between p) (length i / p .block-size) (length i / p .block-size) (omega arith))))
-        (guard-command (newImage p i) (length-overlay (p .addresses) (p .values) i), tt),
-  )
+  list-good =
+      each-append Good (first p) (middle p i ++ (lastStore p i ∷ []) ∷ []) first-command
+      (each-append Good (middle p i) ((lastStore p i ∷ []) ∷ [])
+      (each-both (Each (Named (p .block-size) Q)) (Sized (p .block-size) (p .width) (length i / p .block-size)) (middle p i) named-blocks
+      (chunks-sized (p .block-size) (p .width) (length i / p .block-size) chosen (w .some-width)
+      (picks-rising (p .block-size) (w .some-size) (newImage p i) (between p i) (length i / p .block-size) (length i / p .block-size) (omega arith))))
+      (guard-command (newImage p i) (length-overlay (p .addresses) (p .values) i), tt))
     where
       chosen : List Store
-      chosen = picks (between p) (p .block-size) (newImage p i) 0 (length i / p .block-size)
+      chosen = picks (between p i) (p .block-size) (newImage p i) 0 (length i / p .block-size)
 
       named-blocks : Each (Each (Named (p .block-size) Q)) (middle p i)
       named-blocks =
           chunk-each (Named (p .block-size) Q) (p .width) ((length chosen + (p .width - 1)) / p .width) chosen
-          (picks-named (p .block-size) (newImage p i) Q (between p) (length i / p .block-size) 0 (length i / p .block-size) (omega arith)
-          (omega (arith, w .whole, length-overlay (p .addresses) (p .values) i))
-          (λ b l e. n .touched-good b l (eqb-false b (p .guard) (not-true (eqb b (p .guard)) (and-l (not (eqb b (p .guard))) (touches (p .block-size) (p .addresses) (p .values) b) e))) (and-r (not (eqb b (p .guard))) (touches (p .block-size) (p .addresses) (p .values) b) e)))
+          (picks-named (p .block-size) (newImage p i) Q (between p i) (length i / p .block-size) 0 (length i / p .block-size) (omega arith)
+          (omega (arith, w .whole, length-overlay (p .addresses) (p .values) i)) between-good)

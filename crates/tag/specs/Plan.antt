@@ -1,13 +1,14 @@
 -- Which bytes writing a message sets, and the list of commands that sets them, for every type of tag. The list shuts a guard block
--- first, and while it is shut the tag holds no message. The list then writes every other block that holds a byte to set. It opens
--- the guard block last, with all its new bytes.
+-- first, and while it is shut the tag holds no message. The list then writes the other blocks. It opens the guard block last, with
+-- all its new bytes. What is there already is left out (02, E4): the first command if the guard block is shut, and every other block
+-- that holds its new bytes. The last command always stays.
 -- Assumes nothing.
 use mathlib.Core.Bool.{Bool, true, false, not, _&&_, _||_, cond}
 use mathlib.Core.List.{List, [], _∷_, _++_}
 use Prim.Native.Nat.{ℕ, zero, suc, _+_, _-_, _*_, _/_}
 use lib.Dec.{leb, ltb, eqb}
 use lib.ListN.{length, take, drop}
-use Rattle.tag.specs.Bytes.{overlay, isSet}
+use Rattle.tag.specs.Bytes.{overlay, isSet, same}
 use Rattle.tag.specs.Stores.{Store}
 
 pub record Plan : Type 0 where
@@ -20,6 +21,8 @@ pub record Plan : Type 0 where
   -- the guard block (the requirements' A for Type 2, block 0 for Type 3), and the image that it is shut with
   pub guard : ℕ
   pub closed : List ℕ
+  -- is the guard block shut already, in 02's words for the type
+  pub is-shut : Bool
 
 -- the tag with all bytes set
 abbrev pub newImage : Plan → List ℕ → List ℕ
@@ -43,11 +46,23 @@ touches z [] vs b = false
 touches z (x ∷ us) [] b = false
 touches z (x ∷ us) (v ∷ vs) b = inBlock z b x || touches z us vs b
 
--- is block b written between the guard block's two commands
-abbrev pub between : Plan → ℕ → Bool
-between p b = not (eqb b (p .guard)) && touches (p .block-size) (p .addresses) (p .values) b
+-- does block b of the tag i already hold its bytes of the image n
+abbrev pub isThere : ℕ → List ℕ → List ℕ → ℕ → Bool
+isThere z i n b = same (take z (drop (z * b) i)) (take z (drop (z * b) n))
 
--- those of the k blocks from b on that the test picks, rising, with their bytes from the image n
+-- is block b written between the guard block's two commands; one that holds no byte to set has all its new bytes
+abbrev pub betweenBy : ℕ → ℕ → List ℕ → List ℕ → ℕ → Bool
+betweenBy z g i n b = not (eqb b g) && not (isThere z i n b)
+
+abbrev pub between : Plan → List ℕ → ℕ → Bool
+between p i b = betweenBy (p .block-size) (p .guard) i (newImage p i) b
+
+-- the numbers of those of the k blocks from b on that the test picks, rising
+abbrev pub picked : (ℕ → Bool) → ℕ → ℕ → List ℕ
+picked t b zero = []
+picked t b (suc k) = cond (t b) (b ∷ picked t (suc b) k) (picked t (suc b) k)
+
+-- those blocks, with their bytes from the image n
 unfoldable pub picks : (ℕ → Bool) → ℕ → List ℕ → ℕ → ℕ → List Store
 picks t z n b zero = []
 picks t z n b (suc k) = elim (t b) [ true ↦ blockOf z n b ∷ picks t z n (suc b) k | false ↦ picks t z n (suc b) k ]
@@ -61,21 +76,36 @@ chunk w (suc c) ss = take w ss ∷ chunk w c (drop w ss)
 abbrev pub chunks : ℕ → List Store → List (List Store)
 chunks w ss = chunk w ((length ss + (w - 1)) / w) ss
 
--- the commands between the guard block's two
+-- what shuts the guard block, and what opens it
+abbrev pub firstStore : Plan → Store
+firstStore p = blockOf (p .block-size) (p .closed) (p .guard)
+
+abbrev pub lastStore : Plan → List ℕ → Store
+lastStore p i = blockOf (p .block-size) (newImage p i) (p .guard)
+
+-- the first command, unless the guard block is shut already
+abbrev pub first : Plan → List (List Store)
+first p = cond (p .is-shut) [] ((firstStore p ∷ []) ∷ [])
+
+-- the commands between the guard block's two: blocks are left out first, and what remains is dealt out to commands
 abbrev pub middle : Plan → List ℕ → List (List Store)
-middle p i = chunks (p .width) (picks (between p) (p .block-size) (newImage p i) 0 (length i / p .block-size))
+middle p i = chunks (p .width) (picks (between p i) (p .block-size) (newImage p i) 0 (length i / p .block-size))
 
 -- the list for the tag i
 abbrev pub list : Plan → List ℕ → List (List Store)
-list p i =
-    (blockOf (p .block-size) (p .closed) (p .guard) ∷ [])
-    ∷ (middle p i ++ (blockOf (p .block-size) (newImage p i) (p .guard) ∷ []) ∷ [])
+list p i = first p ++ (middle p i ++ (lastStore p i ∷ []) ∷ [])
+
+-- ---- how many commands that is (02, E4)
 
 -- how many of the k blocks from b on pass the test
 abbrev pub counted : (ℕ → Bool) → ℕ → ℕ → ℕ
 counted test b zero = 0
 counted test b (suc k) = cond (test b) 1 0 + counted test (suc b) k
 
--- how many blocks of the tag i hold a byte to set
-abbrev pub touched : Plan → List ℕ → ℕ
-touched p i = counted (touches (p .block-size) (p .addresses) (p .values)) 0 (length i / p .block-size)
+-- r: the blocks of the tag i other than the guard block whose new bytes differ
+abbrev pub differing : Plan → List ℕ → ℕ
+differing p i = counted (between p i) 0 (length i / p .block-size)
+
+-- 1 if the first command stays, r/w rounded up, and 1 for the last
+abbrev pub commandCount : Plan → List ℕ → ℕ
+commandCount p i = cond (p .is-shut) 0 1 + (differing p i + (p .width - 1)) / p .width + 1

@@ -4,6 +4,7 @@
 pub mod holding;
 pub mod kept;
 pub mod numbers;
+pub mod picking;
 pub mod refusals;
 pub mod slices;
 pub mod version;

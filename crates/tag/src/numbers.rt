@@ -1,7 +1,7 @@
 // Numbers from bytes, and small arithmetic.
 
 ghost use mathlib.Core.Path.{_≡_};
-ghost use mathlib.Core.Bool.{_||_};
+ghost use mathlib.Core.Bool.{_||_, cond};
 ghost use Prim.Native.Nat.{_+_, _*_, _<_, _≤_, min};
 ghost use lib.Dec.{eqb};
 ghost use lib.ListN.{length};
@@ -46,6 +46,13 @@ pub fn smaller(a: usize, b: usize) -> usize
     ensures { λ r. ⌜ r ≡ min a b ⌝ }
 {
     if a < b { a } else { b }
+}
+
+// 0 if the flag is set, else 1.
+pub fn one_unless(flag: bool) -> usize
+    ensures { λ r. ⌜ r ≡ cond flag 0 1 ⌝ }
+{
+    if flag { 0 } else { 1 }
 }
 
 // Is the byte one of these two values?

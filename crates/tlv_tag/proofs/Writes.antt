@@ -6,6 +6,7 @@ use mathlib.Core.List.{List, [], _∷_}
 use Prim.Native.Nat.{ℕ, _*_, _/_, _<_, _≤_}
 use native.Mathlib.Nat.{div-lt-iff-lt-mul}
 use native.Mathlib.Omega.{arith}
+use borrow.Author.Tests.{eqb-true}
 use lib.ListN.{length, length-set}
 use lib.Seq.{getD-set-same, getD-set-other}
 use Rattle.tag.specs.Bytes.{byte, overlay}
@@ -18,7 +19,7 @@ use Rattle.tag.proofs.Logic.{true-false}
 use Rattle.tag.proofs.Addresses.{above-unset}
 use Rattle.tag.proofs.Guarded.{Cell, shut, old, fresh, Between}
 use Rattle.tag.proofs.Blocks.{block-of}
-use Rattle.tag.proofs.Writes.{Sound}
+use Rattle.tag.proofs.Writes.{shutImage, shut-either, Sound}
 use Rattle.tag.proofs.Laws.{Near}
 use Rattle.tlv_tag.specs.Message.{TlvTag, locate, capacityIn, reportOf, reading}
 use Rattle.tlv_tag.specs.Update.{usable, tlvBytes, lengthAt, plan}
@@ -72,22 +73,29 @@ module _ (K : TlvTag) (laws : TlvLaws K) (command : List ℕ → List ℕ → Co
     front : (at .at < lengthAt (room K i)) × (lengthAt (room K i) < length i)
     front = tlv.front K laws i (room K i) at some
 
+    -- the tag with the guard block shut: the first length byte is 00h, and every other byte is as it was
+    shut-else : (x : ℕ) → (x ≡ lengthAt us → ⊥) → byte (shutImage (plan K i m) i) x ≡ byte i x
+    shut-else x n = shut-either (plan K i m) i (λ j. byte j x ≡ byte i x) (λ q. refl) (getD-set-other i (lengthAt us) x 0 0 n)
+
+    shut-first : byte (shutImage (plan K i m) i) (lengthAt us) ≡ 0
+    shut-first = shut-either (plan K i m) i (λ j. byte j (lengthAt us) ≡ 0) (eqb-true (byte i (lengthAt us)) 0) (getD-set-same i (lengthAt us) 0 0 (front .1))
+
     -- up to the type byte every tag in between is as it was
-    agrees : (j : List ℕ) → Between (inBlock (K .block-size) (plan K i m .guard)) i (plan K i m .closed) (overlay us (tlvBytes m) i) j
+    agrees : (j : List ℕ) → Between (inBlock (K .block-size) (plan K i m .guard)) i (shutImage (plan K i m) i) (overlay us (tlvBytes m) i) j
         → (x : ℕ) → x ≤ at .at → byte j x ≡ byte i x
     agrees j b x l = go (b .1 x (omega (arith, front)))
       where
-        go : Cell (inBlock (K .block-size) (plan K i m .guard)) i (plan K i m .closed) (overlay us (tlvBytes m) i) j x → byte j x ≡ byte i x
-        go (shut q e) = e ∙ getD-set-other i (lengthAt us) x 0 0 (omega (arith, front .0))
+        go : Cell (inBlock (K .block-size) (plan K i m .guard)) i (shutImage (plan K i m) i) (overlay us (tlvBytes m) i) j x → byte j x ≡ byte i x
+        go (shut q e) = e ∙ shut-else x (omega (arith, front .0))
         go (old q e) = e
         go (fresh q e) = e ∙ tlv.new-agrees K laws i m us (prepared i m r) x l
 
-    quiet : (j : List ℕ) → Between (inBlock (K .block-size) (plan K i m .guard)) i (plan K i m .closed) (overlay us (tlvBytes m) i) j
+    quiet : (j : List ℕ) → Between (inBlock (K .block-size) (plan K i m .guard)) i (shutImage (plan K i m) i) (overlay us (tlvBytes m) i) j
         → Rattle.tag.specs.TagType.held T j ≡ nothing
     quiet j b = tlv.first-quiet K laws i us at j (b .0) (agrees j b) some (go (b .1 (lengthAt us) (front .1)))
       where
-        go : Cell (inBlock (K .block-size) (plan K i m .guard)) i (plan K i m .closed) (overlay us (tlvBytes m) i) j (lengthAt us) → byte j (lengthAt us) ≡ 0
-        go (shut q e) = e ∙ getD-set-same i (lengthAt us) 0 0 (front .1)
+        go : Cell (inBlock (K .block-size) (plan K i m .guard)) i (shutImage (plan K i m) i) (overlay us (tlvBytes m) i) j (lengthAt us) → byte j (lengthAt us) ≡ 0
+        go (shut q e) = e ∙ shut-first
         go (old q e) = absurd (true-false (block-of (K .block-size) (lengthAt us) (laws .block-pos)) q)
         go (fresh q e) = absurd (true-false (block-of (K .block-size) (lengthAt us) (laws .block-pos)) q)
 

@@ -4,8 +4,9 @@ use mathlib.Core.Bool.{cond}
 use mathlib.Core.Logic.{_⊎_}
 use mathlib.Core.List.{List, [], _∷_, _++_}
 use Prim.Native.Nat.{ℕ, _+_, _/_, _%_, _≤_}
-use lib.Dec.{leb}
+use lib.Dec.{leb, eqb}
 use lib.ListN.{length, getD, set}
+use Rattle.tag.specs.Bytes.{byte}
 use Rattle.tag.specs.Plan.{Plan}
 use Rattle.tlv_tag.specs.Message.{TlvTag, Located, refuse, located, locate}
 
@@ -31,7 +32,7 @@ tlvBytes m = lengthField (length m) ++ (m ++ 0xFE ∷ [])
 abbrev pub lengthAt : List ℕ → ℕ
 lengthAt us = getD us 0 0
 
--- the guard block, 01's A, is the block of the first length byte; it is shut with that byte 00h
+-- the guard block, 01's A, is the block of the first length byte; it is shut with that byte 00h, and shut already if the byte is 00h
 abbrev pub planBy : ℕ → List ℕ → List ℕ → List ℕ → Plan
 planBy z us i m = record {
   addresses = us;
@@ -40,6 +41,7 @@ planBy z us i m = record {
   width = 1;
   guard = lengthAt us / z;
   closed = set i (lengthAt us) 0x00;
+  is-shut = eqb (byte i (lengthAt us)) 0x00;
 }
 
 abbrev pub plan : TlvTag → List ℕ → List ℕ → Plan

@@ -1,5 +1,5 @@
-// What a list is made from, on a tag that has a TLV area: the new image, a mark for each block, and the address of the first length
-// byte. So a writer needs no walk.
+// What a list is made from, on a tag that has a TLV area: the new image and the address of the first length byte. So a writer needs
+// no walk.
 
 use crate::space;
 use crate::space::Space;
@@ -14,7 +14,7 @@ ghost use Rattle.tlv.specs.Views.Walks.{ahead};
 ghost use Rattle.tlv_tag.specs.Views.Space.{spaceOf, Room};
 ghost use Rattle.tlv_tag.specs.Views.BlankArea.{BlankArea};
 ghost use Rattle.tlv_tag.specs.Views.Reading.{areaLocated};
-ghost use Rattle.tlv_tag.specs.Views.Update.{Spare, Prepared, PreparedIn, LeftAlone};
+ghost use Rattle.tlv_tag.specs.Views.Update.{Prepared, PreparedIn, LeftAlone};
 
 // A refusal; or the address of the first length byte.
 pub enum Preparation {
@@ -30,28 +30,14 @@ fn copy_image(image: &[u8], new: &mut [u8])
     bytes::copy(image, new);
 }
 
-// Prepares the list for the space found: makes the new image, marks the blocks of `size` bytes that the list writes between the
-// guard block's two commands, and returns the address of the first length byte. The block of that byte is the guard block.
-fn prepare_at(
-    w: Walk,
-    size: usize,
-    image: &[u8],
-    message: &[u8],
-    table: &[u16],
-    new: &mut [u8],
-    marks: &mut [u8],
-) -> Address
-    requires { ⌜ Room (now image) (now table) (length (now message)) w × Spare size (now image) (now new) (now marks) ⌝ }
-    ensures { λ r. ⌜ Prepared size (ahead (now (table .entry)) w) (now (image .entry)) (now (message .entry)) (now (new .exit)) (now (marks .exit)) (r .0) ⌝ }
+// Prepares the list for the space found: makes the new image, and returns the address of the first length byte.
+fn prepare_at(w: Walk, image: &[u8], message: &[u8], table: &[u16], new: &mut [u8]) -> Address
+    requires { ⌜ Room (now image) (now table) (length (now message)) w × (length (now new) ≡ length (now image)) ⌝ }
+    ensures { λ r. ⌜ Prepared (ahead (now (table .entry)) w) (now (image .entry)) (now (message .entry)) (now (new .exit)) (r .0) ⌝ }
 {
     copy_image(image, new);
     update::set_tlv_bytes(w, message, table, new);
-    update::mark_tlv_bytes(w, message.len(), size, table, marks);
-    let first = table::next_usable(table, w.at, w.end);
-    let guard = first.block(size);
-    let b = guard.0;
-    marks[b] = 0;
-    first
+    table::next_usable(table, w.at, w.end)
 }
 
 // Finds the space in the data area from `first` up to `end`, with refusals 6 to 11, and prepares the list for it.
@@ -61,20 +47,18 @@ pub fn prepare(
     first: Address,
     end: Address,
     writable: bool,
-    size: usize,
     table: &mut [u16],
     new: &mut [u8],
-    marks: &mut [u8],
 ) -> Preparation
-    requires { ⌜ BlankArea (now image) (now table) (first .0) (end .0) × Spare size (now image) (now new) (now marks) ⌝ }
-    ensures prepared { λ r. ⌜ PreparedIn size (spaceOf writable (length (now (message .entry))) (areaLocated (now (image .entry)) (first .0) (end .0))) (now (image .entry)) (now (message .entry)) (now (new .exit)) (now (marks .exit)) r ⌝ }
-    ensures refused { λ r. ⌜ LeftAlone (now (new .entry)) (now (marks .entry)) (now (new .exit)) (now (marks .exit)) r ⌝ }
+    requires { ⌜ BlankArea (now image) (now table) (first .0) (end .0) × (length (now new) ≡ length (now image)) ⌝ }
+    ensures prepared { λ r. ⌜ PreparedIn (spaceOf writable (length (now (message .entry))) (areaLocated (now (image .entry)) (first .0) (end .0))) (now (image .entry)) (now (message .entry)) (now (new .exit)) r ⌝ }
+    ensures refused { λ r. ⌜ LeftAlone (now (new .entry)) (now (new .exit)) r ⌝ }
     ensures table { λ _. ⌜ Declared (first .0) (end .0) (now (table .entry)) (now (table .exit)) ⌝ }
 {
     match space::find_space(image, message.len(), table, first, end, writable) {
         Space::Refused(r) => Preparation::Refused(r),
         Space::At(w) => {
-            let at = prepare_at(w, size, image, message, table, new, marks);
+            let at = prepare_at(w, image, message, table, new);
             Preparation::At(at)
         }
     }

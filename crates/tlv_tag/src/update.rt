@@ -4,11 +4,10 @@
 use tlv::walk::Walk;
 use tlv_value::value;
 ghost use mathlib.Core.Path.{_≡_};
-ghost use Prim.Native.Nat.{_*_, _<_, _≤_};
+ghost use Prim.Native.Nat.{_≤_};
 ghost use lib.ListN.{length, drop};
 ghost use Rattle.tag.specs.Bytes.{overlay};
-ghost use Rattle.tlv.specs.Views.Walks.{ahead, Placed, Within, Along};
-ghost use Rattle.tlv_value.specs.Views.Values.{BlocksMarked};
+ghost use Rattle.tlv.specs.Views.Walks.{ahead, Placed, Along};
 ghost use Rattle.tlv_tag.specs.Update.{lengthField, tlvBytes};
 ghost use Rattle.tlv_tag.specs.Views.Update.{tlvBytesLength};
 
@@ -47,12 +46,4 @@ pub(crate) fn tlv_bytes_length(n: usize) -> usize
         return n + 2;
     }
     n + 4
-}
-
-// Marks each block of `size` bytes that holds a byte to set for a message of `n` bytes.
-pub(crate) fn mark_tlv_bytes(w: Walk, n: usize, size: usize, table: &[u16], marks: &mut [u8])
-    requires { ⌜ Within (now table) w × (n ≤ 65534) × (0 < size) × (w .end .0 ≤ size * length (now marks)) ⌝ }
-    ensures { λ _. ⌜ BlocksMarked size (tlvBytesLength n) (ahead (now (table .entry)) w) (now (marks .entry)) (now (marks .exit)) ⌝ }
-{
-    value::mark_blocks(w, tlv_bytes_length(n), size, table, marks);
 }

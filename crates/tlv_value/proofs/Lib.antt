@@ -1,4 +1,3 @@
 -- Laws that the code needs. Nothing here states a rule.
 pub mod Overlays
-pub mod Touches
 pub mod Measured

@@ -1,2 +1,2 @@
-// The usable bytes of a TLV area from a walk's place on: counting, measuring, gathering and setting them, and marking their blocks.
+// The usable bytes of a TLV area from a walk's place on: counting, measuring, gathering and setting them.
 pub mod value;

@@ -1,4 +1,4 @@
-// The bytes at the usable addresses from a walk's place on: how many there are, reading and setting them, and marking their blocks.
+// The bytes at the usable addresses from a walk's place on: how many there are, reading and setting them.
 //
 // Every loop here is at a usable address or at the end, and each turn moves on to the next usable address.
 
@@ -8,12 +8,12 @@ use tlv::walk;
 use tlv::walk::Walk;
 ghost use mathlib.Core.Path.{_≡_};
 ghost use mathlib.Core.List.{map};
-ghost use Prim.Native.Nat.{_-_, _*_, _<_, _≤_};
+ghost use Prim.Native.Nat.{_-_, _<_, _≤_};
 ghost use lib.ListN.{length, take, drop};
 ghost use Rattle.tag.specs.Bytes.{byte, overlay, overwrite};
 ghost use Rattle.tlv.specs.Views.Table.{unskipped};
 ghost use Rattle.tlv.specs.Views.Walks.{ahead, Placed, Within, Along};
-ghost use Rattle.tlv_value.specs.Views.Values.{measured, valueAs, ValueRoom, BlocksMarked};
+ghost use Rattle.tlv_value.specs.Views.Values.{measured, valueAs, ValueRoom};
 
 // A value of a given length: `Short` if too few usable bytes are left, else the address of its first byte and whether it is
 // interrupted.
@@ -119,28 +119,5 @@ pub fn set_bytes(w: Walk, bytes: &[u8], table: &[u16], image: &mut [u8]) -> Walk
         at: Address(a),
         end,
         areas,
-    }
-}
-
-// Marks each block of `size` bytes that holds one of the next `k` usable bytes.
-pub fn mark_blocks(w: Walk, k: usize, size: usize, table: &[u16], marks: &mut [u8])
-    requires { ⌜ Within (now table) w × (0 < size) × (w .end .0 ≤ size * length (now marks)) ⌝ }
-    ensures { λ _. ⌜ BlocksMarked size k (ahead (now (table .entry)) w) (now (marks .entry)) (now (marks .exit)) ⌝ }
-{
-    let end = w.end;
-    let stop = end.0;
-    let first = table::next_usable(table, w.at, end);
-    let mut a = first.0;
-    let mut left = k;
-    while a < stop {
-        if left == 0 {
-            return;
-        }
-        let block = Address(a).block(size);
-        let b = block.0;
-        marks[b] = 1;
-        let next = table::next_usable(table, Address(a + 1), end);
-        a = next.0;
-        left -= 1;
     }
 }

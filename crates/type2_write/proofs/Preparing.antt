@@ -4,10 +4,12 @@
 use mathlib.Core.Path.{_≡_, refl, sym, ap, _∙_, subst}
 use mathlib.Core.Bool.{Bool}
 use mathlib.Core.List.{List}
-use Prim.Native.Nat.{ℕ, _*_, _/_, _≤_}
+use Prim.Native.Nat.{ℕ, _*_, _/_, _<_, _≤_}
 use native.Mathlib.Omega.{arith}
+use lib.Dec.{eqb}
 use lib.ListN.{length, length-set}
 use Rattle.tag.specs.declared.Address.{Address}
+use Rattle.tag.specs.Bytes.{byte}
 use Rattle.tag.specs.TagType.{refused-write, written, writing, writeBy}
 use Rattle.tag.proofs.Blocks.{Blockwise}
 use Rattle.tlv_tag.specs.declared.prepare.Preparation as code
@@ -15,8 +17,7 @@ use Rattle.tlv_tag.specs.declared.prepare.Preparation.the-variants as answer
 use Rattle.tlv_tag.specs.Update.{lengthAt, planBy}
 use Rattle.tlv_tag.specs.Views.Space.{space, spaceOf}
 use Rattle.tlv_tag.specs.Views.Reading.{areaLocated}
-use Rattle.tlv_tag.specs.Views.Update.{Spare, Prepared, PreparedIn}
-use Rattle.tag.specs.Views.Blank.{Blank}
+use Rattle.tlv_tag.specs.Views.Update.{Prepared, PreparedIn}
 use Rattle.type2.specs.Type2.{type2}
 use Rattle.type2.specs.Views.Container.{Inside}
 use Rattle.type2.proofs.Memory.{whole-blocks}
@@ -28,8 +29,7 @@ use Rattle.type2_write.proofs.Shutting.{length-shut}
 
 -- ---- the list
 
-module _ (us i m new marks : List ℕ) (first : ℕ) (p : Prepared 4 us i m new marks first) (as-long : length new ≡ length i)
-    (whole : length i ≡ 4 * (length i / 4)) (long : length i / 4 ≤ length marks) where
+module _ (us i m new : List ℕ) (first : ℕ) (p : Prepared us i m new first) (whole : length i ≡ 4 * (length i / 4)) where
   blockwise : Blockwise (planBy 4 us i m) i
   blockwise = record {
     some-size = omega arith;
@@ -40,48 +40,42 @@ module _ (us i m new marks : List ℕ) (first : ℕ) (p : Prepared 4 us i m new 
   }
 
   -- the list is the plan's
-  prepared-output : (room : ℕ) → guardedOutput room front 4 new marks (first / 4) (shutBytes i first) ≡ writeBy type2 room i (written (planBy 4 us i m))
+  prepared-output : (room : ℕ)
+      → guardedOutput room front 4 i new (first / 4) (shutBytes i first) (eqb (byte i first) 0x00) ≡ writeBy type2 room i (written (planBy 4 us i m))
   prepared-output room =
-      ap (λ f. guardedOutput room front 4 new marks (f / 4) (shutBytes i f)) (p .first-is)
-      ∙ plan-output type2 front (planBy 4 us i m) i new marks (shutBytes i (lengthAt us)) (λ s l. refl) blockwise refl (p .new-is) as-long (λ b l. p .marks-are b (omega arith)) refl room
+      ap (λ f. guardedOutput room front 4 i new (f / 4) (shutBytes i f) (eqb (byte i f) 0x00)) (p .first-is)
+      ∙ plan-output type2 front (planBy 4 us i m) i new (shutBytes i (lengthAt us)) (λ s l. refl) blockwise refl (p .new-is) refl room
 
 -- ---- by the answer
 
-module _ (i m : List ℕ) (end : ℕ) (w : Bool) (h : Inside i end w) where
-  pub spare : (new marks : List ℕ) → length new ≡ length i → Blank 256 marks → Spare 4 i new marks
-  spare new marks e u = record {
-    some-size = omega arith;
-    as-long = e;
-    each-marked = omega (arith, h .area .short, u .size);
-    zeros = u .zeros;
-  }
+-- the new image afterwards, and the answer
+module _ (i m : List ℕ) (end : ℕ) (w : Bool) (h : Inside i end w) (new : List ℕ) (r : code.Preparation)
+    (p : PreparedIn (spaceOf w (length m) (areaLocated i 16 end)) i m new r) where
+  pub refused : (k : ℕ) → r ≡ answer.Refused k → writing type2 i m ≡ refused-write k
+  refused k e = no-space-writing i m end w h k (subst (PreparedIn (spaceOf w (length m) (areaLocated i 16 end)) i m new) e p)
 
-  -- the new image and the marks afterwards, and the answer
-  module _ (new marks : List ℕ) (r : code.Preparation) (p : PreparedIn 4 (spaceOf w (length m) (areaLocated i 16 end)) i m new marks r) where
-    pub refused : (k : ℕ) → r ≡ answer.Refused k → writing type2 i m ≡ refused-write k
-    refused k e = no-space-writing i m end w h k (subst (PreparedIn 4 (spaceOf w (length m) (areaLocated i 16 end)) i m new marks) e p)
+  module _ (a : Address) (e : r ≡ answer.At a) (as-long : length new ≡ length i) where
+    there : (us : List ℕ) × (space us ≡ spaceOf w (length m) (areaLocated i 16 end)) × Prepared us i m new (a .0)
+    there = subst (PreparedIn (spaceOf w (length m) (areaLocated i 16 end)) i m new) e p
 
-    module _ (a : Address) (e : r ≡ answer.At a) (as-long : length new ≡ length i) (marks-long : length marks ≡ 256) where
-      there : (us : List ℕ) × (space us ≡ spaceOf w (length m) (areaLocated i 16 end)) × Prepared 4 us i m new marks (a .0)
-      there = subst (PreparedIn 4 (spaceOf w (length m) (areaLocated i 16 end)) i m new marks) e p
+    pub first-inside : (a .0 < length i) × (length i ≤ 1024)
+    first-inside = (there .2 .inside, h .area .short)
 
-      each-marked : length i / 4 ≤ length marks
-      each-marked = omega (arith, h .area .short)
+    pub listed : Listed front 4 i new (a .0 / 4) (shutBytes i (a .0))
+    listed =
+        let whole = whole-blocks i (h .sound) in
+        record {
+          some-size = omega arith;
+          short = omega arith;
+          as-long = as-long;
+          whole = omega (arith, whole);
+          few = omega (arith, h .area .short);
+          inside = omega (arith, whole, there .2 .inside);
+          shut-whole = length-shut i (a .0) (omega (arith, whole, there .2 .inside));
+        }
 
-      pub listed : Listed front 4 new marks (a .0 / 4) (shutBytes i (a .0))
-      listed =
-          let whole = whole-blocks i (h .sound) in
-          record {
-            some-size = omega arith;
-            short = omega arith;
-            whole = omega (arith, whole);
-            few = omega (arith, h .area .short);
-            each-marked = omega (arith, each-marked);
-            inside = omega (arith, whole, there .2 .inside);
-            shut-whole = length-shut i (a .0) (omega (arith, whole, there .2 .inside));
-          }
-
-      pub listed-output : (room : ℕ) → guardedOutput room front 4 new marks (a .0 / 4) (shutBytes i (a .0)) ≡ writeBy type2 room i (writing type2 i m)
-      listed-output room =
-          prepared-output (there .0) i m new marks (a .0) (there .2) as-long (omega (arith, whole-blocks i (h .sound))) each-marked room
-          ∙ ap (writeBy type2 room i) (sym (space-writing i m end w h (there .0) (there .1)))
+    pub listed-output : (room : ℕ)
+        → guardedOutput room front 4 i new (a .0 / 4) (shutBytes i (a .0)) (eqb (byte i (a .0)) 0x00) ≡ writeBy type2 room i (writing type2 i m)
+    listed-output room =
+        prepared-output (there .0) i m new (a .0) (there .2) (omega (arith, whole-blocks i (h .sound))) room
+        ∙ ap (writeBy type2 room i) (sym (space-writing i m end w h (there .0) (there .1)))

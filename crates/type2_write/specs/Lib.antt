@@ -1,2 +1,2 @@
--- The writer of Type 2 tags: what it writes, and what its functions pass to each other.
+-- The writer of Type 2 tags: what it writes.
 pub mod Views

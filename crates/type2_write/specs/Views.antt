@@ -1,3 +1,2 @@
--- Views of the writer of Type 2 tags: what it writes, and what its functions pass to each other.
+-- Views of the writer of Type 2 tags: what it writes.
 pub mod Listing
-pub mod Writing

@@ -6,7 +6,9 @@ use tag::CountAnswer;
 use type2::container;
 ghost use mathlib.Core.Path.{_≡_};
 ghost use Prim.Native.Nat.{_+_, _*_, _/_, _<_, _≤_};
+ghost use lib.Dec.{eqb};
 ghost use lib.ListN.{length};
+ghost use Rattle.tag.specs.Bytes.{byte};
 ghost use Rattle.tag.specs.Contracts.{PutOut};
 ghost use Rattle.one_block_write.specs.Views.Listing.{guardedOutput, Listed};
 ghost use Rattle.type2_write.specs.Views.Listing.{front, shutBytes};
@@ -25,20 +27,25 @@ fn shut_bytes(image: &[u8], first: Address) -> [u8; container::BLOCK_SIZE]
     shut
 }
 
-// Writes the list that turns `image` into `new`. The first length byte is at `first`, and every block but its own that holds a byte
-// to set is marked. Refuses with 12 if the list is longer than its buffer.
-pub(crate) fn put_list(
-    image: &[u8],
-    new: &[u8],
-    marks: &[u8],
-    first: Address,
-    list: &mut [u8],
-) -> CountAnswer
-    requires { ⌜ Listed front 4 (now new) (now marks) (first .0 / 4) (shutBytes (now image) (first .0)) × (length (now new) ≡ length (now image)) ⌝ }
-    ensures { λ r. ⌜ PutOut (λ room. guardedOutput room front 4 (now (new .entry)) (now (marks .entry)) (first .0 / 4) (shutBytes (now (image .entry)) (first .0))) (now (list .entry)) r (now (list .exit)) ⌝ }
+// Writes the list that turns `image` into `new`. The first length byte is at `first`; the guard block is shut if that byte is 00h.
+// Refuses with 12 if the list is longer than its buffer.
+pub(crate) fn put_list(image: &[u8], new: &[u8], first: Address, list: &mut [u8]) -> CountAnswer
+    requires { ⌜ Listed front 4 (now image) (now new) (first .0 / 4) (shutBytes (now image) (first .0)) × (first .0 < length (now image)) × (length (now image) ≤ 1024) ⌝ }
+    ensures { λ r. ⌜ PutOut (λ room. guardedOutput room front 4 (now (image .entry)) (now (new .entry)) (first .0 / 4) (shutBytes (now (image .entry)) (first .0)) (eqb (byte (now (image .entry)) (first .0)) 0x00)) (now (list .entry)) r (now (list .exit)) ⌝ }
 {
     let guard = first.block(container::BLOCK_SIZE);
     let shut = shut_bytes(image, first);
+    let at = first.0;
+    let is_shut = image[at] == 0x00;
     let code = [0xA2u8];
-    one_block_write::list::put_list(&code, container::BLOCK_SIZE, new, marks, guard, &shut, list)
+    one_block_write::list::put_list(
+        &code,
+        container::BLOCK_SIZE,
+        image,
+        new,
+        guard,
+        &shut,
+        is_shut,
+        list,
+    )
 }

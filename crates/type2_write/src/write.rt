@@ -10,9 +10,9 @@ use type2::container::DataArea;
 ghost use mathlib.Core.Path.{_≡_};
 ghost use lib.ListN.{length};
 ghost use Rattle.tag.specs.Contracts.{Wrote};
+ghost use Rattle.tag.specs.Views.Blank.{Blank};
 ghost use Rattle.type2.specs.Type2.{type2};
 ghost use Rattle.type2.specs.Views.Container.{Inside};
-ghost use Rattle.type2_write.specs.Views.Writing.{Work};
 
 // Refusals 6 to 12, or the list, for a tag whose data area ends at `end`.
 fn write_inside(
@@ -22,10 +22,9 @@ fn write_inside(
     writable: bool,
     table: &mut [u16],
     new: &mut [u8],
-    marks: &mut [u8],
     list: &mut [u8],
 ) -> CountAnswer
-    requires { ⌜ Inside (now image) (end .0) writable × Work (now table) (now marks) × (length (now new) ≡ length (now image)) ⌝ }
+    requires { ⌜ Inside (now image) (end .0) writable × Blank 1024 (now table) × (length (now new) ≡ length (now image)) ⌝ }
     ensures { λ r. ⌜ Wrote type2 (now (image .entry)) (now (message .entry)) (now (list .entry)) r (now (list .exit)) ⌝ }
 {
     match prepare::prepare(
@@ -34,27 +33,23 @@ fn write_inside(
         Address(container::FIRST),
         end,
         writable,
-        container::BLOCK_SIZE,
         table,
         new,
-        marks,
     ) {
         Preparation::Refused(r) => CountAnswer::Refused(r),
-        Preparation::At(first) => list::put_list(image, new, marks, first, list),
+        Preparation::At(first) => list::put_list(image, new, first, list),
     }
 }
 
-// Refusals 1 to 12, or the list. The work arrays are passed in: a skip table and block marks that are all 0, and room for the new
-// image.
+// Refusals 1 to 12, or the list. The work arrays are passed in: a skip table that is all 0, and room for the new image.
 fn write_on(
     image: &[u8],
     message: &[u8],
     table: &mut [u16],
     new: &mut [u8],
-    marks: &mut [u8],
     list: &mut [u8],
 ) -> CountAnswer
-    requires { ⌜ Work (now table) (now marks) × (length (now new) ≡ 1024) ⌝ }
+    requires { ⌜ Blank 1024 (now table) × (length (now new) ≡ 1024) ⌝ }
     ensures { λ r. ⌜ Wrote type2 (now (image .entry)) (now (message .entry)) (now (list .entry)) r (now (list .exit)) ⌝ }
 {
     let n = image.len();
@@ -67,7 +62,6 @@ fn write_on(
             writable,
             table,
             &mut new[..n],
-            marks,
             list,
         ),
     }
@@ -80,6 +74,5 @@ pub fn write(image: &[u8], message: &[u8], list: &mut [u8]) -> CountAnswer
 {
     let mut table = [0u16; container::LONGEST_IMAGE];
     let mut new = [0u8; container::LONGEST_IMAGE];
-    let mut marks = [0u8; container::MOST_BLOCKS];
-    write_on(image, message, &mut table, &mut new, &mut marks, list)
+    write_on(image, message, &mut table, &mut new, list)
 }

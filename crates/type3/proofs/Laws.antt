@@ -56,7 +56,7 @@ module _ (idm i m : List ℕ) (r : Ready (type3 idm) i m) where
       closed-length = closed-length i;
     };
     closed-kept = λ a l q. closed-kept i m a q;
-    quiet = λ j h. quiet i j _ (ready-room .passes) h;
+    quiet = λ j h. quiet i m j _ (ready-room .passes) h;
     new-reads = reads-new i m ready-room;
   }
 

@@ -4,7 +4,7 @@ pub mod Message
 pub mod Update
 pub mod Shown
 pub mod Laws
-pub mod Counts
+pub mod Between
 pub mod Reading
 pub mod Deciding
 pub mod Holding

@@ -6,7 +6,7 @@ use mathlib.Core.Bool.{Bool, true, false, not, _||_, cond}
 use mathlib.Core.List.{List}
 use Prim.Native.Nat.{ℕ, zero, suc, _+_, _*_, _/_, _≤_}
 use native.Mathlib.Omega.{arith}
-use borrow.Author.Tests.{leb-true, le-leb, eq-eqb}
+use borrow.Author.Tests.{leb-true, le-leb, eqb-true, eq-eqb}
 use lib.Dec.{leb, eqb}
 use lib.ListN.{length, take, drop, length-take}
 use Rattle.tag.specs.Bytes.{byte}
@@ -35,6 +35,9 @@ bounds i c =
 
 pub ln-fits : (i : List ℕ) → Passes i → attributeInformation i .ln ≤ 16 * nmaxbOf i
 ln-fits i c = leb-true (attributeInformation i .ln) (16 * nmaxbOf i) (c .1 .1 .1 .1 .1 .0)
+
+pub sum-right : (i : List ℕ) → Passes i → attributeInformation i .sum ≡ attributeInformation i .checksum
+sum-right i c = eqb-true (attributeInformation i .sum) (attributeInformation i .checksum) (c .1 .0)
 
 -- the bytes of block 0 that writing keeps
 abbrev pub steady : ℕ → Bool

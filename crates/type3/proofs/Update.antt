@@ -1,4 +1,4 @@
--- What a Type 3 tag holds while it is written and after, and why refusal 11 is exact. With block 0 closed the tag holds no message,
+-- What a Type 3 tag holds while it is written and after, and why refusal 11 is exact. With block 0 shut the tag holds no message,
 -- whatever its other blocks hold; the new image reads as the message. A message that does not fit is held by no image of equal
 -- length with the same bytes 0 to 8 and 10. One that fits is held by the new image, which is such an image.
 -- Assumes nothing.
@@ -20,10 +20,11 @@ use Rattle.tag.proofs.Addresses.{Above, above-unset, overlay-reads, above-run}
 use Rattle.tag.proofs.Runs.{length-run, take-run, map-run}
 use Rattle.tag.proofs.Blocks.{in-block}
 use Rattle.tag.proofs.Guarded.{Cell, shut, old, fresh, Between}
+use Rattle.tag.proofs.Writes.{shutImage, shut-either}
 use Rattle.type3.specs.AttributeInformation.{steadySum, nmaxbOf, capacity, attributeInformation}
 use Rattle.type3.specs.Message.{reading}
 use Rattle.type3.specs.Update.{blocksFor, addresses, lnSum, valuesBy, body, values, closedSum, closed, plan}
-use Rattle.type3.proofs.Message.{Passes, bounds, ln-fits, steady, Agrees, same-sum, same-nmaxb, checks-of, held-closed, held-open, held-fits}
+use Rattle.type3.proofs.Message.{Passes, bounds, sum-right, ln-fits, steady, Agrees, same-sum, same-nmaxb, checks-of, held-closed, held-open, held-fits}
 
 -- the bytes that writing keeps lie before byte 11, and byte 9 is none of them
 steady-is : (k : ℕ) → steady k ≡ true → (k ≤ 10) × (k ≡ 9 → ⊥)
@@ -47,17 +48,52 @@ closed-length i = length-overlay (9 ∷ 14 ∷ 15 ∷ []) (closedValues i) i
 pub closed-reads : (i : List ℕ) → 16 ≤ length i → map (byte (closed i)) (9 ∷ 14 ∷ 15 ∷ []) ≡ closedValues i
 closed-reads i l = overlay-reads 16 (closedValues i) [] (9 ∷ 14 ∷ 15 ∷ []) i 8 (omega arith) l (omega arith)
 
--- a tag with block 0 of the closed image is being written
-pub quiet : (i j n : List ℕ) → Passes i → Between (inBlock 16 0) i (closed i) n j → heldOf (reading j) ≡ nothing
-quiet i j n c b = held-closed j (checks-of i j (b .0) agrees c flag sum ln) e9
+-- a tag with block 0 shut: its steady bytes and Ln as they were, WriteFlag 0Fh, and the checksum of that
+record ShutFrom (i c : List ℕ) : Type 0 where
+  agrees : Agrees c i
+  b9 : byte c 9 ≡ 0x0F
+  b11 : byte c 11 ≡ byte i 11
+  b12 : byte c 12 ≡ byte i 12
+  b13 : byte c 13 ≡ byte i 13
+  checksum : 256 * byte c 14 + byte c 15 ≡ closedSum i
+
+closed-shut : (i : List ℕ) → 16 ≤ length i → ShutFrom i (closed i)
+closed-shut i l = record {
+  agrees = λ k e.
+      let (lt, n9) = steady-is k e in
+      closed-else i k (rw (ne-eqb 9 k (omega arith), ne-eqb 14 k (omega arith), ne-eqb 15 k (omega arith)));
+  b9 = cc (closed-reads i l);
+  b11 = closed-else i 11 refl;
+  b12 = closed-else i 12 refl;
+  b13 = closed-else i 13 refl;
+  checksum =
+      let e14 : byte (closed i) 14 ≡ closedSum i / 256 = cc (closed-reads i l) in
+      let e15 : byte (closed i) 15 ≡ closedSum i % 256 = cc (closed-reads i l) in
+      omega arith;
+}
+
+-- a tag that reads, with WriteFlag 0Fh, has block 0 shut
+busy-shut : (i : List ℕ) → Passes i → byte i 9 ≡ 0x0F → ShutFrom i i
+busy-shut i c e = record { agrees = λ k s. refl; b9 = e; b11 = refl; b12 = refl; b13 = refl; checksum = omega (arith, sum-right i c) }
+
+shut-from : (i m : List ℕ) → Passes i → ShutFrom i (shutImage (plan i m) i)
+shut-from i m c =
+    shut-either (plan i m) i (ShutFrom i) (λ q. busy-shut i c (eqb-true (byte i 9) 0x0F q)) (closed-shut i (omega (arith, bounds i c .reach)))
+
+-- a tag with block 0 shut is being written
+pub quiet : (i m j n : List ℕ) → Passes i → Between (inBlock 16 0) i (shutImage (plan i m) i) n j → heldOf (reading j) ≡ nothing
+quiet i m j n c b = held-closed j (checks-of i j (b .0) agrees c flag sum ln) e9
   where
     l : 16 ≤ length i
     l = omega (arith, bounds i c .reach)
 
-    at : (k : ℕ) → inBlock 16 0 k ≡ true → byte j k ≡ byte (closed i) k
+    shut-0 : ShutFrom i (shutImage (plan i m) i)
+    shut-0 = shut-from i m c
+
+    at : (k : ℕ) → inBlock 16 0 k ≡ true → byte j k ≡ byte (shutImage (plan i m) i) k
     at k e = go (b .1 k (omega (arith, l, in-block 16 0 k .0 e .1)))
       where
-        go : Cell (inBlock 16 0) i (closed i) n j k → byte j k ≡ byte (closed i) k
+        go : Cell (inBlock 16 0) i (shutImage (plan i m) i) n j k → byte j k ≡ byte (shutImage (plan i m) i) k
         go (shut p q) = q
         go (old p q) = absurd (true-false e p)
         go (fresh p q) = absurd (true-false e p)
@@ -65,32 +101,31 @@ quiet i j n c b = held-closed j (checks-of i j (b .0) agrees c flag sum ln) e9
     agrees : Agrees j i
     agrees k e =
         let (lt, n9) = steady-is k e in
-        at k (in-block 16 0 k .1 (omega arith, omega arith))
-        ∙ closed-else i k (rw (ne-eqb 9 k (omega arith), ne-eqb 14 k (omega arith), ne-eqb 15 k (omega arith)))
+        at k (in-block 16 0 k .1 (omega arith, omega arith)) ∙ shut-0 .agrees k e
 
     e9 : byte j 9 ≡ 0x0F
-    e9 = at 9 refl ∙ cc (closed-reads i l)
+    e9 = at 9 refl ∙ shut-0 .b9
 
     e11 : byte j 11 ≡ byte i 11
-    e11 = at 11 refl ∙ closed-else i 11 refl
+    e11 = at 11 refl ∙ shut-0 .b11
 
     e12 : byte j 12 ≡ byte i 12
-    e12 = at 12 refl ∙ closed-else i 12 refl
+    e12 = at 12 refl ∙ shut-0 .b12
 
     e13 : byte j 13 ≡ byte i 13
-    e13 = at 13 refl ∙ closed-else i 13 refl
+    e13 = at 13 refl ∙ shut-0 .b13
 
-    e14 : byte j 14 ≡ closedSum i / 256
-    e14 = at 14 refl ∙ cc (closed-reads i l)
+    e14 : byte j 14 ≡ byte (shutImage (plan i m) i) 14
+    e14 = at 14 refl
 
-    e15 : byte j 15 ≡ closedSum i % 256
-    e15 = at 15 refl ∙ cc (closed-reads i l)
+    e15 : byte j 15 ≡ byte (shutImage (plan i m) i) 15
+    e15 = at 15 refl
 
     flag : eqb (byte j 9) 0x00 || eqb (byte j 9) 0x0F ≡ true
     flag = rw e9
 
     sum : attributeInformation j .sum ≡ attributeInformation j .checksum
-    sum = rw (same-sum j i agrees, e9, e11, e12, e13, e14, e15) (omega arith)
+    sum = rw (same-sum j i agrees, e9, e11, e12, e13, e14, e15) (omega (arith, shut-0 .checksum))
 
     ln : attributeInformation j .ln ≤ 16 * nmaxbOf i
     ln = rw (e11, e12, e13) (ln-fits i c)

@@ -2,6 +2,7 @@
 -- Assumes nothing.
 use mathlib.Core.List.{List, [], _∷_, _++_}
 use Prim.Native.Nat.{ℕ, _+_, _-_, _*_, _/_, _%_, min}
+use lib.Dec.{eqb}
 use lib.ListN.{length, replicate}
 use Rattle.tag.specs.Bytes.{byte, run, overlay}
 use Rattle.tag.specs.Plan.{Plan}
@@ -41,7 +42,7 @@ closedSum i = steadySum i + 0x0F + byte i 11 + byte i 12 + byte i 13
 abbrev pub closed : List ℕ → List ℕ
 closed i = overlay (9 ∷ 14 ∷ 15 ∷ []) (0x0F ∷ closedSum i / 256 ∷ closedSum i % 256 ∷ []) i
 
--- the guard block is block 0
+-- the guard block is block 0; it is shut already if WriteFlag is 0Fh
 abbrev pub plan : List ℕ → List ℕ → Plan
 plan i m = record {
   addresses = addresses m;
@@ -50,4 +51,5 @@ plan i m = record {
   width = blocksPerCommand (byte i 2);
   guard = 0;
   closed = closed i;
+  is-shut = eqb (byte i 9) 0x0F;
 }

@@ -1,27 +1,31 @@
--- Our list for a Type 3 tag, as the code lays it: block 0 shut, the message's blocks w to a command, block 0 opened.
+-- Our list for a Type 3 tag, as the code lays it: block 0 shut, the message's blocks that change w to a command, block 0 opened.
 -- Assumes nothing.
 use mathlib.Core.Path.{_≡_, refl, sym, ap, _∙_}
-use mathlib.Core.List.{List, [], _∷_, _++_, map, append-nil, append-assoc}
+use mathlib.Core.Bool.{Bool, true, false, not, cond}
+use mathlib.Core.List.{List, [], _∷_, _++_, map, append-nil}
 use Prim.Native.Nat.{ℕ, zero, suc, _+_, _-_, _*_, _/_, _<_, _≤_, min}
 use native.Mathlib.Omega.{arith}
+use borrow.Author.Tests.{ne-eqb}
+use lib.Dec.{eqb}
 use lib.ListN.{length, take, drop, length-append, length-map}
-use Rattle.tag.specs.Bytes.{byte, run}
+use Rattle.tag.specs.Bytes.{byte, same}
 use Rattle.tag.specs.Stores.{Store}
-use Rattle.tag.specs.Plan.{newImage, blockOf, between, picks, chunk, chunks, middle}
+use Rattle.tag.specs.Plan.{newImage, blockOf, between, picks, chunk, chunks, firstStore, lastStore, middle, list, differing}
 use Rattle.tag.specs.TagType.{joined, listBytes}
-use Rattle.tag.proofs.Runs.{length-run, map-take, map-drop}
-use Rattle.tag.proofs.Picks.{picks-run}
+use Rattle.tag.proofs.Runs.{map-take, map-drop}
+use Rattle.tag.proofs.Picks.{length-picks, picked-like, picks-picked, picks-part}
 use Rattle.tag.proofs.Chunks.{chunk-more, joined-append}
+use Rattle.tag.proofs.Counts.{length-list}
 use Rattle.type3.specs.AttributeInformation.{attributeInformation}
 use Rattle.type3.specs.Update.{blocksFor, blocksPerCommand, closed, plan}
 use Rattle.type3.specs.Codec.{commandBytes, storedBytes, encoded}
 use Rattle.type3.specs.Type3.{type3}
 use Rattle.type3.proofs.Update.{HasRoom, inside}
-use Rattle.type3.proofs.Counts.{between-guard, between-on, between-past}
-use Rattle.type3_list.specs.Views.Blocks.{blocksBytes, Chosen}
-use Rattle.type3_list.specs.Views.Listing.{attributeInformationBlock, attributeCommand, messageCommand, messageCommands, listAs}
-use Rattle.type3_list.proofs.AttributeInformation.{length-attribute-command}
-use Rattle.type3_list.proofs.MessageBlocks.{part-chosen, all-chosen}
+use Rattle.type3.proofs.Between.{between-guard, between-past}
+use Rattle.type3_list.specs.Views.Blocks.{isChanged, changedBlocks, blocksBytes, Chosen}
+use Rattle.type3_list.specs.Views.Listing.{attributeInformationBlock, attributeCommand, messageCommand, messageCommands, shutCommand, listAs, listLength}
+use Rattle.type3_list.proofs.AttributeInformation.{length-attribute-command, length-shut}
+use Rattle.type3_list.proofs.MessageBlocks.{part-chosen, changed-chosen}
 use Rattle.type3_list.proofs.Dealing.{length-commands}
 use Rattle.type3_list.proofs.StoredBlocks.{closed-block, new-block, new-at}
 
@@ -61,22 +65,43 @@ module _ (idm i m : List ℕ) (r : HasRoom i m) where
       ∙ joined-append (encoded idm) (chunk w t (map new bs)) (take w (drop (w * t) (map new bs)))
       ∙ cc (chunk-bytes bs c w t, ap (encoded idm) part ∙ block-commands (take w (drop (w * t) bs)) (part-chosen w (w * t) c))
 
-  chosen-is : picks (between (plan i m)) 16 (newImage (plan i m) i) 0 (length i / 16) ≡ map new (run 1 (blocksFor (length m)))
+  -- the blocks between are the message's that change
+  chosen-is : picks (between (plan i m) i) 16 (newImage (plan i m) i) 0 (length i / 16) ≡ map new (changedBlocks i m)
   unfolding new
   chosen-is =
-      picks-run (between (plan i m)) 16 (newImage (plan i m) i) 1 (blocksFor (length m)) (length i / 16) (omega (arith, inside i m r))
-      (between-guard i m) (between-on i m) (λ b l u. between-past i m b l)
+      let k = blocksFor (length m) in
+      picks-part (between (plan i m) i) 16 (newImage (plan i m) i) 1 k (length i / 16) (omega (arith, inside i m r))
+      (between-guard i m) (λ b l u. between-past i m b l)
+      ∙ picks-picked (between (plan i m) i) 16 (newImage (plan i m) i) k 1
+      ∙ ap (map (blockOf 16 (newImage (plan i m) i))) (picked-like (between (plan i m) i) (isChanged i m) k 1 like)
+    where
+      like : (b : ℕ) → 1 ≤ b → b < 1 + blocksFor (length m) → between (plan i m) i b ≡ isChanged i m b
+      like b lo up =
+          rw (ne-eqb b 0 (λ e. omega arith)) (ap (λ x. not (same (take 16 (drop (16 * b) i)) x)) (new-at i m r b (omega arith) (omega arith)))
 
-  middle-bytes : (w t : ℕ) → w ≡ blocksPerCommand (byte i 2) → t ≡ (blocksFor (length m) + (w - 1)) / w → blocksFor (length m) ≤ 255
-      → joined (map (encoded idm) (middle (plan i m) i)) ≡ messageCommands idm m w (run 1 (blocksFor (length m))) t
+  many : length (map new (changedBlocks i m)) ≡ length (changedBlocks i m)
+  many = length-map (changedBlocks i m) new
+
+  pub list-count : (w t : ℕ) → w ≡ blocksPerCommand (byte i 2) → t ≡ (length (changedBlocks i m) + (w - 1)) / w
+      → length (list (plan i m) i) ≡ cond (eqb (byte i 9) 0x0F) 0 1 + t + 1
+  list-count w t e f =
+      let p = plan i m in
+      let differ : differing p i ≡ length (changedBlocks i m)
+      = sym (length-picks (between p i) 16 (newImage p i) 0 (length i / 16)) ∙ ap length chosen-is ∙ many in
+      length-list p i
+      ∙ ap (λ k. cond (eqb (byte i 9) 0x0F) 0 1 + (k + (blocksPerCommand (byte i 2) - 1)) / blocksPerCommand (byte i 2) + 1) differ
+      ∙ ap (λ v. cond (eqb (byte i 9) 0x0F) 0 1 + (length (changedBlocks i m) + (v - 1)) / v + 1) (sym e)
+      ∙ ap (λ c. cond (eqb (byte i 9) 0x0F) 0 1 + c + 1) (sym f)
+
+  middle-bytes : (w t : ℕ) → w ≡ blocksPerCommand (byte i 2) → t ≡ (length (changedBlocks i m) + (w - 1)) / w → blocksFor (length m) ≤ 255
+      → joined (map (encoded idm) (middle (plan i m) i)) ≡ messageCommands idm m w (changedBlocks i m) t
   middle-bytes w t e f few =
-      let bs = run 1 (blocksFor (length m)) in
-      let many : length (map new bs) ≡ blocksFor (length m) = length-map bs new ∙ length-run (blocksFor (length m)) 1 in
+      let bs = changedBlocks i m in
       ap (λ ss. joined (map (encoded idm) (chunks (blocksPerCommand (byte i 2)) ss))) chosen-is
       ∙ ap (λ v. joined (map (encoded idm) (chunks v (map new bs)))) (sym e)
       ∙ ap (λ k. joined (map (encoded idm) (chunk w ((k + (w - 1)) / w) (map new bs)))) many
       ∙ ap (λ c. joined (map (encoded idm) (chunk w c (map new bs)))) (sym f)
-      ∙ chunk-bytes bs (all-chosen m few) w t
+      ∙ chunk-bytes bs (changed-chosen i m few) w t
 
   -- ---- the whole list
 
@@ -84,33 +109,39 @@ module _ (idm i m : List ℕ) (r : HasRoom i m) where
   block-command j flag n e = ap (commandBytes idm (0 ∷ [])) (append-nil (take 16 j) ∙ e)
 
   -- its bytes; Ln comes back as it was because its two lower bytes are below 256
-  pub list-bytes : (w t : ℕ) → w ≡ blocksPerCommand (byte i 2) → t ≡ (blocksFor (length m) + (w - 1)) / w → blocksFor (length m) ≤ 255
+  pub list-bytes : (w t : ℕ) → w ≡ blocksPerCommand (byte i 2) → t ≡ (length (changedBlocks i m) + (w - 1)) / w → blocksFor (length m) ≤ 255
       → byte i 12 < 256 → byte i 13 < 256
-      → listBytes (type3 idm) (plan i m) i ≡ listAs idm i m (attributeInformation i .ln) w t (run 1 (blocksFor (length m)))
-  list-bytes w t e f few b12 b13 =
-      let bs = run 1 (blocksFor (length m)) in
-      let shut : encoded idm (blockOf 16 (closed i) 0 ∷ []) ≡ attributeCommand idm i 0x0F (attributeInformation i .ln)
-      = block-command (closed i) 0x0F (attributeInformation i .ln) (closed-block i (omega (arith, inside i m r)) b12 b13) in
-      let opened : encoded idm (blockOf 16 (newImage (plan i m) i) 0 ∷ []) ≡ attributeCommand idm i 0x00 (length m)
-      = block-command (newImage (plan i m) i) 0x00 (length m) (new-block i m r) in
-      let rest = joined-append (encoded idm) (middle (plan i m) i) (blockOf 16 (newImage (plan i m) i) 0 ∷ []) in
-      ap (λ x. encoded idm (blockOf 16 (closed i) 0 ∷ []) ++ x) rest
-      ∙ cc (shut, middle-bytes w t e f few, opened)
-      ∙ sym (append-assoc (attributeCommand idm i 0x0F (attributeInformation i .ln)) (messageCommands idm m w bs t) (attributeCommand idm i 0x00 (length m)))
+      → listBytes (type3 idm) (plan i m) i ≡ listAs idm i m (attributeInformation i .ln) (eqb (byte i 9) 0x0F) w t (changedBlocks i m)
+  list-bytes w t e f few b12 b13 = go (eqb (byte i 9) 0x0F) refl
+    where
+      shut : encoded idm (firstStore (plan i m) ∷ []) ≡ attributeCommand idm i 0x0F (attributeInformation i .ln)
+      shut = block-command (closed i) 0x0F (attributeInformation i .ln) (closed-block i (omega (arith, inside i m r)) b12 b13)
+
+      opened : encoded idm (lastStore (plan i m) i ∷ []) ≡ attributeCommand idm i 0x00 (length m)
+      opened = block-command (newImage (plan i m) i) 0x00 (length m) (new-block i m r)
+
+      rest : joined (map (encoded idm) (middle (plan i m) i ++ (lastStore (plan i m) i ∷ []) ∷ []))
+          ≡ messageCommands idm m w (changedBlocks i m) t ++ attributeCommand idm i 0x00 (length m)
+      rest = joined-append (encoded idm) (middle (plan i m) i) (lastStore (plan i m) i ∷ []) ∙ cc (middle-bytes w t e f few, opened)
+
+      go : (c : Bool) → eqb (byte i 9) 0x0F ≡ c
+          → listBytes (type3 idm) (plan i m) i ≡ listAs idm i m (attributeInformation i .ln) (eqb (byte i 9) 0x0F) w t (changedBlocks i m)
+      go true q = rw q rest
+      go false q = rw q (cc (shut, rest))
 
 -- the number of its bytes
-pub length-list-as : (idm i m : List ℕ) (ln w t : ℕ) (bs : List ℕ) → length idm ≡ 8 → length bs ≤ w * t
-    → length (listAs idm i m ln w t bs) ≡ 62 + 13 * t + 18 * length bs
-length-list-as idm i m ln w t bs eight enough =
-    let shut = attributeCommand idm i 0x0F ln in
+pub length-list-as : (idm i m : List ℕ) (ln : ℕ) (is-shut : Bool) (w t : ℕ) (bs : List ℕ) → length idm ≡ 8 → length bs ≤ w * t
+    → length (listAs idm i m ln is-shut w t bs) ≡ listLength is-shut t (length bs)
+length-list-as idm i m ln is-shut w t bs eight enough =
+    let shut = shutCommand idm i ln is-shut in
     let body = messageCommands idm m w bs t in
     let opened = attributeCommand idm i 0x00 (length m) in
     let most : min (w * t) (length bs) ≡ length bs = omega arith in
     omega (
       arith,
-      length-append (shut ++ body) opened,
-      length-append shut body,
-      length-attribute-command idm i 0x0F ln eight,
+      length-append shut (body ++ opened),
+      length-append body opened,
+      length-shut idm i ln is-shut eight,
       length-attribute-command idm i 0x00 (length m) eight,
       length-commands idm m w bs t eight,
       most,

@@ -1,19 +1,21 @@
--- The bytes of some of a message's blocks, as the code fills them; parts of a list of blocks; and which of them are whole.
+-- The bytes of some of a message's blocks, as the code fills them; parts of a list of blocks; which blocks change; and which are whole.
 -- Assumes nothing.
 use mathlib.Core.Path.{_≡_, refl, sym, ap, _∙_}
+use mathlib.Core.Bool.{not, cond}
 use mathlib.Core.List.{List, [], _∷_, _++_, append-nil, append-assoc}
-use Prim.Native.Nat.{ℕ, zero, suc, _+_, _-_, _*_, _<_, _≤_, min}
+use Prim.Native.Nat.{ℕ, _+_, _-_, _*_, _<_, _≤_, min}
 use native.Mathlib.Numerals.{add-one}
 use native.Mathlib.Omega.{arith}
-use native.Mathlib.Decide.{decLt}
+use native.Mathlib.Decide.{decLe, decLt}
 use lib.ListN.{length, take, drop, replicate, length-append, length-take, length-drop, length-replicate, replicate-append-replicate}
 use lib.Seq.{sets, sets-eq, length-take-le, take-all, take-suc, take-at, drop-at, take-append-le, take-append-add, drop-append-le, getD-take, getD-drop}
-use Rattle.tag.specs.Bytes.{byte, run}
+use Rattle.tag.specs.Bytes.{byte, same}
+use Rattle.tag.specs.Plan.{picked}
 use Rattle.tag.proofs.Filling.{lay-more}
-use Rattle.tag.proofs.Runs.{length-run}
+use Rattle.tag.proofs.Picks.{pick-turn, picked-in, picked-rises}
 use Rattle.tag.proofs.Storing.{sets-front}
 use Rattle.type3.specs.Update.{blocksFor, body}
-use Rattle.type3_list.specs.Views.Blocks.{filled, messageBlock, blocksBytes, Chosen, Whole}
+use Rattle.type3_list.specs.Views.Blocks.{filled, messageBlock, isChanged, changedBlocks, blocksBytes, Chosen, Whole}
 
 -- ---- one block
 
@@ -31,6 +33,14 @@ whole-part m a l =
     let enough : 16 ≤ length part = rw length-drop (omega arith) in
     let sixteen : length (take 16 part) ≡ 16 = length-take-le 16 part enough in
     sym (whole-filled (take 16 part) (omega arith)) ∙ take-all 16 (take 16 part) (omega arith) ∙ whole-filled part enough
+
+-- and so are those up to where the block or the message ends
+pub part-filled : (m : List ℕ) (start end : ℕ) → end ≡ min (start + 16) (length m) → filled (take (end - start) (drop start m)) ≡ filled (drop start m)
+part-filled m start end e = go (decLe (start + 16) (length m))
+  where
+    go : Dec (start + 16 ≤ length m) → filled (take (end - start) (drop start m)) ≡ filled (drop start m)
+    go (yes l) = let all : end - start ≡ 16 = omega arith in rw all (whole-part m start l)
+    go (no n) = ap filled (take-all (end - start) (drop start m) (rw length-drop (omega arith)))
 
 -- a part of at most sixteen bytes is stored over 00h
 pub short-filled : (part : List ℕ) → length part ≤ 16 → sets (replicate 16 0x00) 0 part ≡ filled part
@@ -117,22 +127,28 @@ part-chosen {m} {bs} n s c = record {
     at : (j : ℕ) → j < n → byte (take n (drop s bs)) j ≡ byte bs (s + j)
     at j l = getD-take n (drop s bs) j 0 l ∙ getD-drop s bs j 0
 
-run-at : (n s j : ℕ) → j < n → byte (run s n) j ≡ s + j
-run-at zero s j l = absurd (omega arith)
-run-at (suc n) s zero l = omega arith
-run-at (suc n) s (suc j) l = run-at n (suc s) j (omega arith) ∙ omega arith
-
--- all of the message's blocks
-pub all-chosen : (m : List ℕ) → blocksFor (length m) ≤ 255 → Chosen m (run 1 (blocksFor (length m)))
-all-chosen m l =
+-- those that change
+pub changed-chosen : (i m : List ℕ) → blocksFor (length m) ≤ 255 → Chosen m (changedBlocks i m)
+changed-chosen i m l =
     let k = blocksFor (length m) in
-    let long = length-run k 1 in
     record {
       few = l;
-      from-one = λ j h. omega (arith, run-at k 1 j (omega arith));
-      inside = λ j h. omega (arith, run-at k 1 j (omega arith));
-      rising = λ j h. omega (arith, run-at k 1 j (omega arith), run-at k 1 (j + 1) (omega arith));
+      from-one = λ j h. omega (arith, picked-in (isChanged i m) k 1 j h .0);
+      inside = λ j h. omega (arith, picked-in (isChanged i m) k 1 j h .1);
+      rising = picked-rises (isChanged i m) k 1;
     }
+
+-- one block more is compared, and picked if it changes: how many are picked then, and which
+pub changed-next : (i m part ps ps′ : List ℕ) (n r b j : ℕ) → b ≡ 1 + j → filled part ≡ messageBlock m b
+    → n ≤ j → take n ps ≡ picked (isChanged i m) 1 j
+    → r ≡ n + cond (not (same (take 16 (drop (16 * b) i)) (filled part))) 1 0
+    → take r ps′ ≡ take n ps ++ cond (not (same (take 16 (drop (16 * b) i)) (filled part))) (b ∷ []) []
+    → (r ≤ j + 1) × (take r ps′ ≡ picked (isChanged i m) 1 (j + 1))
+changed-next i m part ps ps′ n r b j next is few before many which =
+    let changes = not (same (take 16 (drop (16 * b) i)) (filled part)) in
+    pick-turn (isChanged i m) j 1 n r changes ps ps′
+    (ap (λ x. not (same (take 16 (drop (16 * b) i)) x)) is ∙ ap (isChanged i m) next) few many before
+    (which ∙ ap (λ a. take n ps ++ cond changes (a ∷ []) []) next)
 
 -- ---- whole blocks
 

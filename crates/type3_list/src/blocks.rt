@@ -12,8 +12,8 @@ ghost use lib.Seq.{sets};
 ghost use Rattle.type3_list.specs.Views.Blocks.{filled, blocksBytes, Chosen, Whole};
 
 // One block of the message, passed as a part that starts at the block's offset: sixteen bytes, 00h past the end. They go through an
-// array, so the compiler copies them with one load and one store.
-fn fill_block(part: &[u8]) -> [u8; read::BLOCK_SIZE]
+// array, so the compiler copies them with one load and one store. Blocks that are compared and blocks that are written are filled here.
+pub(crate) fn fill_block(part: &[u8]) -> [u8; read::BLOCK_SIZE]
     ensures { λ r. ⌜ r ≡ filled (now (part .entry)) ⌝ }
 {
     let mut block = [0u8; read::BLOCK_SIZE];

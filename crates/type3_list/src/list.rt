@@ -1,5 +1,5 @@
-// The list of write commands, laid straight into the caller's buffer. It shuts block 0, writes the blocks, as many to a command as
-// are allowed, and then writes block 0 with its new bytes.
+// The list of write commands, laid straight into the caller's buffer. It shuts block 0 unless that is shut, writes the blocks, as many
+// to a command as are allowed, and then writes block 0 with its new bytes.
 
 use crate::blocks;
 use tag::numbers;
@@ -12,7 +12,7 @@ ghost use Prim.Native.Nat.{_+_, _*_, _<_, _≤_};
 ghost use lib.ListN.{length, drop};
 ghost use Rattle.type3.specs.Codec.{blockListBytes, opening};
 ghost use Rattle.type3_list.specs.Views.Blocks.{Chosen};
-ghost use Rattle.type3_list.specs.Views.Listing.{attributeInformationBlock, attributeCommand, messageCommand, messageCommands, listAs, Dealt, Listing};
+ghost use Rattle.type3_list.specs.Views.Listing.{attributeInformationBlock, attributeCommand, messageCommand, messageCommands, shutCommand, shutLength, listAs, listLength, Dealt, Listing};
 
 // Where the command for block 0 has its data.
 const ATTRIBUTE_DATA: usize = commands::FRONT + block_list::ELEMENT;
@@ -123,31 +123,38 @@ fn put_commands(message: &[u8], idm: [u8; 8], w: usize, turns: usize, blocks: &[
 
 // ---- the list
 
-// Lays the list: block 0 with WriteFlag 0Fh and Ln as it was, the blocks, block 0 with WriteFlag 00h and the new Ln.
+// Lays the command that shuts block 0, unless that is shut already, and returns where the next command goes.
+fn put_shut(image: &[u8], idm: [u8; 8], ln: usize, already: bool, out: &mut [u8]) -> usize
+    requires { ⌜ (16 ≤ length (now image)) × (ln < 65536) × (shutLength already ≤ length (now out)) ⌝ }
+    ensures next { λ r. ⌜ r ≡ shutLength already ⌝ }
+    ensures puts { λ _. ⌜ now (out .exit) ≡ shutCommand idm (now (image .entry)) ln already ++ drop (shutLength already) (now (out .entry)) ⌝ }
+{
+    if already {
+        return 0;
+    }
+    put_attribute_command(image, idm, 0x0F, ln, out);
+    ATTRIBUTE_COMMAND
+}
+
+// Lays the list: block 0 with WriteFlag 0Fh and Ln as it was, unless it is shut `already`; the blocks; block 0 with
+// WriteFlag 00h and the new Ln.
 pub fn put_list(
     image: &[u8],
     message: &[u8],
     idm: [u8; 8],
     ln: usize,
+    already: bool,
     w: usize,
     turns: usize,
     blocks: &[u8],
     list: &mut [u8],
 )
-    requires { ⌜ Listing (now image) (now message) ln w turns (now blocks) (length (now list)) ⌝ }
-    ensures { λ _. ⌜ now (list .exit) ≡ listAs idm (now (image .entry)) (now (message .entry)) ln w turns (now (blocks .entry)) ++ drop (62 + 13 * turns + 18 * length (now (blocks .entry))) (now (list .entry)) ⌝ }
+    requires { ⌜ Listing (now image) (now message) ln already w turns (now blocks) (length (now list)) ⌝ }
+    ensures { λ _. ⌜ now (list .exit) ≡ listAs idm (now (image .entry)) (now (message .entry)) ln already w turns (now (blocks .entry)) ++ drop (listLength already turns (length (now (blocks .entry)))) (now (list .entry)) ⌝ }
 {
     let n = message.len();
-    let k = blocks.len();
-    let last = ATTRIBUTE_COMMAND + commands::FRONT * turns + commands::PER_BLOCK * k;
-    put_attribute_command(image, idm, 0x0F, ln, list);
-    put_commands(
-        message,
-        idm,
-        w,
-        turns,
-        blocks,
-        &mut list[ATTRIBUTE_COMMAND..],
-    );
-    put_attribute_command(image, idm, 0x00, n, &mut list[last..]);
+    let middle = commands::FRONT * turns + commands::PER_BLOCK * blocks.len();
+    let at = put_shut(image, idm, ln, already, list);
+    put_commands(message, idm, w, turns, blocks, &mut list[at..]);
+    put_attribute_command(image, idm, 0x00, n, &mut list[at + middle..]);
 }

@@ -8,35 +8,17 @@ use type3::read::AttributeInformation;
 use type3::read::Checked;
 use type3::space;
 use type3_commands::commands;
+use type3_list::changed;
 use type3_list::list;
 ghost use mathlib.Core.Path.{_≡_};
 ghost use Prim.Native.Nat.{_+_, _-_, _/_, _<_, _≤_};
-ghost use lib.ListN.{length, take};
-ghost use Rattle.tag.specs.Bytes.{run};
 ghost use Rattle.tag.specs.Contracts.{Wrote};
 ghost use Rattle.type3.specs.Type3.{type3};
 ghost use Rattle.type3.specs.Views.AttributeInformation.{Readable};
 ghost use Rattle.type3_list.specs.Views.Listing.{Dealt};
 
-// The bytes of a list's two commands for block 0.
-const ATTRIBUTE_COMMANDS: usize = 2 * list::ATTRIBUTE_COMMAND;
-
 // The most blocks that a message takes: block 0 has none of it, and a block list element has one byte for the block's number.
 const MOST_BLOCKS: usize = 255;
-
-// Puts the blocks to write, rising, at the front of `blocks` and answers how many they are: all of the message's, 1 to `k`.
-fn blocks_to_write(k: usize, blocks: &mut [u8]) -> usize
-    requires { ⌜ (k ≤ 255) × (k ≤ length (now blocks)) ⌝ }
-    ensures many { λ r. ⌜ r ≡ k ⌝ }
-    ensures which { λ r. ⌜ take r (now (blocks .exit)) ≡ run 1 k ⌝ }
-{
-    let mut j = 0usize;
-    while j < k {
-        blocks[j] = (j + 1) as u8;
-        j += 1;
-    }
-    j
-}
 
 // How many commands `k` blocks take, `w` to a command.
 fn turns_for(k: usize, w: usize) -> usize
@@ -63,18 +45,29 @@ fn write_to(
     if refusal != refusals::NONE {
         return CountAnswer::Refused(refusal);
     }
-    let k = space::blocks_for(n);
     let w = numbers::smaller(a.nbw, commands::MOST_BLOCKS);
     let mut blocks = [0u8; MOST_BLOCKS];
-    let between = blocks_to_write(k, &mut blocks);
+    let between = changed::blocks_to_write(image, message, &mut blocks);
     let turns = turns_for(between, w);
-    if list.len() < ATTRIBUTE_COMMANDS + commands::FRONT * turns + commands::PER_BLOCK * between {
+    let is_shut = a.busy;
+    let guards = numbers::one_unless(is_shut) + 1;
+    let middle = commands::FRONT * turns + commands::PER_BLOCK * between;
+    if list.len() < list::ATTRIBUTE_COMMAND * guards + middle {
         return CountAnswer::Refused(refusals::SHORT_BUFFER);
     }
     let ln = a.ln;
-    list::put_list(image, message, idm, ln, w, turns, &blocks[..between], list);
-    let count = 2 + turns;
-    CountAnswer::Count(count)
+    list::put_list(
+        image,
+        message,
+        idm,
+        ln,
+        is_shut,
+        w,
+        turns,
+        &blocks[..between],
+        list,
+    );
+    CountAnswer::Count(guards + turns)
 }
 
 // Writes the list for the message to the front of `list`, and answers with the number of its commands.

@@ -8,7 +8,7 @@ use mathlib.Core.Logic.{_⊎_, inl, inr}
 use mathlib.Core.List.{List, [], _∷_, _++_, map, append-nil}
 use Prim.Native.Nat.{ℕ, suc, _+_, _-_, _/_, _%_, _<_, _≤_}
 use native.Mathlib.Omega.{arith}
-use borrow.Author.Tests.{ne-eqb, lt-leb, le-ltb}
+use borrow.Author.Tests.{eqb-true, ne-eqb, lt-leb, le-ltb}
 use lib.Dec.{leb, ltb, eqb}
 use lib.ListN.{length, take, drop}
 use Rattle.tag.specs.Bytes.{byte, run, overlay, isSet}
@@ -20,7 +20,8 @@ use Rattle.tag.proofs.Addresses.{overlay-reads, above-run}
 use Rattle.tag.proofs.Runs.{length-run, take-run, map-run, run-set}
 use Rattle.tag.proofs.Blocks.{in-block}
 use Rattle.tag.proofs.Guarded.{Cell, shut, old, fresh, Between}
-use Rattle.type6.specs.Container.{blockSize, fileBlock, fileAt, fileRoom, capacity, nlenAt}
+use Rattle.tag.proofs.Writes.{shutImage, shut-either}
+use Rattle.type6.specs.Container.{blockSize, fileBlock, fileAt, fileRoom, capacity, nlenAt, nlen}
 use Rattle.type6.specs.Message.{reading}
 use Rattle.type6.specs.Update.{addresses, values, closedAt, plan}
 use Rattle.type6.proofs.Message.{Passes, bounds, Agrees, same-file, checks-of, held-empty, held-some, held-fits}
@@ -79,9 +80,20 @@ module _ (i m : List ℕ) where
   pub new-length : length (newImage (plan i m) i) ≡ length i
   new-length = length-overlay (addresses (fileAt i) m) (values m) i
 
--- a tag with the file's first block of the closed image is empty
+-- the tag with the guard block shut: NLEN is zero, and what lies before the file is as it was
+shut-before : (i m : List ℕ) (a : ℕ) → a < fileAt i → byte (shutImage (plan i m) i) a ≡ byte i a
+shut-before i m a l = shut-either (plan i m) i (λ j. byte j a ≡ byte i a) (λ q. refl) (closed-before (fileAt i) i a l)
+
+shut-nlen : (i m : List ℕ) → Passes i → (byte (shutImage (plan i m) i) (fileAt i) ≡ 0) × (byte (shutImage (plan i m) i) (suc (fileAt i)) ≡ 0)
+shut-nlen i m c =
+    let k = bounds i c in
+    shut-either (plan i m) i (λ j. (byte j (fileAt i) ≡ 0) × (byte j (suc (fileAt i)) ≡ 0))
+    (λ q. let e : nlen i ≡ 0 = eqb-true (nlen i) 0 q in (omega arith, omega arith))
+    (closed-reads (fileAt i) i (k .past) (omega (arith, k .inside, k .room)))
+
+-- a tag with the file's first block shut is empty
 pub quiet : (i m j : List ℕ) → Passes i → 2 ≤ blockSize i
-    → Between (inBlock (blockSize i) (fileBlock i)) i (closedAt (fileAt i) i) (newImage (plan i m) i) j → heldOf (reading j) ≡ nothing
+    → Between (inBlock (blockSize i) (fileBlock i)) i (shutImage (plan i m) i) (newImage (plan i m) i) j → heldOf (reading j) ≡ nothing
 quiet i m j c s b = held-empty j (checks-of i j (b .0) agrees c (omega (arith, at-0, at-1))) (ap (λ f. nlenAt f j) (same-file j i agrees) ∙ rw (at-0, at-1) refl)
   where
     far : 2 + fileAt i ≤ length i
@@ -90,21 +102,21 @@ quiet i m j c s b = held-empty j (checks-of i j (b .0) agrees c (omega (arith, a
     agrees : Agrees j i
     agrees k l = go (b .1 k (omega (arith, far, bounds i c .past)))
       where
-        go : Cell (inBlock (blockSize i) (fileBlock i)) i (closedAt (fileAt i) i) (newImage (plan i m) i) j k → byte j k ≡ byte i k
-        go (shut p q) = q ∙ closed-before (fileAt i) i k (omega (arith, bounds i c .past))
+        go : Cell (inBlock (blockSize i) (fileBlock i)) i (shutImage (plan i m) i) (newImage (plan i m) i) j k → byte j k ≡ byte i k
+        go (shut p q) = q ∙ shut-before i m k (omega (arith, bounds i c .past))
         go (old p q) = q
         go (fresh p q) = q ∙ new-agrees i m c k l
 
-    at : (k : ℕ) → inBlock (blockSize i) (fileBlock i) k ≡ true → k < length i → byte (closedAt (fileAt i) i) k ≡ 0 → byte j k ≡ 0
+    at : (k : ℕ) → inBlock (blockSize i) (fileBlock i) k ≡ true → k < length i → byte (shutImage (plan i m) i) k ≡ 0 → byte j k ≡ 0
     at k e l z = go (b .1 k l)
       where
-        go : Cell (inBlock (blockSize i) (fileBlock i)) i (closedAt (fileAt i) i) (newImage (plan i m) i) j k → byte j k ≡ 0
+        go : Cell (inBlock (blockSize i) (fileBlock i)) i (shutImage (plan i m) i) (newImage (plan i m) i) j k → byte j k ≡ 0
         go (shut p q) = q ∙ z
         go (old p q) = absurd (true-false e p)
         go (fresh p q) = absurd (true-false e p)
 
-    zeros : (byte (closedAt (fileAt i) i) (fileAt i) ≡ 0) × (byte (closedAt (fileAt i) i) (suc (fileAt i)) ≡ 0)
-    zeros = closed-reads (fileAt i) i (bounds i c .past) far
+    zeros : (byte (shutImage (plan i m) i) (fileAt i) ≡ 0) × (byte (shutImage (plan i m) i) (suc (fileAt i)) ≡ 0)
+    zeros = shut-nlen i m c
 
     at-0 : byte j (fileAt i) ≡ 0
     at-0 = at (fileAt i) (in-block (blockSize i) (fileBlock i) (fileAt i) .1 (omega arith, omega arith)) (omega (arith, far)) (zeros .0)

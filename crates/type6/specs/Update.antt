@@ -3,11 +3,11 @@
 use mathlib.Core.Bool.{Bool}
 use mathlib.Core.List.{List, [], _∷_}
 use Prim.Native.Nat.{ℕ, suc, _/_, _%_}
-use lib.Dec.{leb}
+use lib.Dec.{leb, eqb}
 use lib.ListN.{length}
 use Rattle.tag.specs.Bytes.{run, overlay}
 use Rattle.tag.specs.Plan.{Plan}
-use Rattle.type6.specs.Container.{blockSize, fileBlock, fileAt}
+use Rattle.type6.specs.Container.{blockSize, fileBlock, fileAt, nlen}
 
 -- one command sets both bytes of NLEN; 14 if the blocks are too small for that
 abbrev pub blocksSuffice : List ℕ → Bool
@@ -24,7 +24,7 @@ values m = length m % 256 ∷ length m / 256 ∷ m
 abbrev pub closedAt : ℕ → List ℕ → List ℕ
 closedAt f i = overlay (f ∷ suc f ∷ []) (0x00 ∷ 0x00 ∷ []) i
 
--- the guard block is the file's first
+-- the guard block is the file's first; it is shut already if NLEN is zero
 abbrev pub plan : List ℕ → List ℕ → Plan
 plan i m = record {
   addresses = addresses (fileAt i) m;
@@ -33,4 +33,5 @@ plan i m = record {
   width = 1;
   guard = fileBlock i;
   closed = closedAt (fileAt i) i;
+  is-shut = eqb (nlen i) 0;
 }

@@ -1,10 +1,13 @@
--- What the writer's steps lay: the new image, and the bytes that shut the guard block.
+-- What the writer's steps lay and test: the new image, the bytes that shut the guard block, and NLEN.
 -- Assumes nothing.
-use mathlib.Core.Path.{_≡_, sym, ap, _∙_}
+use mathlib.Core.Path.{_≡_, refl, sym, ap, _∙_}
+use mathlib.Core.Bool.{Bool, true, false}
 use mathlib.Core.List.{List, [], _∷_}
 use Prim.Native.Nat.{ℕ, suc, _+_, _*_, _/_, _%_, _≤_}
 use native.Mathlib.Numerals.{add-one}
 use native.Mathlib.Omega.{arith}
+use borrow.Author.Tests.{eqb-true, eqb-false, eq-eqb, ne-eqb}
+use lib.Dec.{eqb}
 use lib.ListN.{length, set, take, drop, length-drop}
 use lib.Seq.{sets, set-comm, take-set-lt, drop-set-add, length-take-le}
 use Rattle.tag.specs.Bytes.{overlay}
@@ -39,9 +42,21 @@ shut-made i held f z s l h =
     ∙ set-comm block 0 1 0 0 (λ e. omega arith)
     ∙ sym (ap (take z) outer ∙ take-set-lt z (set (drop f i) 1 0) 0 0 (omega arith) ∙ ap (λ x. set x 0 0) (take-set-lt z (drop f i) 1 0 (omega arith)))
 
+-- ---- NLEN as its two bytes
+
+pub low-some : (low high : ℕ) → (low ≡ 0 → ⊥) → eqb (low + 256 * high) 0 ≡ false
+low-some low high n = ne-eqb (low + 256 * high) 0 (λ e. n (omega arith))
+
+pub low-none : (low high : ℕ) → low ≡ 0 → eqb high 0 ≡ eqb (low + 256 * high) 0
+low-none low high e = go (eqb high 0) refl
+  where
+    go : (c : Bool) → eqb high 0 ≡ c → eqb high 0 ≡ eqb (low + 256 * high) 0
+    go true q = q ∙ sym (eq-eqb (low + 256 * high) 0 (omega (arith, eqb-true high 0 q)))
+    go false q = q ∙ sym (ne-eqb (low + 256 * high) 0 (λ u. eqb-false high 0 q (omega arith)))
+
 -- ---- what the list is laid from
 
-module _ (i new marks : List ℕ) (f z : ℕ) (h : ListAsked i new marks f z) where
+module _ (i new : List ℕ) (f z : ℕ) (h : ListAsked i new f z) where
   -- the guard block lies in the image
   pub first-inside : f + z ≤ length i
   first-inside = omega (arith, h .starts, block-inside z (f / z) (length i / z) (length i) (h .inside) (omega (arith, h .whole)))
@@ -50,15 +65,15 @@ module _ (i new marks : List ℕ) (f z : ℕ) (h : ListAsked i new marks f z) wh
   length-shut =
       length-take-le z (drop f (closedAt f i)) (omega (arith, first-inside, length-drop f (closedAt f i), length-overlay (f ∷ suc f ∷ []) (0x00 ∷ 0x00 ∷ []) i))
 
-  pub listed : (g : ℕ) → g ≡ f / z → (shut : List ℕ) → shut ≡ shutBytes z f i → Listed front z new marks g shut
+  pub listed : (g : ℕ) → g ≡ f / z → (shut : List ℕ) → shut ≡ shutBytes z f i → Listed front z i new g shut
   listed g e shut s =
       let blocks : length new / z ≡ length i / z = ap (λ n. n / z) (h .same-length) in
       record {
         some-size = omega (arith, h .large);
         short = omega (arith, h .small);
+        as-long = h .same-length;
         whole = h .same-length ∙ h .whole ∙ ap (λ n. z * n) (sym blocks);
         few = omega (arith, blocks, h .few);
-        each-marked = omega (arith, blocks, h .few, h .each-marked);
         inside = omega (arith, blocks, e, h .inside);
         shut-whole = ap length s ∙ length-shut;
       }

@@ -1,5 +1,5 @@
-// What is particular to Type 6 in the list of write commands: the new image, which blocks lie between the guard block's two commands,
-// and the bytes that shut the guard block. The guard block is the file's first, so NLEN is its first two bytes.
+// What is particular to Type 6 in the list of write commands: the new image, and how the guard block is shut. The guard block is the
+// file's first, so NLEN is its first two bytes.
 
 use tag::Address;
 use tag::CountAnswer;
@@ -8,13 +8,14 @@ use type6::commands;
 use type6::container;
 ghost use mathlib.Core.Path.{_≡_};
 ghost use Prim.Native.Nat.{_+_, _/_, _≤_};
+ghost use lib.Dec.{eqb};
 ghost use lib.ListN.{length};
 ghost use Rattle.tag.specs.Bytes.{overlay};
 ghost use Rattle.tag.specs.Contracts.{PutOut};
-ghost use Rattle.tag.specs.Views.Blank.{Blank};
+ghost use Rattle.type6.specs.Container.{nlenAt};
 ghost use Rattle.type6.specs.Update.{addresses, values};
 ghost use Rattle.one_block_write.specs.Views.Listing.{guardedOutput};
-ghost use Rattle.type6_write.specs.Views.Listing.{front, shutBytes, Marked, ListAsked};
+ghost use Rattle.type6_write.specs.Views.Listing.{front, shutBytes, ListAsked};
 
 // Makes the new image: the image with NLEN and the message in the file.
 pub(crate) fn lay(image: &[u8], message: &[u8], file: Address, new: &mut [u8])
@@ -29,18 +30,6 @@ pub(crate) fn lay(image: &[u8], message: &[u8], file: Address, new: &mut [u8])
     slices::store(message, at + container::NLEN, new);
 }
 
-// Marks the blocks from `from` up to `to`.
-pub(crate) fn mark(marks: &mut [u8], from: usize, to: usize)
-    requires { ⌜ Blank 256 (now marks) × (from ≤ to) × (to ≤ 256) ⌝ }
-    ensures { λ _. ⌜ Marked from to (now (marks .exit)) ⌝ }
-{
-    let mut b = from;
-    while b < to {
-        marks[b] = 1;
-        b += 1;
-    }
-}
-
 // Makes the bytes that shut the guard block: the image's, with NLEN zero.
 fn shut(image: &[u8], file: Address, size: usize, held: &mut [u8])
     requires { ⌜ (2 ≤ size) × (length (now held) ≡ size) × (file .0 + size ≤ length (now image)) × (length (now image) ≤ 8192) ⌝ }
@@ -52,38 +41,48 @@ fn shut(image: &[u8], file: Address, size: usize, held: &mut [u8])
     held[1] = 0x00;
 }
 
+// Whether the guard block is shut already: NLEN is zero.
+fn is_shut(image: &[u8], file: Address) -> bool
+    requires { ⌜ (file .0 + 2 ≤ length (now image)) × (length (now image) ≤ 8192) ⌝ }
+    ensures { λ r. ⌜ r ≡ eqb (nlenAt (file .0) (now (image .entry))) 0 ⌝ }
+{
+    let at = file.0;
+    if image[at] != 0x00 {
+        return false;
+    }
+    image[at + 1] == 0x00
+}
+
 // Writes the list, with an array for the bytes that shut the guard block.
 fn put_with(
     image: &[u8],
     new: &[u8],
-    marks: &[u8],
     file: Address,
     size: usize,
     held: &mut [u8],
     list: &mut [u8],
 ) -> CountAnswer
-    requires { ⌜ ListAsked (now image) (now new) (now marks) (file .0) size × (length (now held) ≡ size) ⌝ }
-    ensures { λ r. ⌜ PutOut (λ room. guardedOutput room front size (now (new .entry)) (now (marks .entry)) (file .0 / size) (shutBytes size (file .0) (now (image .entry)))) (now (list .entry)) r (now (list .exit)) ⌝ }
+    requires { ⌜ ListAsked (now image) (now new) (file .0) size × (length (now held) ≡ size) ⌝ }
+    ensures { λ r. ⌜ PutOut (λ room. guardedOutput room front size (now (image .entry)) (now (new .entry)) (file .0 / size) (shutBytes size (file .0) (now (image .entry))) (eqb (nlenAt (file .0) (now (image .entry))) 0)) (now (list .entry)) r (now (list .exit)) ⌝ }
 {
     shut(image, file, size, held);
     let guard = file.block(size);
+    let already = is_shut(image, file);
     let code = [commands::FLAGS, commands::CODE];
-    one_block_write::list::put_list(&code, size, new, marks, guard, held, list)
+    one_block_write::list::put_list(&code, size, image, new, guard, held, already, list)
 }
 
-// Writes the list that turns `image` into `new`. The file begins at `file`, and every block but the guard block that holds a byte to
-// set is marked. Refuses with 12 if the list is longer than its buffer.
+// Writes the list that turns `image` into `new`. The file begins at `file`. Refuses with 12 if the list is longer than its buffer.
 pub(crate) fn put_list(
     image: &[u8],
     new: &[u8],
-    marks: &[u8],
     file: Address,
     size: usize,
     list: &mut [u8],
 ) -> CountAnswer
-    requires { ⌜ ListAsked (now image) (now new) (now marks) (file .0) size ⌝ }
-    ensures { λ r. ⌜ PutOut (λ room. guardedOutput room front size (now (new .entry)) (now (marks .entry)) (file .0 / size) (shutBytes size (file .0) (now (image .entry)))) (now (list .entry)) r (now (list .exit)) ⌝ }
+    requires { ⌜ ListAsked (now image) (now new) (file .0) size ⌝ }
+    ensures { λ r. ⌜ PutOut (λ room. guardedOutput room front size (now (image .entry)) (now (new .entry)) (file .0 / size) (shutBytes size (file .0) (now (image .entry))) (eqb (nlenAt (file .0) (now (image .entry))) 0)) (now (list .entry)) r (now (list .exit)) ⌝ }
 {
     let mut held = [0u8; container::LARGEST_BLOCK];
-    put_with(image, new, marks, file, size, &mut held[..size], list)
+    put_with(image, new, file, size, &mut held[..size], list)
 }

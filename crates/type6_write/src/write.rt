@@ -13,7 +13,6 @@ ghost use lib.ListN.{length};
 ghost use Rattle.tag.specs.TagType.{written, writeBy};
 ghost use Rattle.tag.specs.Cuts.{Ready};
 ghost use Rattle.tag.specs.Contracts.{PutOut, Wrote};
-ghost use Rattle.tag.specs.Views.Blank.{Blank};
 ghost use Rattle.type6.specs.Container.{blockSize, fileAt};
 ghost use Rattle.type6.specs.Type6.{type6};
 ghost use Rattle.type6.specs.Views.Container.{Readable};
@@ -26,17 +25,13 @@ fn write_ready(
     file: Address,
     size: usize,
     new: &mut [u8],
-    marks: &mut [u8],
     list: &mut [u8],
 ) -> CountAnswer
-    requires { ⌜ Ready type6 (now image) (now message) × (file .0 ≡ fileAt (now image)) × (size ≡ blockSize (now image)) × (length (now new) ≡ length (now image)) × Blank 256 (now marks) ⌝ }
+    requires { ⌜ Ready type6 (now image) (now message) × (file .0 ≡ fileAt (now image)) × (size ≡ blockSize (now image)) × (length (now new) ≡ length (now image)) ⌝ }
     ensures { λ r. ⌜ PutOut (λ room. writeBy type6 room (now (image .entry)) (written ((type6 .plan) (now (image .entry)) (now (message .entry))))) (now (list .entry)) r (now (list .exit)) ⌝ }
 {
     list::lay(image, message, file, new);
-    let guard = file.block(size);
-    let touched = (container::NLEN + message.len() + (size - 1)) / size;
-    list::mark(marks, guard.0 + 1, guard.0 + touched);
-    list::put_list(image, new, marks, file, size, list)
+    list::put_list(image, new, file, size, list)
 }
 
 // Refusals 9 to 12 and 14, or the list, for a tag that reads.
@@ -45,10 +40,9 @@ fn write_readable(
     message: &[u8],
     c: Container,
     new: &mut [u8],
-    marks: &mut [u8],
     list: &mut [u8],
 ) -> CountAnswer
-    requires { ⌜ Readable (now image) c × (length (now new) ≡ length (now image)) × Blank 256 (now marks) ⌝ }
+    requires { ⌜ Readable (now image) c × (length (now new) ≡ length (now image)) ⌝ }
     ensures { λ r. ⌜ Wrote type6 (now (image .entry)) (now (message .entry)) (now (list .entry)) r (now (list .exit)) ⌝ }
 {
     let refusal = space::refusal(c, message.len());
@@ -57,24 +51,18 @@ fn write_readable(
     }
     let file = c.file;
     let size = c.size;
-    write_ready(image, message, file, size, new, marks, list)
+    write_ready(image, message, file, size, new, list)
 }
 
-// All refusals, or the list. The work arrays are passed in: room for the new image, and block marks that are all 0.
-fn write_on(
-    image: &[u8],
-    message: &[u8],
-    new: &mut [u8],
-    marks: &mut [u8],
-    list: &mut [u8],
-) -> CountAnswer
-    requires { ⌜ (length (now new) ≡ 8192) × Blank 256 (now marks) ⌝ }
+// All refusals, or the list. Room for the new image is passed in.
+fn write_on(image: &[u8], message: &[u8], new: &mut [u8], list: &mut [u8]) -> CountAnswer
+    requires { ⌜ length (now new) ≡ 8192 ⌝ }
     ensures { λ r. ⌜ Wrote type6 (now (image .entry)) (now (message .entry)) (now (list .entry)) r (now (list .exit)) ⌝ }
 {
     let n = image.len();
     match container::read_container(image) {
         Checked::Refused(r) => CountAnswer::Refused(r),
-        Checked::Fine(c) => write_readable(image, message, c, &mut new[..n], marks, list),
+        Checked::Fine(c) => write_readable(image, message, c, &mut new[..n], list),
     }
 }
 
@@ -84,6 +72,5 @@ pub fn write(image: &[u8], message: &[u8], list: &mut [u8]) -> CountAnswer
     ensures { λ r. ⌜ Wrote type6 (now (image .entry)) (now (message .entry)) (now (list .entry)) r (now (list .exit)) ⌝ }
 {
     let mut new = [0u8; container::LONGEST_IMAGE];
-    let mut marks = [0u8; container::MOST_BLOCKS];
-    write_on(image, message, &mut new, &mut marks, list)
+    write_on(image, message, &mut new, list)
 }

@@ -6,8 +6,7 @@ use mathlib.Core.List.{List}
 use Prim.Native.Nat.{ℕ, _<_, _≤_}
 use lib.Dec.{leb}
 use lib.ListN.{length, getD, take}
-use Rattle.tag.specs.Bytes.{byte, consecutive}
-use Rattle.tag.specs.Plan.{touches}
+use Rattle.tag.specs.Bytes.{consecutive}
 use Rattle.tlv_value.specs.declared.value.Value as code
 use Rattle.tlv_value.specs.declared.value.Value.the-variants as value
 
@@ -27,9 +26,3 @@ valueAs (value.At a b) = at (a .0) b
 abbrev pub ValueRoom : ℕ → List ℕ → code.Value → Type 0
 ValueRoom n us value.Short = length us < n
 ValueRoom n us (value.At a b) = n ≤ length us
-
--- the blocks of z bytes that hold one of the first k of us have the mark 1, and all other marks are as they were
-abbrev pub BlocksMarked : ℕ → ℕ → List ℕ → List ℕ → List ℕ → Type 0
-BlocksMarked z k us before after =
-    (vs : List ℕ) (b : ℕ) → length vs ≡ k → b < length before
-    → byte after b ≡ cond (touches z us vs b) 1 (byte before b)

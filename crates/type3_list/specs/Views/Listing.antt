@@ -1,5 +1,6 @@
 -- The list as the code lays it: its commands, and what laying them requires.
 -- Assumes nothing.
+use mathlib.Core.Bool.{Bool, cond}
 use mathlib.Core.List.{List, [], _∷_, _++_}
 use Prim.Native.Nat.{ℕ, zero, suc, _+_, _*_, _/_, _%_, _<_, _≤_}
 use lib.ListN.{length, take, drop}
@@ -46,10 +47,20 @@ unfoldable pub messageCommands : List ℕ → List ℕ → ℕ → List ℕ → 
 messageCommands idm m w bs zero = []
 messageCommands idm m w bs (suc t) = messageCommands idm m w bs t ++ messageCommand idm m (take w (drop (w * t) bs))
 
--- the list: block 0 shut, the blocks bs of the message, block 0 opened
-abbrev pub listAs : List ℕ → List ℕ → List ℕ → ℕ → ℕ → ℕ → List ℕ → List ℕ
-listAs idm i m ln w t bs =
-    attributeCommand idm i 0x0F ln ++ messageCommands idm m w bs t ++ attributeCommand idm i 0x00 (length m)
+-- the command that shuts block 0, unless that is shut already, and its length
+abbrev pub shutCommand : List ℕ → List ℕ → ℕ → Bool → List ℕ
+shutCommand idm i ln is-shut = cond is-shut [] (attributeCommand idm i 0x0F ln)
+
+abbrev pub shutLength : Bool → ℕ
+shutLength is-shut = cond is-shut 0 31
+
+-- the list: block 0 shut, the blocks bs of the message, block 0 opened; and its length
+abbrev pub listAs : List ℕ → List ℕ → List ℕ → ℕ → Bool → ℕ → ℕ → List ℕ → List ℕ
+listAs idm i m ln is-shut w t bs =
+    shutCommand idm i ln is-shut ++ (messageCommands idm m w bs t ++ attributeCommand idm i 0x00 (length m))
+
+abbrev pub listLength : Bool → ℕ → ℕ → ℕ
+listLength is-shut t k = shutLength is-shut + (13 * t + 18 * k) + 31
 
 -- k blocks dealt out to t commands, w to a command
 pub record Dealt (k w t : ℕ) : Type 0 where
@@ -61,9 +72,9 @@ pub record Dealt (k w t : ℕ) : Type 0 where
   pub most : t ≤ k
 
 -- the list can be laid in a buffer with this much room
-pub record Listing (i m : List ℕ) (ln w t : ℕ) (bs : List ℕ) (room : ℕ) : Type 0 where
+pub record Listing (i m : List ℕ) (ln : ℕ) (is-shut : Bool) (w t : ℕ) (bs : List ℕ) (room : ℕ) : Type 0 where
   pub block : 16 ≤ length i
   pub small : ln < 65536
   pub chosen : Chosen m bs
   pub dealt : Dealt (length bs) w t
-  pub fits : 62 + 13 * t + 18 * length bs ≤ room
+  pub fits : listLength is-shut t (length bs) ≤ room

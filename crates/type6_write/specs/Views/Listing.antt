@@ -1,12 +1,9 @@
 -- What is particular to Type 6 in the list that the code writes.
 -- Assumes nothing.
 use mathlib.Core.Path.{_≡_}
-use mathlib.Core.Bool.{_&&_, cond}
 use mathlib.Core.List.{List, [], _∷_}
 use Prim.Native.Nat.{ℕ, _*_, _/_, _<_, _≤_}
-use lib.Dec.{leb, ltb}
 use lib.ListN.{length, take, drop}
-use Rattle.tag.specs.Bytes.{byte}
 use Rattle.type6.specs.Update.{closedAt}
 
 -- the bytes of a command before the block's number: its flags and its code
@@ -17,18 +14,13 @@ front = 0x02 ∷ 0x21 ∷ []
 abbrev pub shutBytes : ℕ → ℕ → List ℕ → List ℕ
 shutBytes z f i = take z (drop f (closedAt f i))
 
--- the blocks from `from` up to `to` are marked with 1, and no other
-abbrev pub Marked : ℕ → ℕ → List ℕ → Type 0
-Marked from to marks = (b : ℕ) → byte marks b ≡ cond (leb from b && ltb b to) 1 0
-
 -- what laying the list asks of the tag: blocks of 2 to 32 bytes, at most 256 of them, and a file that starts with one of them
-pub record ListAsked (i new marks : List ℕ) (f z : ℕ) : Type 0 where
+pub record ListAsked (i new : List ℕ) (f z : ℕ) : Type 0 where
   pub large : 2 ≤ z
   pub small : z ≤ 32
   pub short : length i ≤ 8192
   pub same-length : length new ≡ length i
   pub whole : length i ≡ z * (length i / z)
   pub few : length i / z ≤ 256
-  pub each-marked : length marks ≡ 256
   pub starts : f ≡ z * (f / z)
   pub inside : f / z < length i / z

@@ -9,9 +9,9 @@ use Rattle.tlv_tag.proofs.prepare.prepare.Tie as tie
 
 prepare-at-requires : tie.Need-prepare-at-requires
 prepare-at-requires c κs =
-    let at-w = c .before .before .before .before in
+    let at-w = c .before .before .before in
     let at-find-space = at-w .before .before .before .before in
-    let at-slices = at-find-space .before .before .before in
+    let at-slices = at-find-space .before .before in
     let at-start = at-slices .before .before .before .before in
     (space-room (at-start .args .first .0) (at-start .args .end .0) (at-find-space .find-space .ensures .1 .0) (at-w .w .given .1), at-start .pre .1)
 
@@ -20,13 +20,12 @@ returns c =
     let at-r = c .before in
     let at-find-space = at-r .before .before .before .before in
     let f = at-find-space .find-space in
-    (sym (ap (spaceAs (f .last .1 .1 .0)) (at-r .r .given .1)) ∙ f .ensures .0, ((refl, refl), f .ensures .1 .1))
+    (sym (ap (spaceAs (f .last .1 .1 .0)) (at-r .r .given .1)) ∙ f .ensures .0, (refl, f .ensures .1 .1))
 
 returns-2 : tie.Need-returns-2
 returns-2 c =
-    let at-prepare-at = c .before .before .before .before in
-    let at-known-told2 = at-prepare-at .before .before .before .before in
-    let at-w = at-known-told2 .before in
+    let at-prepare-at = c .before .before in
+    let at-w = at-prepare-at .before .before .before .before in
     let at-find-space = at-w .before .before .before .before in
     let f = at-find-space .find-space in
     let g = at-w .w .given in
@@ -42,7 +41,6 @@ prepare-spec =
     prepare-at-requires
     (λ c. search needs)
     returns
-    (λ c. search needs)
     (λ c. search needs)
     (λ c. search needs)
     returns-2)

@@ -14,51 +14,37 @@ use Rattle.type2.proofs.Deciding.{refused-writing}
 use Rattle.type2_write.proofs.write.write_on.Statement.{statement}
 use Rattle.type2_write.proofs.write.write_on.Tie as tie
 
+abbrev begin : tie.After-data-area → tie.Start
+begin c =
+    let at-slices = c .before .before .before in
+    at-slices .before .before .before
+
 -- the data area that was found
 found : (c : tie.After-write-inside-arg) →
     let at-end = c .before .before in
-    let at-match = at-end .before in
-    let at-slices = at-match .before .before .before .before in
-    let at-start = at-slices .before .before .before .before in
-    Inside (at-start .args .image .now) (at-end .end .given .0 .0 .0) (at-end .end .given .0 .1 .0)
+    Inside (begin (at-end .before .before) .args .image .now) (at-end .end .given .0 .0 .0) (at-end .end .given .0 .1 .0)
 found c =
     let at-end = c .before .before in
     let at-data-area = at-end .before .before in
-    let at-slices = at-data-area .before .before .before in
-    let at-start = at-slices .before .before .before .before in
     let d = at-data-area .data-area in
     let g = at-end .end .given in
-    checks-pass (at-start .args .image .now) (d .result) (g .0 .0) (g .0 .1 .0) (d .ensures .0) (d .ensures .1) (g .1)
+    checks-pass (begin at-data-area .args .image .now) (d .result) (g .0 .0) (g .0 .1 .0) (d .ensures .0) (d .ensures .1) (g .1)
 
 long-enough : (c : tie.After-write-inside-arg) →
-    let at-match = c .before .before .before in
-    let at-slices = at-match .before .before .before .before in
-    let at-start = at-slices .before .before .before .before in
+    let at-start = begin (c .before .before .before .before) in
     length (at-start .args .image .now) ≤ length (at-start .args .new .now)
-long-enough c =
-    let at-match = c .before .before .before in
-    let at-slices = at-match .before .before .before .before in
-    let at-start = at-slices .before .before .before .before in
-    omega (arith, found c .area .short, at-start .pre .1)
-
-slice-relend-prefix-write-inside : tie.Need-slice-relend-prefix-write-inside
-slice-relend-prefix-write-inside c = long-enough c
+long-enough c = let at-start = begin (c .before .before .before .before) in omega (arith, found c .area .short, at-start .pre .1)
 
 slice-aggregate-write-inside : tie.Need-slice-aggregate-write-inside
 slice-aggregate-write-inside c =
     let at-write-inside-arg = c .before in
-    let at-match = at-write-inside-arg .before .before .before in
-    let at-slices = at-match .before .before .before .before in
-    let at-start = at-slices .before .before .before .before in
-    let a = at-start .args in
+    let a = begin (at-write-inside-arg .before .before .before .before) .args in
     sym (length-take-le (length (a .image .now)) (a .new .now) (long-enough at-write-inside-arg))
 
 write-inside-requires : tie.Need-write-inside-requires
 write-inside-requires c κs =
-    let at-write-inside-arg = c .before .before .before in
-    let at-match = at-write-inside-arg .before .before .before in
-    let at-slices = at-match .before .before .before .before in
-    let at-start = at-slices .before .before .before .before in
+    let at-write-inside-arg = c .before .before in
+    let at-start = begin (at-write-inside-arg .before .before .before .before) in
     let a = at-start .args in
     (found at-write-inside-arg, at-start .pre .0, length-take-le (length (a .image .now)) (a .new .now) (long-enough at-write-inside-arg))
 
@@ -66,9 +52,7 @@ returns : tie.Need-returns
 returns c =
     let at-r = c .before in
     let at-data-area = at-r .before .before in
-    let at-slices = at-data-area .before .before .before in
-    let at-start = at-slices .before .before .before .before in
-    let a = at-start .args in
+    let a = begin at-data-area .args in
     let d = at-data-area .data-area in
     let g = at-r .r .given in
     let e = refused-writing (a .image .now) (a .message .now) (g .0 .0) (sym (ap checkedAs (g .1)) ∙ d .ensures .0) in
@@ -81,11 +65,10 @@ write-on-spec =
     (λ c κs. search needs)
     (λ c. search needs)
     (λ c. search needs)
-    slice-relend-prefix-write-inside
+    long-enough
     slice-aggregate-write-inside
     write-inside-requires
     returns
-    (λ c. search needs)
     (λ c. search needs)
     (λ c. search needs)
     (λ c. search needs)

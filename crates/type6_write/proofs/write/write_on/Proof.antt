@@ -14,60 +14,43 @@ use Rattle.type6.proofs.Deciding.{writing-unread}
 use Rattle.type6_write.proofs.write.write_on.Statement.{statement}
 use Rattle.type6_write.proofs.write.write_on.Tie as tie
 
+abbrev begin : tie.After-read-container → tie.Start
+begin c =
+    let at-slices = c .before in
+    at-slices .before .before .before .before
+
 -- the container that was found
 found : (c : tie.After-known-told2) →
     let at-c = c .before in
-    let at-read-container = at-c .before .before in
-    let at-slices = at-read-container .before .before in
-    let at-start = at-slices .before .before .before .before in
-    Readable (at-start .args .image .now) (at-c .c .given .0 .0)
+    Readable (begin (at-c .before .before) .args .image .now) (at-c .c .given .0 .0)
 found c =
     let at-c = c .before in
     let at-read-container = at-c .before .before in
-    let at-slices = at-read-container .before .before in
-    let at-start = at-slices .before .before .before .before in
     let t = at-read-container .read-container in
-    readable (at-start .args .image .now) (t .result) _ (t .ensures .0) (t .ensures .1) (at-c .c .given .1)
+    readable (begin at-read-container .args .image .now) (t .result) _ (t .ensures .0) (t .ensures .1) (at-c .c .given .1)
 
 long-enough : (c : tie.After-known-told2) →
-    let at-read-container = c .before .before .before in
-    let at-slices = at-read-container .before .before in
-    let at-start = at-slices .before .before .before .before in
+    let at-start = begin (c .before .before .before) in
     length (at-start .args .image .now) ≤ length (at-start .args .new .now)
-long-enough c =
-    let at-read-container = c .before .before .before in
-    let at-slices = at-read-container .before .before in
-    let at-start = at-slices .before .before .before .before in
-    omega (arith, found c .known .short, at-start .pre .0)
-
-slice-relend-prefix-write-readable : tie.Need-slice-relend-prefix-write-readable
-slice-relend-prefix-write-readable c = long-enough c
+long-enough c = let at-start = begin (c .before .before .before) in omega (arith, found c .known .short, at-start .pre)
 
 slice-aggregate-write-readable : tie.Need-slice-aggregate-write-readable
 slice-aggregate-write-readable c =
     let at-known-told2 = c .before in
-    let at-read-container = at-known-told2 .before .before .before in
-    let at-slices = at-read-container .before .before in
-    let at-start = at-slices .before .before .before .before in
-    let a = at-start .args in
+    let a = begin (at-known-told2 .before .before .before) .args in
     sym (length-take-le (length (a .image .now)) (a .new .now) (long-enough at-known-told2))
 
 write-readable-requires : tie.Need-write-readable-requires
 write-readable-requires c κs =
-    let at-known-told2 = c .before .before .before in
-    let at-read-container = at-known-told2 .before .before .before in
-    let at-slices = at-read-container .before .before in
-    let at-start = at-slices .before .before .before .before in
-    let a = at-start .args in
-    (found at-known-told2, length-take-le (length (a .image .now)) (a .new .now) (long-enough at-known-told2), at-start .pre .1)
+    let at-known-told2 = c .before .before in
+    let a = begin (at-known-told2 .before .before .before) .args in
+    (found at-known-told2, length-take-le (length (a .image .now)) (a .new .now) (long-enough at-known-told2))
 
 returns : tie.Need-returns
 returns c =
     let at-r = c .before in
     let at-read-container = at-r .before .before in
-    let at-slices = at-read-container .before .before in
-    let at-start = at-slices .before .before .before .before in
-    let a = at-start .args in
+    let a = begin at-read-container .args in
     let g = at-r .r .given in
     let e = writing-unread (a .image .now) (a .message .now) (g .0 .0)
     (refused-by (a .image .now) _ (g .0 .0) (at-read-container .read-container .ensures .0) (g .1)) in
@@ -80,11 +63,10 @@ write-on-spec =
     (λ c κs. search needs)
     (λ c. search needs)
     (λ c. search needs)
-    slice-relend-prefix-write-readable
+    long-enough
     slice-aggregate-write-readable
     write-readable-requires
     returns
-    (λ c. search needs)
     (λ c. search needs)
     (λ c. search needs)
     (λ c. search needs))
