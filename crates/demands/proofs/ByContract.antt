@@ -16,16 +16,16 @@ use Rattle.tag.specs.declared.ModelAnswer as model-answer
 use Rattle.tag.specs.declared.ModelAnswer.the-variants as storing
 use Rattle.tag.specs.Bytes.{overwrite}
 use Rattle.tag.specs.Plan.{list, commandCount}
-use Rattle.tag.specs.TagType.{TagType, Output, refused-output, output, outputInto, fitted, writing, written, writeBy, write, pieces, commands}
-use Rattle.tag.specs.Judge.{accepted, refused, judged}
+use Rattle.tag.specs.TagType.{TagType, output, fitted, writing, written, writeBy, write, pieces, commands}
+use Rattle.tag.specs.Judge.{accepted, judged}
 use Rattle.tag.specs.Model.{Modelled, refused-storing, stored, model, imageAfter}
-use Rattle.tag.specs.Answers.{refusesOne, gives, countOf, countAs, verdictAs, storingOf, modelAs}
+use Rattle.tag.specs.Answers.{refusesOne, verdictAs, storingOf}
 use Rattle.tag.specs.Contracts.{Wrote, Judged, Took}
 use Rattle.tag.proofs.Counts.{length-list}
 use Rattle.tag.proofs.Logic.{nope}
 use Rattle.demands.specs.Demand3.{cutOf, ourBytes, ourImage, Demand3}
 use Rattle.demands.specs.ByContract.{Run, end, give, refuse, Code3}
-use Rattle.demands.proofs.Answered.{accepted-is, refused-is, stored-is, counted-is, put-all, put-counted}
+use Rattle.demands.proofs.Answered.{accepted-is, refused-is, stored-is, put-all, put-counted}
 use Rattle.demands.proofs.Demand2.{fitted-is}
 
 refused-same : (o : Modelled) (j : List ℕ) (f : ℕ) → refusesOne f ≡ storingOf o → imageAfter j o ≡ j

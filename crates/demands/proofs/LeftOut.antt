@@ -16,12 +16,12 @@ use lib.Seq.{getD-set-same, getD-set-other}
 use Rattle.tag.specs.Bytes.{byte}
 use Rattle.tag.specs.Reading.{Report, reads}
 use Rattle.tag.specs.Stores.{put}
-use Rattle.tag.specs.Plan.{Plan, newImage, blockOf, inBlock, isThere, between, firstStore}
+use Rattle.tag.specs.Plan.{Plan, newImage, blockOf, isThere, between, firstStore}
 use Rattle.tag.specs.TagType.{TagType}
 use Rattle.tag.specs.Cuts.{Ready}
 use Rattle.tag.proofs.Logic.{true-false}
 use Rattle.tag.proofs.Images.{length-overlay}
-use Rattle.tag.proofs.Blocks.{in-block, block-of}
+use Rattle.tag.proofs.Blocks.{inBlock, in-block, block-of}
 use Rattle.tag.proofs.There.{there-new, new-there, unchanged}
 use Rattle.tag.proofs.Laws.{Laws, reads-held}
 use Rattle.tlv_tag.specs.Message.{locate}

@@ -2,17 +2,18 @@
 -- Assumes nothing.
 use mathlib.Core.Path.{_≡_, refl, sym, ap, _∙_}
 use mathlib.Core.Bool.{Bool, true, false, cond}
-use mathlib.Core.List.{List, [], _++_}
+use mathlib.Core.List.{List, _++_}
 use Prim.Native.Nat.{ℕ, _+_, _*_, _/_, _<_, _≤_}
 use native.Mathlib.Omega.{arith}
 use borrow.Author.Tests.{le-leb, lt-leb}
 use lib.ListN.{length, take, length-append}
 use lib.Seq.{length-take-le}
 use Rattle.tag.specs.Bytes.{byte}
-use Rattle.tag.specs.Plan.{betweenBy, picked}
+use Rattle.tag.specs.Plan.{betweenBy}
+use Rattle.tag.specs.Views.Picked.{picked}
 use Rattle.tag.specs.TagType.{refused-output, output}
 use Rattle.tag.proofs.Picks.{picked-in}
-use Rattle.one_block_write.specs.Views.Listing.{commandLength, commandBytes, blockBytes, blocksBytes, shutCommand, shutLength, chosen, guardedBytes, guardedOutput, BlocksAsked, Listed}
+use Rattle.one_block_write.specs.Views.Listing.{commandLength, blockBytes, blocksBytes, shutCommand, shutLength, chosen, guardedBytes, guardedOutput, Listed}
 use Rattle.one_block_write.proofs.Laying.{product-short, block-inside, length-command, length-block, length-blocks}
 
 -- the command that shuts the guard block, if it stays, is one command long

@@ -8,7 +8,8 @@ ghost use mathlib.Core.Path.{_≡_};
 ghost use Prim.Native.Nat.{_+_, _*_, _<_, _≤_};
 ghost use lib.ListN.{length, take};
 ghost use Rattle.tag.specs.Bytes.{same};
-ghost use Rattle.tag.specs.Plan.{betweenBy, picked};
+ghost use Rattle.tag.specs.Plan.{betweenBy};
+ghost use Rattle.tag.specs.Views.Picked.{picked};
 ghost use Rattle.one_block_write.specs.Views.Between.{wordOf};
 
 // Four bytes as one number.

@@ -2,7 +2,7 @@
 -- and shows which blocks a guarded list stores.
 -- Assumes nothing.
 use mathlib.Core.Path.{_≡_, refl, sym, _∙_}
-use mathlib.Core.Bool.{Bool, true, false, true≢false}
+use mathlib.Core.Bool.{Bool, true, false, _&&_, true≢false}
 use mathlib.Core.Logic.{_⊎_, inl, inr, _↔_, ⊎-elim}
 use mathlib.Core.List.{List, _∷_}
 use Prim.Native.Nat.{ℕ, zero, suc, _+_, _-_, _*_, _/_, _%_, _<_, _≤_}
@@ -15,7 +15,7 @@ use lib.ListN.{length, take, drop, length-drop}
 use lib.Seq.{getD-take, getD-drop, length-take-le}
 use Rattle.tag.specs.Bytes.{byte}
 use Rattle.tag.specs.Stores.{Store}
-use Rattle.tag.specs.Plan.{Plan, blockOf, inBlock, picks, chunk, chunks}
+use Rattle.tag.specs.Plan.{Plan, blockOf, picks, chunk, chunks}
 use Rattle.tag.specs.Judge.{Task}
 use Rattle.tag.proofs.Logic.{and-l, and-r, and-both}
 use Rattle.tag.proofs.Each.{Each, each-take, each-drop}
@@ -49,6 +49,10 @@ chunk-some a w (suc c) ss l h =
 
 chunks-some : (a w : ℕ) (ss : List Store) → 0 < w → Some a ss → Somes a (chunks w ss)
 chunks-some a w ss p h = chunk-some a w ((length ss + (w - 1)) / w) ss (rounded-up w (length ss) p .0) h
+
+-- does the address lie in block b
+abbrev pub inBlock : ℕ → ℕ → ℕ → Bool
+inBlock z b a = leb (z * b) a && ltb a (z * b + z)
 
 -- the addresses of a block
 pub in-block : (z b a : ℕ) → (inBlock z b a ≡ true) ↔ ((z * b ≤ a) × (a < z * b + z))

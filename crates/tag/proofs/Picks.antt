@@ -6,7 +6,8 @@ use mathlib.Core.List.{List, [], _∷_, _++_, map, append-nil}
 use Prim.Native.Nat.{ℕ, zero, suc, _+_, _-_, _<_, _≤_}
 use native.Mathlib.Omega.{arith}
 use lib.ListN.{length, getD, take}
-use Rattle.tag.specs.Plan.{blockOf, picked, picks, counted}
+use Rattle.tag.specs.Plan.{blockOf, picks, counted}
+use Rattle.tag.specs.Views.Picked.{picked}
 
 -- ---- by number
 

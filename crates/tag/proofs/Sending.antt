@@ -12,15 +12,15 @@ use borrow.Author.Tests.{eqb-false, not-true}
 use lib.Dec.{eqb}
 use lib.ListN.{length, take, drop, length-take, length-drop}
 use Rattle.tag.specs.Stores.{Store}
-use Rattle.tag.specs.Plan.{Plan, newImage, blockOf, inBlock, touches, isThere, between, picks, chunk, chunks, firstStore, lastStore, first, middle, list}
+use Rattle.tag.specs.Plan.{Plan, newImage, blockOf, isThere, between, picks, chunk, chunks, firstStore, lastStore, first, middle, list}
 use Rattle.tag.proofs.Logic.{and-l, and-r, or-cases}
 use Rattle.tag.proofs.Each.{Each, each-append, each-both}
 use Rattle.tag.proofs.Images.{length-overlay}
 use Rattle.tag.proofs.Addresses.{Above, Rising, above-less, above-hi, above-rising, above-take, rising-drop}
 use Rattle.tag.proofs.Runs.{map-take, map-drop}
 use Rattle.tag.proofs.Chunks.{rounded-up}
-use Rattle.tag.proofs.Blocks.{Blockwise, chunk-each, block-length}
-use Rattle.tag.proofs.There.{touched-new}
+use Rattle.tag.proofs.Blocks.{inBlock, Blockwise, chunk-each, block-length}
+use Rattle.tag.proofs.There.{touches, touched-new}
 
 -- ---- whole blocks
 

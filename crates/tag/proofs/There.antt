@@ -2,10 +2,10 @@
 -- is one. Also when storing a block changes nothing.
 -- Assumes nothing.
 use mathlib.Core.Path.{_≡_, refl, sym, ap, _∙_}
-use mathlib.Core.Bool.{Bool, true, false, not, _&&_, false≢true}
+use mathlib.Core.Bool.{Bool, true, false, not, _||_, false≢true}
 use mathlib.Core.Logic.{_⊎_, _↔_, ⊎-elim}
 use mathlib.Core.List.{List, [], _∷_}
-use Prim.Native.Nat.{ℕ, suc, _+_, _-_, _*_, _<_, _≤_}
+use Prim.Native.Nat.{ℕ, _+_, _-_, _*_, _<_, _≤_}
 use native.Mathlib.Omega.{arith}
 use borrow.Author.Tests.{eqb-true, eq-eqb, not-true}
 use lib.Dec.{eqb}
@@ -13,11 +13,11 @@ use lib.ListN.{length, getD, take, drop, length-take, length-drop}
 use lib.Seq.{getD-take, getD-drop, length-sets, ext-getD}
 use Rattle.tag.specs.Bytes.{byte, overlay, isSet, same}
 use Rattle.tag.specs.Stores.{put}
-use Rattle.tag.specs.Plan.{blockOf, inBlock, touches, isThere}
+use Rattle.tag.specs.Plan.{blockOf, isThere}
 use Rattle.tag.proofs.Logic.{and-l, and-r, or-l, or-r, or-cases, true-false}
 use Rattle.tag.proofs.Images.{length-overlay, overlay-out}
 use Rattle.tag.proofs.Guarded.{put-cases}
-use Rattle.tag.proofs.Blocks.{in-block, block-part, block-in}
+use Rattle.tag.proofs.Blocks.{inBlock, in-block, block-part, block-in}
 
 -- ---- lists of bytes that are the same
 
@@ -62,6 +62,12 @@ module _ (z b : ℕ) where
           ∙ sym (getD-take z (drop (z * b) n) k 0 m ∙ getD-drop (z * b) n k 0))
 
 -- ---- blocks that hold a byte to set
+
+-- is block b touched (the requirements' word): does it hold a byte to set
+abbrev pub touches : ℕ → List ℕ → List ℕ → ℕ → Bool
+touches z [] vs b = false
+touches z (x ∷ us) [] b = false
+touches z (x ∷ us) (v ∷ vs) b = inBlock z b x || touches z us vs b
 
 pub touch-of : (z : ℕ) (us vs : List ℕ) (a b : ℕ) → isSet us vs a ≡ true → inBlock z b a ≡ true → touches z us vs b ≡ true
 touch-of z [] vs a b s h = absurd (false≢true s)

@@ -4,22 +4,22 @@ use mathlib.Core.Path.{_≡_, refl, sym, ap, _∙_}
 use mathlib.Core.Bool.{Bool, true, false, not, cond}
 use mathlib.Core.Logic.{_⊎_, inl, inr}
 use mathlib.Core.List.{List, [], _∷_, _++_, map, map-append}
-use Prim.Native.Nat.{ℕ, suc, _/_, _<_}
+use Prim.Native.Nat.{ℕ, _/_, _<_}
 use native.Mathlib.Omega.{arith}
-use borrow.Author.Tests.{eqb-true, eqb-false, eq-eqb, not-true}
+use borrow.Author.Tests.{eqb-true, eq-eqb, not-true}
 use lib.Dec.{eqb}
 use lib.ListN.{length, length-append, length-map}
 use Rattle.tag.specs.Bytes.{byte}
 use Rattle.tag.specs.Reading.{broken, nothing, holds}
 use Rattle.tag.specs.Stores.{Command, stores, cut}
-use Rattle.tag.specs.Plan.{Plan, newImage, blockOf, inBlock, isThere, between, picks, chunks, firstStore, lastStore, middle, list}
+use Rattle.tag.specs.Plan.{Plan, newImage, blockOf, isThere, between, picks, lastStore, middle, list}
 use Rattle.tag.specs.TagType.{TagType, held}
 use Rattle.tag.specs.Judge.{taskOf, accepted, judge}
 use Rattle.tag.specs.Cuts.{Kept}
 use Rattle.tag.proofs.Logic.{and-l, true-false}
 use Rattle.tag.proofs.Images.{length-overlay, overlay-out}
 use Rattle.tag.proofs.Guarded.{Between, Guard, Shuts, Tail, ending, accepts, last-cut, shut-accepts, shut-last-cut}
-use Rattle.tag.proofs.Blocks.{Blockwise, block-parts}
+use Rattle.tag.proofs.Blocks.{inBlock, Blockwise, block-parts}
 use Rattle.tag.proofs.There.{there-new}
 
 -- the tag once the guard block is shut: as the first command leaves it, or as it was if that is left out

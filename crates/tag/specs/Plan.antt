@@ -3,10 +3,10 @@
 -- all its new bytes. What is there already is left out (02, E4): the first command if the guard block is shut, and every other block
 -- that holds its new bytes. The last command always stays.
 -- Assumes nothing.
-use mathlib.Core.Bool.{Bool, true, false, not, _&&_, _||_, cond}
+use mathlib.Core.Bool.{Bool, true, false, not, _&&_, cond}
 use mathlib.Core.List.{List, [], _∷_, _++_}
 use Prim.Native.Nat.{ℕ, zero, suc, _+_, _-_, _*_, _/_}
-use lib.Dec.{leb, ltb, eqb}
+use lib.Dec.{eqb}
 use lib.ListN.{length, take, drop}
 use Rattle.tag.specs.Bytes.{overlay, isSet, same}
 use Rattle.tag.specs.Stores.{Store}
@@ -36,33 +36,19 @@ protected p a = not (isSet (p .addresses) (p .values) a)
 abbrev pub blockOf : ℕ → List ℕ → ℕ → Store
 blockOf z n b = record { at = z * b; bytes = take z (drop (z * b) n) }
 
--- does the address lie in block b
-abbrev pub inBlock : ℕ → ℕ → ℕ → Bool
-inBlock z b a = leb (z * b) a && ltb a (z * b + z)
-
--- does block b hold a byte to set
-abbrev pub touches : ℕ → List ℕ → List ℕ → ℕ → Bool
-touches z [] vs b = false
-touches z (x ∷ us) [] b = false
-touches z (x ∷ us) (v ∷ vs) b = inBlock z b x || touches z us vs b
-
 -- does block b of the tag i already hold its bytes of the image n
 abbrev pub isThere : ℕ → List ℕ → List ℕ → ℕ → Bool
 isThere z i n b = same (take z (drop (z * b) i)) (take z (drop (z * b) n))
 
--- is block b written between the guard block's two commands; one that holds no byte to set has all its new bytes
+-- is block b written between the guard block's two commands. One that holds no byte to set has all its new bytes, so there is no need
+-- to say that a block written is touched (the requirements' word)
 abbrev pub betweenBy : ℕ → ℕ → List ℕ → List ℕ → ℕ → Bool
 betweenBy z g i n b = not (eqb b g) && not (isThere z i n b)
 
 abbrev pub between : Plan → List ℕ → ℕ → Bool
 between p i b = betweenBy (p .block-size) (p .guard) i (newImage p i) b
 
--- the numbers of those of the k blocks from b on that the test picks, rising
-abbrev pub picked : (ℕ → Bool) → ℕ → ℕ → List ℕ
-picked t b zero = []
-picked t b (suc k) = cond (t b) (b ∷ picked t (suc b) k) (picked t (suc b) k)
-
--- those blocks, with their bytes from the image n
+-- those of the k blocks from b on that the test picks, rising, with their bytes from the image n
 unfoldable pub picks : (ℕ → Bool) → ℕ → List ℕ → ℕ → ℕ → List Store
 picks t z n b zero = []
 picks t z n b (suc k) = elim (t b) [ true ↦ blockOf z n b ∷ picks t z n (suc b) k | false ↦ picks t z n (suc b) k ]

@@ -4,4 +4,5 @@ pub mod Faults
 pub mod Held
 pub mod Judging
 pub mod Numbers
+pub mod Picked
 pub mod Flags

@@ -12,13 +12,12 @@ use lib.Seq.{getD-set-same, getD-set-other}
 use Rattle.tag.specs.Bytes.{byte, overlay}
 use Rattle.tag.specs.Reading.{Report, reads, nothing}
 use Rattle.tag.specs.Stores.{Store, Command}
-use Rattle.tag.specs.Plan.{inBlock}
 use Rattle.tag.specs.TagType.{TagType}
 use Rattle.tag.specs.Cuts.{Ready}
 use Rattle.tag.proofs.Logic.{true-false}
 use Rattle.tag.proofs.Addresses.{above-unset}
 use Rattle.tag.proofs.Guarded.{Cell, shut, old, fresh, Between}
-use Rattle.tag.proofs.Blocks.{block-of}
+use Rattle.tag.proofs.Blocks.{inBlock, block-of}
 use Rattle.tag.proofs.Writes.{shutImage, shut-either, Sound}
 use Rattle.tag.proofs.Laws.{Near}
 use Rattle.tlv_tag.specs.Message.{TlvTag, locate, capacityIn, reportOf, reading}

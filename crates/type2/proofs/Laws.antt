@@ -8,12 +8,12 @@ use native.Mathlib.Omega.{arith}
 use borrow.Author.Tests.{le-leb, lt-ltb}
 use lib.ListN.{length}
 use Rattle.tag.specs.Stores.{Store}
-use Rattle.tag.specs.Plan.{inBlock, list}
+use Rattle.tag.specs.Plan.{list}
 use Rattle.tag.specs.Cuts.{Ready}
 use Rattle.tag.proofs.Logic.{and-both}
 use Rattle.tag.proofs.Addresses.{Above}
 use Rattle.tag.proofs.Each.{Each, each-of}
-use Rattle.tag.proofs.Blocks.{in-block, block-of}
+use Rattle.tag.proofs.Blocks.{inBlock, in-block, block-of}
 use Rattle.tag.proofs.Sending.{Named, Sized, Nameable, list-good, touch-bounds}
 use Rattle.tag.proofs.Laws.{Laws, Sent}
 use Rattle.tlv_tag.specs.Message.{locate}

@@ -19,9 +19,6 @@ pub const SHORTEST_IMAGE: usize = 64;
 // How many bytes an image has at most.
 pub const LONGEST_IMAGE: usize = 1024;
 
-// How many blocks the longest image has.
-pub const MOST_BLOCKS: usize = LONGEST_IMAGE / BLOCK_SIZE;
-
 // The addresses of the container's four bytes, from here to ACCESS.
 pub const MAGIC: usize = 12;
 

@@ -12,11 +12,12 @@ use lib.ListN.{length, length-map}
 use Rattle.tag.specs.Bytes.{byte}
 use Rattle.tag.specs.Reading.{Reading, unreadable, reads}
 use Rattle.tag.specs.Stores.{Store}
-use Rattle.tag.specs.Plan.{touches, list}
+use Rattle.tag.specs.Plan.{list}
 use Rattle.tag.specs.Cuts.{Ready}
 use Rattle.tag.proofs.Logic.{and-r, and-both}
 use Rattle.tag.proofs.Each.{Each, each-map, each-of}
 use Rattle.tag.proofs.Blocks.{in-block}
+use Rattle.tag.proofs.There.{touches}
 use Rattle.tag.proofs.Writes.{Sound}
 use Rattle.tag.proofs.Sending.{blockNumber, Named, Sized, touch-bounds, Nameable, list-good}
 use Rattle.tag.proofs.Laws.{Sent, Near, Laws, ready-reads}

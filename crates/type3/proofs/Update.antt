@@ -13,12 +13,12 @@ use lib.Dec.{leb, eqb}
 use lib.ListN.{length, take, replicate, length-append, length-replicate}
 use Rattle.tag.specs.Bytes.{byte, run, isSet}
 use Rattle.tag.specs.Reading.{nothing, holds, heldOf}
-use Rattle.tag.specs.Plan.{newImage, protected, inBlock}
+use Rattle.tag.specs.Plan.{newImage, protected}
 use Rattle.tag.proofs.Logic.{or-cases, true-false}
 use Rattle.tag.proofs.Images.{length-overlay, overlay-out}
 use Rattle.tag.proofs.Addresses.{Above, above-unset, overlay-reads, above-run}
 use Rattle.tag.proofs.Runs.{length-run, take-run, map-run}
-use Rattle.tag.proofs.Blocks.{in-block}
+use Rattle.tag.proofs.Blocks.{inBlock, in-block}
 use Rattle.tag.proofs.Guarded.{Cell, shut, old, fresh, Between}
 use Rattle.tag.proofs.Writes.{shutImage, shut-either}
 use Rattle.type3.specs.AttributeInformation.{steadySum, nmaxbOf, capacity, attributeInformation}

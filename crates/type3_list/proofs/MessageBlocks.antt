@@ -10,7 +10,7 @@ use native.Mathlib.Decide.{decLe, decLt}
 use lib.ListN.{length, take, drop, replicate, length-append, length-take, length-drop, length-replicate, replicate-append-replicate}
 use lib.Seq.{sets, sets-eq, length-take-le, take-all, take-suc, take-at, drop-at, take-append-le, take-append-add, drop-append-le, getD-take, getD-drop}
 use Rattle.tag.specs.Bytes.{byte, same}
-use Rattle.tag.specs.Plan.{picked}
+use Rattle.tag.specs.Views.Picked.{picked}
 use Rattle.tag.proofs.Filling.{lay-more}
 use Rattle.tag.proofs.Picks.{pick-turn, picked-in, picked-rises}
 use Rattle.tag.proofs.Storing.{sets-front}

@@ -1,30 +1,30 @@
 -- How many bytes our list for a Type 6 tag takes: at most 256 · 35, on any tag. The container's blocks and the guard block are not
 -- written between the guard block's two commands, so there are at most 256 commands.
 -- Assumes nothing.
-use mathlib.Core.Path.{_≡_, refl, sym, ap}
-use mathlib.Core.Bool.{Bool, true, false, not, _&&_, cond}
+use mathlib.Core.Path.{_≡_, refl, sym}
+use mathlib.Core.Bool.{Bool, true, false, not, cond}
 use mathlib.Core.List.{List, [], _∷_, map}
 use Prim.Native.Nat.{ℕ, zero, suc, _+_, _-_, _*_, _/_, _<_, _≤_}
 use native.Mathlib.Nat.{mul-le-mul-left}
 use native.Mathlib.Omega.{arith}
 use native.Mathlib.Decide.{ℕ-discrete}
-use borrow.Author.Tests.{eq-eqb, not-true}
+use borrow.Author.Tests.{eq-eqb}
 use lib.Dec.{eqb}
 use lib.ListN.{length, length-append}
 use Rattle.tag.specs.Bytes.{byte}
 use Rattle.tag.specs.Stores.{Store}
-use Rattle.tag.specs.Plan.{newImage, touches, isThere, between, list, differing}
+use Rattle.tag.specs.Plan.{newImage, isThere, between, list, differing}
 use Rattle.tag.specs.TagType.{joined, listBytes}
 use Rattle.tag.specs.Cuts.{Ready}
 use Rattle.tag.proofs.Logic.{and-r}
 use Rattle.tag.proofs.Each.{Each, each-of}
 use Rattle.tag.proofs.Addresses.{above-run}
 use Rattle.tag.proofs.Blocks.{in-block}
-use Rattle.tag.proofs.There.{touched-new}
+use Rattle.tag.proofs.There.{touches, touched-new}
 use Rattle.tag.proofs.Sending.{touch-bounds}
 use Rattle.tag.proofs.Counts.{counted-above, length-list}
 use Rattle.tag.proofs.Laws.{Sent}
-use Rattle.type6.specs.Container.{blockSize, blockCount, fileBlock, fileAt}
+use Rattle.type6.specs.Container.{blockSize, fileBlock, fileAt}
 use Rattle.type6.specs.Update.{addresses, values, plan}
 use Rattle.type6.specs.Codec.{encoded}
 use Rattle.type6.specs.Type6.{type6}

@@ -12,17 +12,16 @@ use lib.ListN.{length}
 use Rattle.tag.specs.Bytes.{byte}
 use Rattle.tag.specs.Reading.{Reading, unreadable, reads}
 use Rattle.tag.specs.Stores.{Store}
-use Rattle.tag.specs.Plan.{inBlock, touches, list}
+use Rattle.tag.specs.Plan.{list}
 use Rattle.tag.specs.Cuts.{Ready}
-use Rattle.tag.proofs.Logic.{or-l, and-both}
+use Rattle.tag.proofs.Logic.{and-both}
 use Rattle.tag.proofs.Each.{Each, each-of}
-use Rattle.tag.proofs.Blocks.{in-block}
 use Rattle.tag.proofs.Writes.{Sound}
 use Rattle.tag.proofs.Sending.{Named, Sized, Nameable, list-good}
 use Rattle.tag.proofs.Laws.{Sent, Near, Laws, ready-reads}
-use Rattle.type6.specs.Container.{blockSize, blockCount, fileBlock, fileAt, capacity, mayWrite}
+use Rattle.type6.specs.Container.{blockSize, blockCount, fileAt, capacity, mayWrite}
 use Rattle.type6.specs.Message.{reading}
-use Rattle.type6.specs.Update.{blocksSuffice, addresses, values, plan}
+use Rattle.type6.specs.Update.{blocksSuffice, addresses, plan}
 use Rattle.type6.specs.Codec.{nameable}
 use Rattle.type6.specs.Type6.{commandBy, type6}
 use Rattle.type6.proofs.Codec.{Sendable, sent, length-sent}
@@ -70,10 +69,6 @@ module _ (i m : List ℕ) (r : Ready type6 i m) where
     quiet = λ j h. quiet i m j (ready-room .passes) (suffice-exactly i .0 (r .large-blocks)) h;
     new-reads = reads-new i m ready-room;
   }
-
-  -- the guard block is touched: it holds NLEN
-  pub guard-touched : touches (blockSize i) (addresses (fileAt i) m) (values m) (fileBlock i) ≡ true
-  guard-touched = or-l (inBlock (blockSize i) (fileBlock i) (fileAt i)) _ (in-block (blockSize i) (fileBlock i) (fileAt i) .1 (omega arith, omega (arith, known .some-size)))
 
   -- ---- its commands are well formed
 

@@ -13,12 +13,12 @@ use lib.Dec.{leb, ltb, eqb}
 use lib.ListN.{length, take, drop}
 use Rattle.tag.specs.Bytes.{byte, run, overlay, isSet}
 use Rattle.tag.specs.Reading.{nothing, holds, heldOf}
-use Rattle.tag.specs.Plan.{newImage, protected, inBlock}
+use Rattle.tag.specs.Plan.{newImage, protected}
 use Rattle.tag.proofs.Logic.{true-false}
 use Rattle.tag.proofs.Images.{length-overlay, overlay-out}
 use Rattle.tag.proofs.Addresses.{overlay-reads, above-run}
 use Rattle.tag.proofs.Runs.{length-run, take-run, map-run, run-set}
-use Rattle.tag.proofs.Blocks.{in-block}
+use Rattle.tag.proofs.Blocks.{inBlock, in-block}
 use Rattle.tag.proofs.Guarded.{Cell, shut, old, fresh, Between}
 use Rattle.tag.proofs.Writes.{shutImage, shut-either}
 use Rattle.type6.specs.Container.{blockSize, fileBlock, fileAt, fileRoom, capacity, nlenAt, nlen}

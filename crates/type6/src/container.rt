@@ -22,9 +22,6 @@ pub const LONGEST_IMAGE: usize = 8192;
 // How many bytes a block has at most.
 pub const LARGEST_BLOCK: usize = 32;
 
-// How many blocks a tag has at most.
-pub const MOST_BLOCKS: usize = 256;
-
 // The addresses of the container's bytes after the letters, from here to MAX_LEN.
 const VERSION: usize = 3;
 

@@ -8,7 +8,8 @@ use Prim.Native.Nat.{ℕ, _+_, _*_, _/_, _<_, _≤_}
 use lib.ListN.{length, take, drop}
 use Rattle.tag.specs.Bytes.{byte}
 use Rattle.tag.specs.Stores.{Store}
-use Rattle.tag.specs.Plan.{betweenBy, picked}
+use Rattle.tag.specs.Plan.{betweenBy}
+use Rattle.tag.specs.Views.Picked.{picked}
 use Rattle.tag.specs.TagType.{Output, fitted}
 
 -- the bytes of a command, and how many they are

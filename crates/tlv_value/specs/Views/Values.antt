@@ -1,6 +1,5 @@
 -- What the code does with the usable bytes from a walk's place on, as the definitions have it.
 -- Assumes nothing.
-use mathlib.Core.Path.{_≡_}
 use mathlib.Core.Bool.{Bool, not, cond}
 use mathlib.Core.List.{List}
 use Prim.Native.Nat.{ℕ, _<_, _≤_}

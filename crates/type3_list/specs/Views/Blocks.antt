@@ -5,7 +5,7 @@ use mathlib.Core.List.{List, [], _∷_, _++_}
 use Prim.Native.Nat.{ℕ, _+_, _-_, _*_, _<_, _≤_}
 use lib.ListN.{length, take, drop, replicate}
 use Rattle.tag.specs.Bytes.{byte, same}
-use Rattle.tag.specs.Plan.{picked}
+use Rattle.tag.specs.Views.Picked.{picked}
 use Rattle.type3.specs.Update.{blocksFor}
 
 -- the block at the start of a part of the message: its first sixteen bytes, 00h past its end

@@ -1,13 +1,12 @@
 -- `between::blocks_to_write` meets its contract. The loop keeps: the first n numbers are those of the blocks to write below b.
 -- Assumes nothing.
-use mathlib.Core.Path.{_≡_, refl, ap, subst, _∙_}
-use mathlib.Core.Bool.{cond}
-use mathlib.Core.List.{_∷_, [], _++_}
+use mathlib.Core.Path.{_≡_, refl, ap, _∙_}
 use Prim.Native.Nat.{_+_, _-_, _≤_}
 use native.Mathlib.Omega.{arith}
 use borrow.Author.Needs.{needs}
 use lib.ListN.{length, take}
-use Rattle.tag.specs.Plan.{betweenBy, picked}
+use Rattle.tag.specs.Plan.{betweenBy}
+use Rattle.tag.specs.Views.Picked.{picked}
 use Rattle.tag.proofs.Picks.{pick-turn}
 use Rattle.one_block_write.proofs.Laying.{block-inside}
 use Rattle.one_block_write.proofs.between.blocks_to_write.Statement.{statement}

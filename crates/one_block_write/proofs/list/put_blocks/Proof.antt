@@ -8,7 +8,6 @@ use native.Mathlib.Omega.{arith}
 use borrow.Author.Needs.{needs}
 use lib.ListN.{length, take, drop, length-take, length-drop}
 use lib.Seq.{take-all}
-use Rattle.tag.specs.Bytes.{byte}
 use Rattle.one_block_write.specs.Views.Listing.{commandLength, blockBytes, blocksBytes}
 use Rattle.one_block_write.proofs.Laying.{product-short, block-inside, block-next}
 use Rattle.one_block_write.proofs.list.put_blocks.Statement.{statement}

@@ -5,12 +5,11 @@ use Prim.Native.Nat.{_+_, _-_, _*_, _/_, _<_, _≤_}
 use native.Mathlib.Omega.{arith}
 use borrow.Author.Needs.{needs}
 use lib.ListN.{length, take, drop}
-use lib.Seq.{length-take-le}
 use Rattle.tag.specs.Bytes.{byte}
 use Rattle.tag.specs.TagType.{outputInto}
 use Rattle.tag.specs.Answers.{gives, countOf}
 use Rattle.tag.proofs.Filling.{third-room, three-laid}
-use Rattle.one_block_write.specs.Views.Listing.{commandLength, blockBytes, blocksBytes, shutCommand, shutLength, chosen, guardedBytes, BlocksAsked}
+use Rattle.one_block_write.specs.Views.Listing.{commandLength, blockBytes, blocksBytes, shutCommand, shutLength, chosen, guardedBytes}
 use Rattle.one_block_write.proofs.Guarding.{guard-inside, chosen-inside, length-shut, length-middle, Counted, counted, guarded-short, guarded-fits, guarded-end}
 use Rattle.one_block_write.proofs.list.put_list.Statement.{statement}
 use Rattle.one_block_write.proofs.list.put_list.Tie as tie

@@ -5,7 +5,7 @@ use mathlib.Core.List.{_++_}
 use Prim.Native.Nat.{_≤_}
 use borrow.Author.Needs.{needs}
 use lib.ListN.{length, drop}
-use Rattle.one_block_write.specs.Views.Listing.{commandLength, shutCommand, shutLength}
+use Rattle.one_block_write.specs.Views.Listing.{shutCommand, shutLength}
 use Rattle.one_block_write.proofs.list.put_shut.Statement.{statement}
 use Rattle.one_block_write.proofs.list.put_shut.Tie as tie
 

@@ -5,7 +5,7 @@ use Prim.Native.Nat.{_+_, _-_, _*_, _≤_}
 use native.Mathlib.Omega.{arith}
 use borrow.Author.Needs.{needs}
 use lib.ListN.{length, take, drop}
-use Rattle.tag.specs.Plan.{picked}
+use Rattle.tag.specs.Views.Picked.{picked}
 use Rattle.type3.specs.Update.{blocksFor}
 use Rattle.type3_list.specs.Views.Blocks.{filled, messageBlock, isChanged}
 use Rattle.type3_list.proofs.MessageBlocks.{part-filled, changed-next}
