@@ -1,5 +1,5 @@
 -- What a list leaves out: the first command, and every other block, exactly if storing it would change nothing. For the first command
--- 02 names a condition for each type, and on every tag that reads it says just this.
+-- 02 names a condition for each type, and on every tag that reads it says just this. So every command but the last changes the tag.
 -- Assumes nothing.
 use mathlib.Core.Path.{_≡_, refl, sym, ap, _∙_}
 use mathlib.Core.Bool.{Bool, true, false, not}
@@ -11,18 +11,19 @@ use native.Mathlib.Omega.{arith}
 use native.Mathlib.Decide.{ℕ-discrete, decLe}
 use borrow.Author.Tests.{eqb-true, eq-eqb, ne-eqb}
 use lib.Dec.{eqb}
-use lib.ListN.{length, set, length-set}
+use lib.ListN.{length, set, length-map, length-set}
 use lib.Seq.{getD-set-same, getD-set-other}
 use Rattle.tag.specs.Bytes.{byte}
 use Rattle.tag.specs.Reading.{Report, reads}
-use Rattle.tag.specs.Stores.{put}
-use Rattle.tag.specs.Plan.{Plan, newImage, blockOf, isThere, between, firstStore}
-use Rattle.tag.specs.TagType.{TagType}
+use Rattle.tag.specs.Stores.{stores, put}
+use Rattle.tag.specs.Plan.{Plan, newImage, blockOf, isThere, between, firstStore, list}
+use Rattle.tag.specs.TagType.{TagType, commands}
 use Rattle.tag.specs.Cuts.{Ready}
 use Rattle.tag.proofs.Logic.{true-false}
 use Rattle.tag.proofs.Images.{length-overlay}
 use Rattle.tag.proofs.Blocks.{inBlock, in-block, block-of}
 use Rattle.tag.proofs.There.{there-new, new-there, unchanged}
+use Rattle.tag.proofs.Changing.{list-changes}
 use Rattle.tag.proofs.Laws.{Laws, reads-held}
 use Rattle.tlv_tag.specs.Message.{locate}
 use Rattle.tlv_tag.specs.Update as update2
@@ -44,7 +45,9 @@ use Rattle.type6.specs.Update as update6
 use Rattle.type6.proofs.Message as message6
 use Rattle.type6.proofs.Update as written6
 use Rattle.type6.proofs.Laws.{high-zero, type6-laws}
+use Rattle.demands.specs.Demand3.{cutOf, ourBytes}
 use Rattle.demands.specs.Demand2.{Octets, LeftOut}
+use Rattle.demands.proofs.Demand3.{our-commands}
 use Rattle.demands.proofs.Octets.{octets-byte}
 
 -- ---- every other block, for every type
@@ -189,13 +192,29 @@ first-6 i m p e o = by-bytes (update6.plan i m) i (written6.closed-length (fileA
         high (yes l) = sym (h (suc (fileAt i)) (in-block (blockSize i) (fileBlock i) (suc (fileAt i)) .1 (omega arith, omega arith))) ∙ zeros .1
         high (no n) = high-zero i c (omega (arith, known .some-size, n))
 
--- ---- both
+-- ---- every command but the last changes the tag
+
+module _ (T : TagType) (L : Laws T)
+    (first-exactly : (i m : List ℕ) (p : Report) → (T .reading) i ≡ reads p → Octets i → ((T .plan) i m .is-shut ≡ true) ↔ (put i (firstStore ((T .plan) i m)) ≡ i)) where
+  none-idle : (i m : List ℕ) → Ready T i m → Octets i → (k : ℕ) → suc k < length (commands T i (ourBytes T i m))
+      → cutOf T i (ourBytes T i m) (suc k) ≡ cutOf T i (ourBytes T i m) k → ⊥
+  none-idle i m r o k l e =
+      let p = (T .plan) i m in
+      let ours = our-commands T L i m r in
+      list-changes p i (L .sound i m r .blockwise) (λ q u. true-false (first-exactly i m (r .report) (r .reads-as) o .1 u) q) k
+      (omega (arith, ap length ours, length-map (list p i) stores)) (rw ours at e)
+
+-- ---- all three
 
 pub left-out-2 : LeftOut type2
-left-out-2 = record { first = first-2; others = other-block type2 type2-laws }
+left-out-2 = record { first = first-2; others = other-block type2 type2-laws; changes = none-idle type2 type2-laws first-2 }
 
 pub left-out-3 : (idm : List ℕ) → length idm ≡ 8 → LeftOut (type3 idm)
-left-out-3 idm eight = record { first = first-3 idm; others = other-block (type3 idm) (type3-laws idm eight) }
+left-out-3 idm eight = record {
+  first = first-3 idm;
+  others = other-block (type3 idm) (type3-laws idm eight);
+  changes = none-idle (type3 idm) (type3-laws idm eight) (first-3 idm);
+}
 
 pub left-out-6 : LeftOut type6
-left-out-6 = record { first = first-6; others = other-block type6 type6-laws }
+left-out-6 = record { first = first-6; others = other-block type6 type6-laws; changes = none-idle type6 type6-laws first-6 }

@@ -6,7 +6,7 @@ use mathlib.Core.Path.{_≡_}
 use mathlib.Core.Bool.{true, false}
 use mathlib.Core.Logic.{_⊎_, _↔_}
 use mathlib.Core.List.{List, [], _∷_}
-use Prim.Native.Nat.{ℕ, _+_, _*_, _/_, _<_, _≤_}
+use Prim.Native.Nat.{ℕ, suc, _+_, _*_, _/_, _<_, _≤_}
 use lib.ListN.{length, take}
 use Rattle.tag.specs.Bytes.{byte, has}
 use Rattle.tag.specs.Refusals.{message-too-long, block-too-small}
@@ -163,6 +163,9 @@ pub record LeftOut (T : TagType) : Type 0 where
   -- and so is every other block: it is not written exactly if storing its new bytes would change nothing
   pub others : (i m : List ℕ) → Ready T i m → (b : ℕ) → b < length i / (T .plan) i m .block-size → (b ≡ (T .plan) i m .guard → ⊥)
       → (between ((T .plan) i m) i b ≡ false) ↔ (put i (blockOf ((T .plan) i m .block-size) (newImage ((T .plan) i m) i) b) ≡ i)
+  -- so no command of our list but the last leaves the tag as it was
+  pub changes : (i m : List ℕ) → Ready T i m → Octets i → (k : ℕ) → suc k < length (commands T i (ourBytes T i m))
+      → cutOf T i (ourBytes T i m) (suc k) ≡ cutOf T i (ourBytes T i m) k → ⊥
 
 -- ---- the bytes of a list
 

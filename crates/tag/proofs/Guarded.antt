@@ -43,7 +43,7 @@ put-cases n j s a p l = go (decLe (s .at) a) (decLt a (s .at + length (s .bytes)
         inl ((q, r), rw e at h)
 
 -- a command's stores, one command after another
-abbrev runs : List ℕ → List (List Store) → List ℕ
+abbrev pub runs : List ℕ → List (List Store) → List ℕ
 runs j [] = j
 runs j (ss ∷ sss) = runs (puts j ss) sss
 

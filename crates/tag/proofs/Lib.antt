@@ -17,6 +17,7 @@ pub mod Runs
 pub mod Sending
 pub mod Picks
 pub mod Counts
+pub mod Changing
 pub mod Pieces
 pub mod Turns
 pub mod Laws
