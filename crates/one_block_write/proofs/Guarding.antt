@@ -12,6 +12,7 @@ use Rattle.tag.specs.Bytes.{byte}
 use Rattle.tag.specs.Plan.{betweenBy}
 use Rattle.tag.specs.Views.Picked.{picked}
 use Rattle.tag.specs.TagType.{refused-output, output}
+use Rattle.tag.proofs.Logic.{one-at-most}
 use Rattle.tag.proofs.Picks.{picked-in}
 use Rattle.one_block_write.specs.Views.Listing.{commandLength, blockBytes, blocksBytes, shutCommand, shutLength, chosen, guardedBytes, guardedOutput, Listed}
 use Rattle.one_block_write.proofs.Laying.{product-short, block-inside, length-command, length-block, length-blocks}
@@ -67,12 +68,8 @@ module _ (front : List ℕ) (z : ℕ) (i new : List ℕ) (g : ℕ) (shut : List 
       many : length (chosen z i new g) ≡ n
       many = sym (ap length are) ∙ length-take-le n blocks (omega (arith, h .few))
 
-      shut-most : (c : Bool) → cond c 0 1 ≤ 1
-      shut-most true = omega arith
-      shut-most false = omega arith
-
       small : u + n + 1 ≤ 258
-      small = omega (arith, h .few, shut-most is-shut)
+      small = omega (arith, h .few, one-at-most is-shut .1)
 
   module _ (is-shut : Bool) where
     length-guarded : length (guardedBytes front z new (chosen z i new g) g shut is-shut) ≡ commandLength front z * (cond is-shut 0 1 + length (chosen z i new g) + 1)

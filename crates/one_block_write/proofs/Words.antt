@@ -10,7 +10,7 @@ use lib.Dec.{eqb}
 use lib.ListN.{length}
 use Rattle.tag.specs.Bytes.{byte, same}
 use Rattle.tag.proofs.Runs.{bytes-of}
-use Rattle.tag.proofs.There.{same-is, is-same}
+use Rattle.tag.proofs.Logic.{same-eq, same-refl}
 use Rattle.one_block_write.specs.Views.Between.{wordOf}
 
 digit : (x y r s : ℕ) → x < 256 → y < 256 → x + 256 * r ≡ y + 256 * s → (x ≡ y) × (r ≡ s)
@@ -22,11 +22,11 @@ words-same a b e f p q = go (eqb (wordOf a) (wordOf b)) refl (same a b) refl
   where
     go : (c : Bool) → eqb (wordOf a) (wordOf b) ≡ c → (d : Bool) → same a b ≡ d → eqb (wordOf a) (wordOf b) ≡ same a b
     go false u false v = u ∙ sym v
-    go false u true v = absurd (eqb-false (wordOf a) (wordOf b) u (ap wordOf (same-is a b v)))
+    go false u true v = absurd (eqb-false (wordOf a) (wordOf b) u (ap wordOf (same-eq a b v)))
     go true u d v =
         let w : wordOf a ≡ wordOf b = eqb-true (wordOf a) (wordOf b) u in
         let (e0, r0) = digit (byte a 0) (byte b 0) (byte a 1 + 256 * (byte a 2 + 256 * byte a 3)) (byte b 1 + 256 * (byte b 2 + 256 * byte b 3)) (p 0) (q 0) (omega (arith, w)) in
         let (e1, r1) = digit (byte a 1) (byte b 1) (byte a 2 + 256 * byte a 3) (byte b 2 + 256 * byte b 3) (p 1) (q 1) r0 in
         let (e2, e3) = digit (byte a 2) (byte b 2) (byte a 3) (byte b 3) (p 2) (q 2) r1 in
         let all : a ≡ b = sym (bytes-of a 4 e) ∙ cc (e0, e1, e2, e3) ∙ bytes-of b 4 f in
-        u ∙ sym (ap (same a) (sym all) ∙ is-same a)
+        u ∙ sym (ap (same a) (sym all) ∙ same-refl a)

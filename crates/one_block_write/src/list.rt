@@ -1,5 +1,5 @@
-// The list of write commands: the guard block shut, then the other blocks that change, rising, then the guard block with all its new
-// bytes.
+// The list of write commands: the guard block shut, unless it is shut already; then the other blocks that change, rising; then the
+// guard block with all its new bytes.
 //
 // A type of tag passes in what is particular to it. A command is the bytes of `front`, the block's number, and the `size` bytes of
 // the block.

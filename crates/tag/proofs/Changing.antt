@@ -3,7 +3,7 @@
 -- Assumes nothing.
 use mathlib.Core.Path.{_≡_, refl, sym, ap, _∙_}
 use mathlib.Core.Bool.{Bool, true, false, not}
-use mathlib.Core.Logic.{⊎-elim}
+use mathlib.Core.Logic.{inl, inr, ⊎-elim}
 use mathlib.Core.List.{List, [], _∷_, _++_, map, map-append}
 use Prim.Native.Nat.{ℕ, zero, suc, _+_, _-_, _*_, _/_, _<_, _≤_}
 use native.Mathlib.Nat.{mul-le-mul-left}
@@ -17,9 +17,10 @@ use Rattle.tag.specs.Stores.{Store, Command, stores, put, puts, cut}
 use Rattle.tag.specs.Plan.{Plan, newImage, blockOf, isThere, between, picks, chunk, firstStore, lastStore, middle, list}
 use Rattle.tag.specs.Views.Picked.{picked}
 use Rattle.tag.proofs.Logic.{and-l, and-r, true-false}
+use Rattle.tag.proofs.Each.{Each}
 use Rattle.tag.proofs.Images.{length-overlay}
 use Rattle.tag.proofs.Runs.{map-take}
-use Rattle.tag.proofs.Guarded.{runs, put-cases}
+use Rattle.tag.proofs.Guarded.{PartOf, put-cases, runs, Some, new-puts}
 use Rattle.tag.proofs.Chunks.{rounded-up, length-chunk}
 use Rattle.tag.proofs.Blocks.{inBlock, Blockwise, in-block, one-block, block-part, block-in}
 use Rattle.tag.proofs.Picks.{picked-in, picked-rises, picks-picked}
@@ -47,22 +48,18 @@ module _ (z : ℕ) (n : List ℕ) where
       ∙ ⊎-elim (λ c. absurd (h 0 (omega arith) (block-in z n b a (r 0 (omega arith)) .0 (c .0)))) (λ c. c .1)
       (put-cases n j (blockOf z n b) a (block-part z n b (r 0 (omega arith))) l)
 
-  -- once it is new it stays new
-  stays : (bs j : List ℕ) (a : ℕ) → a < length j → Inside bs → byte j a ≡ byte n a → byte (puts j (blocks bs)) a ≡ byte n a
-  stays [] j a l r e = e
-  stays (b ∷ bs) j a l r e =
-      stays bs (put j (blockOf z n b)) a (omega (arith, stored-length j b)) (λ k u. r (suc k) (omega arith))
-      (⊎-elim (λ c. c .1) (λ c. c .1 ∙ e) (put-cases n j (blockOf z n b) a (block-part z n b (r 0 (omega arith))) l))
-
   -- inside one of them it is new
+  parts : (bs : List ℕ) → Inside bs → Each (PartOf n) (blocks bs)
+  parts [] r = tt
+  parts (b ∷ bs) r = (block-part z n b (r 0 (omega arith)), parts bs (λ k u. r (suc k) (omega arith)))
+
+  some : (bs : List ℕ) (a k : ℕ) → Inside bs → k < length bs → inBlock z (byte bs k) a ≡ true → Some a (blocks bs)
+  some [] a k r h e = absurd (omega arith)
+  some (b ∷ bs) a zero r h e = inl (block-in z n b a (r 0 (omega arith)) .1 e)
+  some (b ∷ bs) a (suc k) r h e = inr (some bs a k (λ k u. r (suc k) (omega arith)) (omega arith) e)
+
   within : (bs j : List ℕ) (a k : ℕ) → a < length j → Inside bs → k < length bs → inBlock z (byte bs k) a ≡ true → byte (puts j (blocks bs)) a ≡ byte n a
-  within [] j a k l r h e = absurd (omega arith)
-  within (b ∷ bs) j a zero l r h e =
-      stays bs (put j (blockOf z n b)) a (omega (arith, stored-length j b)) (λ k u. r (suc k) (omega arith))
-      (⊎-elim (λ c. c .1) (λ c. absurd (c .0 (block-in z n b a (r 0 (omega arith)) .1 e)))
-      (put-cases n j (blockOf z n b) a (block-part z n b (r 0 (omega arith))) l))
-  within (b ∷ bs) j a (suc k) l r h e =
-      within bs (put j (blockOf z n b)) a k (omega (arith, stored-length j b)) (λ k u. r (suc k) (omega arith)) (omega arith) e
+  within bs j a k l r h e = new-puts n (blocks bs) j a l (parts bs r) (inl (some bs a k r h e))
 
 -- ---- the tag after some of the commands
 

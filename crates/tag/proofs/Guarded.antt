@@ -17,7 +17,7 @@ use Rattle.tag.specs.Reading.{broken, nothing, holds}
 use Rattle.tag.specs.Stores.{Store, Command, stores, put, puts, cut}
 use Rattle.tag.specs.Judge.{Task, accepted, judge}
 use Rattle.tag.specs.Cuts.{Safe, as-none, as-new, Kept, Left}
-use Rattle.tag.proofs.Each.{Each}
+use Rattle.tag.proofs.Each.{Each, each-of}
 use Rattle.tag.proofs.Images.{sets-below, sets-above, sets-at, length-puts}
 use Rattle.tag.proofs.Judge.{judge-ends, judge-goes, start-safe}
 
@@ -42,6 +42,10 @@ put-cases n j s a p l = go (decLe (s .at) a) (decLt a (s .at + length (s .bytes)
         = sets-at (s .bytes) j (s .at) (a - s .at) (omega arith) (omega arith) ∙ p (a - s .at) (omega arith) in
         inl ((q, r), rw e at h)
 
+-- a byte that is new stays new
+new-put : (n j : List ℕ) (s : Store) (a : ℕ) → a < length j → PartOf n s → (In s a) ⊎ (byte j a ≡ byte n a) → byte (put j s) a ≡ byte n a
+new-put n j s a l p h = ⊎-elim (λ c. c .1) (λ c. c .1 ∙ ⊎-elim (λ i. absurd (c .0 i)) (λ e. e) h) (put-cases n j s a p l)
+
 -- a command's stores, one command after another
 abbrev pub runs : List ℕ → List (List Store) → List ℕ
 runs j [] = j
@@ -53,6 +57,15 @@ Eaches P sss = Each (Each P) sss
 abbrev pub Some : ℕ → List Store → Type 0
 Some a [] = ⊥
 Some a (s ∷ ss) = In s a ⊎ Some a ss
+
+pub new-puts : (n : List ℕ) (ss : List Store) (j : List ℕ) (a : ℕ) → a < length j → Each (PartOf n) ss → (Some a ss) ⊎ (byte j a ≡ byte n a) → byte (puts j ss) a ≡ byte n a
+new-puts n [] j a l p (inr e) = e
+new-puts n (s ∷ ss) j a l p h = new-puts n ss (put j s) a (omega (arith, length-sets j (s .at) (s .bytes))) (p .1) (go h)
+  where
+    go : (In s a ⊎ Some a ss) ⊎ (byte j a ≡ byte n a) → Some a ss ⊎ (byte (put j s) a ≡ byte n a)
+    go (inl (inl i)) = inr (new-put n j s a l (p .0) (inl i))
+    go (inl (inr i)) = inl i
+    go (inr e) = inr (new-put n j s a l (p .0) (inr e))
 
 abbrev pub Somes : ℕ → List (List Store) → Type 0
 Somes a [] = ⊥
@@ -116,27 +129,17 @@ module _ (t : Task) (g : Guard t) where
       go (old x y) = y
       go (fresh x y) = y ∙ g .new-kept a l q
 
-  -- a byte that is new stays new
-  new-put : (j : List ℕ) (s : Store) (a : ℕ) → a < length j → Beside s → (In s a) ⊎ (byte j a ≡ byte (g .new) a) → byte (put j s) a ≡ byte (g .new) a
-  new-put j s a l p h = ⊎-elim (λ c. c .1) (λ c. c .1 ∙ ⊎-elim (λ i. absurd (c .0 i)) (λ e. e) h) (put-cases (g .new) j s a (p .part-of) l)
-
-  new-puts : (ss : List Store) (j : List ℕ) (a : ℕ) → a < length j → Each Beside ss → (Some a ss) ⊎ (byte j a ≡ byte (g .new) a) → byte (puts j ss) a ≡ byte (g .new) a
-  new-puts [] j a l p (inr e) = e
-  new-puts (s ∷ ss) j a l p h = new-puts ss (put j s) a (omega (arith, length-sets j (s .at) (s .bytes))) (p .1) (go h)
-    where
-      go : (In s a ⊎ Some a ss) ⊎ (byte j a ≡ byte (g .new) a) → Some a ss ⊎ (byte (put j s) a ≡ byte (g .new) a)
-      go (inl (inl i)) = inr (new-put j s a l (p .0) (inl i))
-      go (inl (inr i)) = inl i
-      go (inr e) = inr (new-put j s a l (p .0) (inr e))
-
   new-runs : (sss : List (List Store)) (j : List ℕ) (a : ℕ) → a < length j → Eaches Beside sss → (Somes a sss) ⊎ (byte j a ≡ byte (g .new) a) → byte (runs j sss) a ≡ byte (g .new) a
   new-runs [] j a l p (inr e) = e
   new-runs (ss ∷ sss) j a l p h = new-runs sss (puts j ss) a (omega (arith, length-puts ss j)) (p .1) (go h)
     where
+      parts : Each (PartOf (g .new)) ss
+      parts = each-of Beside (PartOf (g .new)) ss (λ s b. b .part-of) (p .0)
+
       go : (Some a ss ⊎ Somes a sss) ⊎ (byte j a ≡ byte (g .new) a) → Somes a sss ⊎ (byte (puts j ss) a ≡ byte (g .new) a)
-      go (inl (inl i)) = inr (new-puts ss j a l (p .0) (inl i))
+      go (inl (inl i)) = inr (new-puts (g .new) ss j a l parts (inl i))
       go (inl (inr i)) = inl i
-      go (inr e) = inr (new-puts ss j a l (p .0) (inr e))
+      go (inr e) = inr (new-puts (g .new) ss j a l parts (inr e))
 
   -- every tag that a command outside the guard block may leave still has its guard block shut
   btw-left : (ss : List Store) (j x : List ℕ) → Btw j → Each Beside ss → Left j (stores ss) x → Btw x

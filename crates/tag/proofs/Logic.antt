@@ -1,7 +1,7 @@
 -- What a test's result says: for conjunctions, disjunctions, equal lists, and lengths in whole blocks.
 -- Assumes nothing.
 use mathlib.Core.Path.{_≡_, refl, sym, _∙_}
-use mathlib.Core.Bool.{Bool, true, false, _&&_, _||_, true≢false, false≢true}
+use mathlib.Core.Bool.{Bool, true, false, _&&_, _||_, cond, true≢false, false≢true}
 use mathlib.Core.Logic.{_⊎_, inl, inr}
 use mathlib.Core.List.{List, [], _∷_}
 use Prim.Native.Nat.{ℕ, _%_, _≤_}
@@ -44,6 +44,11 @@ same-eq (x ∷ xs) (y ∷ ys) e = cc (eqb-true x y (and-l (eqb x y) (same xs ys)
 pub same-refl : (x : List ℕ) → same x x ≡ true
 same-refl [] = refl
 same-refl (x ∷ xs) = and-both (eq-eqb x x refl) (same-refl xs)
+
+-- a test counts for at most one
+pub one-at-most : (c : Bool) → (cond c 1 0 ≤ 1) × (cond c 0 1 ≤ 1)
+one-at-most true = (omega arith, omega arith)
+one-at-most false = (omega arith, omega arith)
 
 -- a length in whole blocks of z, from the least to the most
 pub lengths : (z least most n : ℕ) → eqb (n % z) 0 && leb least n && leb n most ≡ true → (n % z ≡ 0) × (least ≤ n) × (n ≤ most)

@@ -8,6 +8,7 @@ use native.Mathlib.Omega.{arith}
 use lib.ListN.{length, getD, take}
 use Rattle.tag.specs.Plan.{blockOf, picks, counted}
 use Rattle.tag.specs.Views.Picked.{picked}
+use Rattle.tag.proofs.Logic.{one-at-most}
 
 -- ---- by number
 
@@ -37,13 +38,9 @@ module _ (t : ℕ → Bool) where
   pub pick-turn : (k b n r : ℕ) (w : Bool) (before after : List ℕ) → w ≡ t (b + k) → n ≤ k → r ≡ n + cond w 1 0 → take n before ≡ picked t b k
       → take r after ≡ take n before ++ cond w ((b + k) ∷ []) [] → (r ≤ k + 1) × (take r after ≡ picked t b (k + 1))
   pick-turn k b n r w before after e l m p q = (
-    omega (arith, most w),
+    omega (arith, one-at-most w .0),
     q ∙ ap (λ x. x ++ cond w ((b + k) ∷ []) []) p ∙ ap (λ c. picked t b k ++ cond c ((b + k) ∷ []) []) e ∙ sym (picked-next k b),
   )
-    where
-      most : (c : Bool) → cond c 1 0 ≤ 1
-      most true = omega arith
-      most false = omega arith
 
   -- what is picked lies in the range and passes the test
   pub picked-in : (k b j : ℕ) → j < length (picked t b k)

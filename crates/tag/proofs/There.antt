@@ -7,29 +7,17 @@ use mathlib.Core.Logic.{_⊎_, _↔_, ⊎-elim}
 use mathlib.Core.List.{List, [], _∷_}
 use Prim.Native.Nat.{ℕ, _+_, _-_, _*_, _<_, _≤_}
 use native.Mathlib.Omega.{arith}
-use borrow.Author.Tests.{eqb-true, eq-eqb, not-true}
+use borrow.Author.Tests.{eqb-true, not-true}
 use lib.Dec.{eqb}
 use lib.ListN.{length, getD, take, drop, length-take, length-drop}
 use lib.Seq.{getD-take, getD-drop, length-sets, ext-getD}
 use Rattle.tag.specs.Bytes.{byte, overlay, isSet, same}
 use Rattle.tag.specs.Stores.{put}
 use Rattle.tag.specs.Plan.{blockOf, isThere}
-use Rattle.tag.proofs.Logic.{and-l, and-r, or-l, or-r, or-cases, true-false}
+use Rattle.tag.proofs.Logic.{or-l, or-r, or-cases, same-eq, same-refl, true-false}
 use Rattle.tag.proofs.Images.{length-overlay, overlay-out}
 use Rattle.tag.proofs.Guarded.{put-cases}
 use Rattle.tag.proofs.Blocks.{inBlock, in-block, block-part, block-in}
-
--- ---- lists of bytes that are the same
-
-pub same-is : (x y : List ℕ) → same x y ≡ true → x ≡ y
-same-is [] [] h = refl
-same-is [] (b ∷ y) h = absurd (false≢true h)
-same-is (a ∷ x) [] h = absurd (false≢true h)
-same-is (a ∷ x) (b ∷ y) h = cc (eqb-true a b (and-l (eqb a b) (same x y) h), same-is x y (and-r (eqb a b) (same x y) h))
-
-pub is-same : (x : List ℕ) → same x x ≡ true
-is-same [] = refl
-is-same (a ∷ x) = rw (eq-eqb a a refl) (is-same x)
 
 -- ---- blocks
 
@@ -42,11 +30,11 @@ module _ (z b : ℕ) where
 
   -- a block that is there has its new bytes
   pub there-new : (i n : List ℕ) → isThere z i n b ≡ true → (a : ℕ) → inBlock z b a ≡ true → byte i a ≡ byte n a
-  there-new i n h a l = sym (byte-of i a l) ∙ ap (λ x. getD x (a - z * b) 0) (same-is (take z (drop (z * b) i)) (take z (drop (z * b) n)) h) ∙ byte-of n a l
+  there-new i n h a l = sym (byte-of i a l) ∙ ap (λ x. getD x (a - z * b) 0) (same-eq (take z (drop (z * b) i)) (take z (drop (z * b) n)) h) ∙ byte-of n a l
 
   -- and a block that has its new bytes is there
   pub new-there : (i n : List ℕ) → length n ≡ length i → ((a : ℕ) → inBlock z b a ≡ true → byte i a ≡ byte n a) → isThere z i n b ≡ true
-  new-there i n e h = ap (same (take z (drop (z * b) i))) (sym equal) ∙ is-same (take z (drop (z * b) i))
+  new-there i n e h = ap (same (take z (drop (z * b) i))) (sym equal) ∙ same-refl (take z (drop (z * b) i))
     where
       lengths : length (take z (drop (z * b) i)) ≡ length (take z (drop (z * b) n))
       lengths =

@@ -76,12 +76,7 @@ module _ (idm i m : List ℕ) (ln : ℕ) (is-shut : Bool) (w t : ℕ) (bs : List
 
 -- ---- the list's length as the code tests it
 
--- block 0 has one command or two
-pub guards-most : (c : Bool) → cond c 0 1 ≤ 1
-guards-most true = omega arith
-guards-most false = omega arith
-
--- those have 31 bytes each
+-- block 0's commands have 31 bytes each
 pub list-length : (c : Bool) (t k : ℕ) → 31 * (cond c 0 1 + 1) + (13 * t + 18 * k) ≡ listLength c t k
 list-length true t k = omega arith
 list-length false t k = omega arith

@@ -2,7 +2,7 @@
 -- written between the guard block's two commands, so there are at most 256 commands.
 -- Assumes nothing.
 use mathlib.Core.Path.{_≡_, refl, sym}
-use mathlib.Core.Bool.{Bool, true, false, not, cond}
+use mathlib.Core.Bool.{Bool, true, false, not}
 use mathlib.Core.List.{List, [], _∷_, map}
 use Prim.Native.Nat.{ℕ, zero, suc, _+_, _-_, _*_, _/_, _<_, _≤_}
 use native.Mathlib.Nat.{mul-le-mul-left}
@@ -16,7 +16,7 @@ use Rattle.tag.specs.Stores.{Store}
 use Rattle.tag.specs.Plan.{newImage, isThere, between, list, differing}
 use Rattle.tag.specs.TagType.{joined, listBytes}
 use Rattle.tag.specs.Cuts.{Ready}
-use Rattle.tag.proofs.Logic.{and-r}
+use Rattle.tag.proofs.Logic.{and-r, one-at-most}
 use Rattle.tag.proofs.Each.{Each, each-of}
 use Rattle.tag.proofs.Addresses.{above-run}
 use Rattle.tag.proofs.Blocks.{in-block}
@@ -66,11 +66,7 @@ module _ (i m : List ℕ) (r : Ready type6 i m) where
   few-commands =
       let few : differing (plan i m) i ≤ 0 + length i / blockSize i - suc (fileBlock i)
       = counted-above (between (plan i m) i) (length i / blockSize i) 0 (suc (fileBlock i)) not-between in
-      omega (arith, length-list (plan i m) i, first-most (plan i m .is-shut), few, some-container, known .blocks-are, known .guard-inside)
-    where
-      first-most : (c : Bool) → cond c 0 1 ≤ 1
-      first-most true = omega arith
-      first-most false = omega arith
+      omega (arith, length-list (plan i m) i, one-at-most (plan i m .is-shut) .1, few, some-container, known .blocks-are, known .guard-inside)
 
 -- ---- the bytes of the list
 

@@ -10,13 +10,14 @@ use lib.Seq.{length-take-le}
 use Rattle.tag.specs.Bytes.{byte}
 use Rattle.tag.specs.TagType.{written, writing, outputInto}
 use Rattle.tag.specs.Answers.{gives, countOf}
+use Rattle.tag.proofs.Logic.{one-at-most}
 use Rattle.type3.specs.Update.{blocksFor, blocksPerCommand, plan}
 use Rattle.type3.specs.Type3.{type3}
 use Rattle.type3.proofs.Deciding.{writing-refused, writing-planned}
 use Rattle.type3_list.specs.Views.Blocks.{Chosen}
 use Rattle.type3_list.specs.Views.Listing.{listLength, Dealt}
 use Rattle.type3_list.proofs.MessageBlocks.{changed-chosen}
-use Rattle.type3_write.proofs.Writing.{write-refused, planned-bounds, Planned, write-short, write-list, write-laid, guards-most, list-length}
+use Rattle.type3_write.proofs.Writing.{write-refused, planned-bounds, Planned, write-short, write-list, write-laid, list-length}
 use Rattle.type3_write.proofs.write.write_to.Statement.{statement}
 use Rattle.type3_write.proofs.write.write_to.Tie as tie
 
@@ -116,7 +117,7 @@ tested c =
     omega (arith, c .one-unless .ensures, length-changed at-turns-for, sum)
 
 guards : (c : tie.After-one-unless) → c .one-unless .result ≤ 1
-guards c = omega (arith, c .one-unless .ensures, guards-most (at-start (c .before) .args .a .busy))
+guards c = omega (arith, c .one-unless .ensures, one-at-most (at-start (c .before) .args .a .busy) .1)
 
 returns-2 : tie.Need-returns-2
 returns-2 c =
