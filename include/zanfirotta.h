@@ -1,7 +1,8 @@
 /*
  * The C interface of Zanfirotta, which reads and writes NFC Type 2, Type 3 and Type 6 tag images so
- * that a write that breaks off leaves the old message, none, or the new one. The rules are in
- * docs/01-scope.md and docs/02-change-requests.md.
+ * that a write that breaks off leaves the old message, none, or the new one. It also reads and
+ * writes the records of a message. The rules are in docs/01-scope.md and
+ * docs/02-change-requests.md.
  *
  * No function allocates or keeps a pointer. Each returns a uint64_t:
  *
@@ -11,7 +12,7 @@
  *                             counted from 0 (for 23 the number of commands); else 0
  *
  * On a refusal, every buffer and every out parameter keeps its contents. On success, a buffer keeps
- * its bytes past what was written.
+ * what it holds past what was written.
  *
  * An array is passed as a pointer and a length. No pointer may be null, not even where the length
  * is 0, and a buffer that is written to may not overlap another argument.
@@ -63,7 +64,8 @@ enum zan_refusal {
     ZAN_REFUSED_EMPTY_MESSAGE = 9,          /* message to write has length 0 */
     ZAN_REFUSED_NOT_WRITABLE = 10,          /* tag is not writable */
     ZAN_REFUSED_MESSAGE_TOO_LONG = 11,      /* message does not fit on the tag */
-    ZAN_REFUSED_SHORT_BUFFER = 12,          /* buffer too short for the list, or for the command */
+    ZAN_REFUSED_SHORT_BUFFER = 12,          /* buffer too short for the list, for the command, or
+                                               for the message of the records */
     ZAN_REFUSED_SHORT_GATHERING_BUFFER = 13, /* gathering buffer too short for an interrupted
                                                message */
     ZAN_REFUSED_BLOCK_TOO_SMALL = 14,       /* Type 6, writing and judging: block size 1 */
@@ -72,7 +74,15 @@ enum zan_refusal {
     ZAN_REFUSED_MISREAD = 22,               /* after the command the tag is refused, or reads
                                                neither as the old message, nor as holding none,
                                                nor as the new one */
-    ZAN_REFUSED_UNFINISHED = 23             /* list ends, and the tag does not read as the message */
+    ZAN_REFUSED_UNFINISHED = 23,            /* list ends, and the tag does not read as the
+                                               message */
+    ZAN_REFUSED_TOO_MANY_RECORDS = 30,      /* bytes remain after sixteen records */
+    ZAN_REFUSED_CHUNKED_RECORD = 31,        /* record with a chunk flag, or with TNF 6 */
+    ZAN_REFUSED_MALFORMED_RECORD = 32,      /* record is cut short, or has TNF 7, TNF 5 with a type
+                                               or TNF 0 with a length not 0; MB is not exactly on
+                                               the first record, or ME not exactly on the one that
+                                               ends the message; the message is empty */
+    ZAN_REFUSED_UNWRITABLE_RECORDS = 33     /* no message reads as these records */
 };
 
 /* What a tag holds. */
@@ -114,6 +124,25 @@ typedef struct zan_report {
 #define ZAN_TYPE6_BLOCK_SIZE(image) ((size_t)(image)[5] % 32 + 1)
 #define ZAN_TYPE6_BLOCKS(image) ((size_t)(image)[4] + 1)
 #define ZAN_TYPE6_COMMAND(image) (3 + ZAN_TYPE6_BLOCK_SIZE(image))
+
+/*
+ * A message has at most ZAN_NDEF_RECORDS_MAX records, and a record is ZAN_NDEF_RECORD numbers. A
+ * table of ZAN_NDEF_TABLE numbers is long enough for any message.
+ */
+#define ZAN_NDEF_RECORDS_MAX 16
+#define ZAN_NDEF_RECORD 7
+#define ZAN_NDEF_TABLE (ZAN_NDEF_RECORDS_MAX * ZAN_NDEF_RECORD)
+
+/* The numbers of a record, in order: the TNF, then the place and the length of each part. */
+enum zan_ndef_number {
+    ZAN_NDEF_TNF = 0,
+    ZAN_NDEF_TYPE_AT = 1,
+    ZAN_NDEF_TYPE_LEN = 2,
+    ZAN_NDEF_ID_AT = 3,
+    ZAN_NDEF_ID_LEN = 4, /* 0 without an ID */
+    ZAN_NDEF_PAYLOAD_AT = 5,
+    ZAN_NDEF_PAYLOAD_LEN = 6
+};
 
 /*
  * Reads a Type 2 tag and fills in *report. An interrupted message is copied to the front of
@@ -261,6 +290,33 @@ uint64_t zan_type6_encode(uint64_t block, const uint8_t data[32], uint64_t block
  */
 uint64_t zan_type6_decode(const uint8_t *bytes, size_t bytes_len, uint64_t block_size,
                           uint64_t blocks, uint64_t *block, uint8_t data[32]);
+
+/*
+ * Reads the records of a message and writes their numbers to the front of records, seven for each
+ * (enum zan_ndef_number). The places are in message: the ID begins where the type ends, even if
+ * there is none, and the payload where the ID ends. Returns the number of records as its count, or
+ * refusal 30 to 32 for the first record at fault; they are tested in this order.
+ *
+ *     uint64_t records[ZAN_NDEF_TABLE];
+ *     uint64_t answer = zan_ndef_read(message, message_len, records);
+ *     if (ZAN_REFUSAL(answer))
+ *         return ZAN_REFUSAL(answer);
+ *     for (uint64_t i = 0; i < ZAN_COUNT(answer); i++) {
+ *         const uint64_t *record = records + ZAN_NDEF_RECORD * i;
+ *         show(message + record[ZAN_NDEF_PAYLOAD_AT], record[ZAN_NDEF_PAYLOAD_LEN]);
+ *     }
+ */
+uint64_t zan_ndef_read(const uint8_t *message, size_t message_len, uint64_t records[112]);
+
+/*
+ * Writes the message of a list of records, in the shortest form, to the front of message. The list
+ * is records_len numbers, seven for each record. The places are in bytes, in any order, and parts
+ * may overlap. Any numbers may be passed: a part that does not lie in bytes, an empty one too, is
+ * refused with 33. Returns the number of bytes as its count, or refusal 33 or 12; they are tested
+ * in this order.
+ */
+uint64_t zan_ndef_write(const uint64_t *records, size_t records_len, const uint8_t *bytes,
+                        size_t bytes_len, uint8_t *message, size_t message_len);
 
 #ifdef __cplusplus
 }

@@ -9,6 +9,8 @@ compile_error!("libzanfirotta.a is missing: run `rt staticlib zanfirotta` at the
 
 #[path = "speed/cases.rs"]
 mod cases;
+#[path = "speed/records.rs"]
+mod records;
 #[path = "../tests/reference/mod.rs"]
 mod reference;
 #[path = "speed/timing.rs"]
@@ -217,4 +219,5 @@ fn main() {
             Kind::Type6 => type6(case),
         }
     }
+    records::all();
 }

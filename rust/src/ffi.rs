@@ -2,10 +2,12 @@
 //! pointer is null, every length is right, and a buffer that is written to overlaps no other
 //! argument. Slices and references guarantee all three.
 
+mod ndef;
 mod type2;
 mod type3;
 mod type6;
 
+pub use ndef::*;
 pub use type2::*;
 pub use type3::*;
 pub use type6::*;

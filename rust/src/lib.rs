@@ -1,5 +1,5 @@
 //! Reading and writing NFC Type 2, Type 3 and Type 6 tag images so that a write that breaks off
-//! leaves the old message, none, or the new one.
+//! leaves the old message, none, or the new one; and the records of a message ([`ndef`]).
 //!
 //! These are safe wrappers over the verified library (`libzanfirotta.a`); the rules are in
 //! `docs/01-scope.md` and `docs/02-change-requests.md`. Nothing here allocates: an image, a message
@@ -37,6 +37,7 @@
 
 #[allow(unsafe_code, missing_docs)]
 mod ffi;
+pub mod ndef;
 pub mod type2;
 pub mod type3;
 pub mod type6;
@@ -45,9 +46,10 @@ pub mod type6;
 #[doc(hidden)]
 pub mod raw {
     pub use crate::ffi::{
-        type2_decode, type2_encode, type2_judge, type2_model, type2_read, type2_write,
-        type3_command_len, type3_decode, type3_encode, type3_judge, type3_model, type3_read,
-        type3_write, type6_decode, type6_encode, type6_judge, type6_model, type6_read, type6_write,
+        ndef_read, ndef_write, type2_decode, type2_encode, type2_judge, type2_model, type2_read,
+        type2_write, type3_command_len, type3_decode, type3_encode, type3_judge, type3_model,
+        type3_read, type3_write, type6_decode, type6_encode, type6_judge, type6_model, type6_read,
+        type6_write,
     };
 }
 
@@ -115,7 +117,8 @@ pub enum RefusalNumber {
     NotWritable = 10,
     /// The message is longer than the tag's capacity.
     MessageTooLong = 11,
-    /// The buffer is shorter than the list, or than the bytes of the command.
+    /// The buffer is shorter than the list, than the bytes of the command, or than the message of
+    /// the records; for [`ndef::Builder::push`], than the parts of the records.
     ShortBuffer = 12,
     /// The gathering buffer is shorter than an interrupted message.
     ShortGatheringBuffer = 13,
@@ -130,6 +133,16 @@ pub enum RefusalNumber {
     Misread = 22,
     /// The list ends and the tag does not read as the message.
     Unfinished = 23,
+    /// Bytes of the message remain after sixteen records.
+    TooManyRecords = 30,
+    /// A record has a chunk flag or TNF 6.
+    ChunkedRecord = 31,
+    /// A record is cut short, or has TNF 7, TNF 5 with a type or TNF 0 with a length not 0; MB is
+    /// not exactly on the first record, or ME not exactly on the one that ends the message; the
+    /// message is empty.
+    MalformedRecord = 32,
+    /// No message reads as these records.
+    UnwritableRecords = 33,
 }
 
 /// A number that no refusal has.
@@ -176,6 +189,10 @@ impl TryFrom<u8> for RefusalNumber {
             21 => ProtectedByte,
             22 => Misread,
             23 => Unfinished,
+            30 => TooManyRecords,
+            31 => ChunkedRecord,
+            32 => MalformedRecord,
+            33 => UnwritableRecords,
             _ => return Err(UnknownRefusal(number)),
         })
     }
@@ -196,13 +213,17 @@ impl RefusalNumber {
             EmptyMessage => "empty message",
             NotWritable => "tag not writable",
             MessageTooLong => "message too long",
-            ShortBuffer => "buffer too short for the command or list",
+            ShortBuffer => "buffer too short",
             ShortGatheringBuffer => "gathering buffer too short",
             BlockTooSmall => "block size under 2",
             MalformedCommand => "command not well formed",
             ProtectedByte => "command changes a protected byte",
             Misread => "tag misreads after the command",
             Unfinished => "the list ends and the tag does not read as the message",
+            TooManyRecords => "more than sixteen records",
+            ChunkedRecord => "chunked record",
+            MalformedRecord => "malformed record, or an empty message",
+            UnwritableRecords => "no message reads as these records",
         }
     }
 

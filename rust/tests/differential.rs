@@ -1,7 +1,8 @@
 //! The verified library against the reference, on the same seeded cases.
 //!
 //! Every buffer passed to a call lies between guard bytes and is compared whole, also after a
-//! refusal. Each test prints how often each answer came and fails if an expected one is rare.
+//! refusal; a table of records lies between guard numbers. Each test prints how often each answer
+//! came and fails if an expected one is rare.
 
 #[cfg(not(zanfirotta_archive))]
 compile_error!("libzanfirotta.a is missing: run `rt staticlib zanfirotta` at the repository's top");
@@ -9,6 +10,10 @@ compile_error!("libzanfirotta.a is missing: run `rt staticlib zanfirotta` at the
 #[path = "differential/capacity.rs"]
 mod capacity;
 mod common;
+#[path = "differential/ndef.rs"]
+mod ndef;
+#[path = "differential/ndef_limits.rs"]
+mod ndef_limits;
 mod reference;
 #[path = "differential/rewrites.rs"]
 mod rewrites;
@@ -29,7 +34,7 @@ use zanfirotta::{Refusal, Report};
 const SUBSET: u64 = 20_000;
 const WHOLE: u64 = 200_000;
 
-/// Two tests for each operation of a type, and for the tags that are rewritten.
+/// Two tests for each operation of a type, for the tags that are rewritten, and for records.
 macro_rules! operations {
     ($($tests:ident: $type:ident::$operation:ident,)*) => {$(
         mod $tests {
@@ -69,6 +74,9 @@ operations! {
     type2_rewrites: rewrites::type2,
     type3_rewrites: rewrites::type3,
     type6_rewrites: rewrites::type6,
+    ndef_read: ndef::read,
+    ndef_write: ndef::write,
+    ndef_builder: ndef::builder,
 }
 
 #[test]
@@ -126,6 +134,41 @@ fn type6_every_stated_size() {
     type6::every_stated_size();
 }
 
+#[test]
+fn ndef_every_header() {
+    ndef_limits::every_header();
+}
+
+#[test]
+fn ndef_every_cut() {
+    ndef_limits::every_cut();
+}
+
+#[test]
+fn ndef_every_length() {
+    ndef_limits::every_length();
+}
+
+#[test]
+fn ndef_every_stated_length() {
+    ndef_limits::every_stated_length();
+}
+
+#[test]
+fn ndef_every_count() {
+    ndef_limits::every_count();
+}
+
+#[test]
+fn ndef_every_tnf() {
+    ndef_limits::every_tnf();
+}
+
+#[test]
+fn ndef_every_place() {
+    ndef_limits::every_place();
+}
+
 /// An answer of the library in the terms of the reference.
 fn plain<T>(answer: Result<T, Refusal>) -> Result<T, reference::Refusal> {
     answer.map_err(|refusal| {
@@ -170,8 +213,10 @@ fn same<T: PartialEq + Debug>(index: u64, got: &T, expected: &T, inputs: &[&[u8]
 
 /// Tests that the buffers hold the same, guard bytes included.
 fn same_buffers(index: u64, got: &Guarded, expected: &Guarded, inputs: &[&[u8]]) {
-    same(index, &hex(got.slice()), &hex(expected.slice()), inputs);
-    assert!(got == expected, "case {index}: a guard byte changed");
+    if got != expected {
+        same(index, &hex(got.slice()), &hex(expected.slice()), inputs);
+        panic!("case {index}: a guard byte changed");
+    }
 }
 
 /// Compares the six numbers of reading: they are the reference's after success, and unchanged

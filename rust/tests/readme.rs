@@ -111,21 +111,36 @@ fn header() -> String {
     fs::read_to_string(top().join("include/zanfirotta.h")).unwrap()
 }
 
+/// The lines of C in a comment of the header, from this one on.
+fn header_lines(first: &str) -> String {
+    header()
+        .lines()
+        .skip_while(|line| !line.contains(first))
+        .map_while(|line| line.strip_prefix(" *     "))
+        .map(|line| format!("{line}\n"))
+        .collect()
+}
+
 /// The lines in the header's first comment; `show` prints.
 #[test]
 fn c_lines_of_the_header_read_a_tag() {
-    let header = header();
-    let (comment, _) = header.split_once("*/").expect("a comment");
-    let lines: String = comment
-        .lines()
-        .skip_while(|line| !line.contains("zan_report report;"))
-        .filter_map(|line| line.strip_prefix(" *     "))
-        .map(|line| format!("{line}\n"))
-        .collect();
+    let lines = header_lines("zan_report report;");
     let front = "16, 4, 1, 0, 2, 0, 0, 0, 0, 0, 1, 0, 0, 3, 0, 0x1B, 0xD0, 0x00, 0x00";
     assert_eq!(
         run_text("header", &program(&printer("show"), &lines, 48, 0, front)),
         "D00000\n"
+    );
+}
+
+/// The lines at `zan_ndef_read`; `show` prints the payloads of two records.
+#[test]
+fn c_lines_of_the_header_read_records() {
+    let message = "const uint8_t *message = image;\nsize_t message_len = image_len;\n";
+    let lines = message.to_string() + &header_lines("uint64_t records[ZAN_NDEF_TABLE];");
+    let front = "0x91, 1, 2, 'T', 'h', 'i', 0x51, 1, 3, 'T', 'b', 'y', 'e'";
+    assert_eq!(
+        run_text("records", &program(&printer("show"), &lines, 13, 0, front)),
+        "6869\n627965\n"
     );
 }
 
@@ -173,7 +188,7 @@ fn every_function_is_called_from_c() {
         .filter_map(|line| line.strip_prefix("uint64_t zan_"))
         .filter_map(|line| line.split_once('(').map(|(name, _)| name))
         .collect();
-    assert_eq!(declared.len(), 19);
+    assert_eq!(declared.len(), 21);
     for name in declared {
         assert!(text.contains(&format!("zan_{name}(")), "zan_{name}");
     }

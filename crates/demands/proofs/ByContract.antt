@@ -25,7 +25,8 @@ use Rattle.tag.proofs.Counts.{length-list}
 use Rattle.tag.proofs.Logic.{nope}
 use Rattle.demands.specs.Demand3.{cutOf, ourBytes, ourImage, Demand3}
 use Rattle.demands.specs.ByContract.{Run, end, give, refuse, Code3}
-use Rattle.demands.proofs.Answered.{accepted-is, refused-is, stored-is, put-all, put-counted}
+use Rattle.tag.proofs.Outputs.{put-all, put-counted}
+use Rattle.demands.proofs.Answered.{accepted-is, refused-is, stored-is}
 use Rattle.demands.proofs.Demand2.{fitted-is}
 
 refused-same : (o : Modelled) (j : List ℕ) (f : ℕ) → refusesOne f ≡ storingOf o → imageAfter j o ≡ j

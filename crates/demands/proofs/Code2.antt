@@ -36,7 +36,8 @@ use Rattle.demands.specs.ByContract.{Run}
 use Rattle.demands.specs.Code2.{Tells}
 use Rattle.demands.proofs.Demand2 as demand2
 use Rattle.demands.proofs.Demand3 as demand3
-use Rattle.demands.proofs.Answered.{refused-is, same-refusal, refused-count-is, unread-is, told}
+use Rattle.tag.proofs.Outputs.{same-refusal, refused-count-is}
+use Rattle.demands.proofs.Answered.{refused-is, unread-is, told}
 use Rattle.demands.proofs.Capacity.{roomy, cramped, longer}
 use Rattle.demands.proofs.ByContract.{wrote-ours, by-contract}
 

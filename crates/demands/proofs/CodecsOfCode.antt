@@ -29,7 +29,7 @@ use Rattle.type6.specs.Codec as six
 use Rattle.type6.specs.CodecContracts as views6
 use Rattle.type6.proofs.Codec.{defined-bounds}
 use Rattle.demands.specs.Code2.{codec2, codec3, codec6}
-use Rattle.demands.proofs.Answered.{put-all, put-counted}
+use Rattle.tag.proofs.Outputs.{put-all, put-counted}
 use Rattle.demands.proofs.Codecs.{codec-2, codec-3, codec-6}
 
 -- the front of a buffer is what was written over it

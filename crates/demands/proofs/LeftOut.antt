@@ -13,7 +13,7 @@ use borrow.Author.Tests.{eqb-true, eq-eqb, ne-eqb}
 use lib.Dec.{eqb}
 use lib.ListN.{length, set, length-map, length-set}
 use lib.Seq.{getD-set-same, getD-set-other}
-use Rattle.tag.specs.Bytes.{byte}
+use Rattle.tag.specs.Bytes.{byte, Octets}
 use Rattle.tag.specs.Reading.{Report, reads}
 use Rattle.tag.specs.Stores.{stores, put}
 use Rattle.tag.specs.Plan.{Plan, newImage, blockOf, isThere, between, firstStore, list}
@@ -46,9 +46,9 @@ use Rattle.type6.proofs.Message as message6
 use Rattle.type6.proofs.Update as written6
 use Rattle.type6.proofs.Laws.{high-zero, type6-laws}
 use Rattle.demands.specs.Demand3.{cutOf, ourBytes}
-use Rattle.demands.specs.Demand2.{Octets, LeftOut}
+use Rattle.demands.specs.Demand2.{LeftOut}
 use Rattle.demands.proofs.Demand3.{our-commands}
-use Rattle.demands.proofs.Octets.{octets-byte}
+use Rattle.tag.proofs.Octets.{octets-byte}
 
 -- ---- every other block, for every type
 

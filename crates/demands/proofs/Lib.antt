@@ -2,7 +2,6 @@
 pub mod Demand3
 pub mod Capacity
 pub mod Demand2
-pub mod Octets
 pub mod TooLong
 pub mod TooSmall
 pub mod LeftOut

@@ -9,7 +9,7 @@ use native.Mathlib.Omega.{arith}
 use borrow.Author.Tests.{ne-eqb, eqb-true, leb-true, le-leb, eq-eqb}
 use lib.Dec.{leb, eqb}
 use lib.ListN.{length, replicate}
-use Rattle.tag.specs.Bytes.{byte, has, overlay, isSet}
+use Rattle.tag.specs.Bytes.{byte, has, overlay, isSet, Octets}
 use Rattle.tag.specs.Refusals.{message-too-long}
 use Rattle.tag.specs.Reading.{holds}
 use Rattle.tag.specs.Plan.{newImage}
@@ -38,9 +38,9 @@ use Rattle.type6.proofs.Message as message6
 use Rattle.type6.proofs.Laws as laws6
 use Rattle.type6.proofs.Update as update6
 use Rattle.demands.specs.Code2.{alike2}
-use Rattle.demands.specs.Demand2.{Octets, Asked, Alike2, TooLong2, Alike3, TooLong3, Alike6, TooLong6}
+use Rattle.demands.specs.Demand2.{Asked, Alike2, TooLong2, Alike3, TooLong3, Alike6, TooLong6}
 use Rattle.demands.proofs.Capacity.{roomy, exactly}
-use Rattle.demands.proofs.Octets.{octets-byte, octets-overlay, octets-append, octets-zeros}
+use Rattle.tag.proofs.Octets.{octets-byte, octets-overlay, octets-append, octets-zeros}
 
 asked-exactly : (T : TagType) (i m : List ℕ) (a : Asked T i m) (P : Type 0)
     → (a .report .capacity < length m → P) → (length m ≤ a .report .capacity → P → ⊥) → (writing T i m ≡ refused-write message-too-long) ↔ P

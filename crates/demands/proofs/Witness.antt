@@ -11,7 +11,7 @@ use native.Mathlib.Omega.{arith}
 use borrow.Author.Tests.{ltb-true}
 use lib.Dec.{ltb}
 use lib.ListN.{replicate}
-use Rattle.tag.specs.Bytes.{run}
+use Rattle.tag.specs.Bytes.{run, Octets}
 use Rattle.tag.specs.Reading.{empty, message}
 use Rattle.tag.specs.Cuts.{Ready}
 use Rattle.tag.proofs.Logic.{and-l, and-r}
@@ -25,7 +25,7 @@ use Rattle.type3.specs.Type3.{type3}
 use Rattle.type6.specs.Container.{sizeBy, containerBlocks}
 use Rattle.type6.specs.Message as message6
 use Rattle.type6.specs.Type6.{type6}
-use Rattle.demands.specs.Demand2.{Octets, Asked, Outside}
+use Rattle.demands.specs.Demand2.{Asked, Outside}
 use Rattle.demands.specs.Questions.{small, tag3, tag6, card}
 
 -- an empty tag of 64 bytes, and a message of three

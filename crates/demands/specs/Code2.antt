@@ -18,7 +18,7 @@ use Rattle.tag.specs.declared.JudgeAnswer as judge
 use Rattle.tag.specs.declared.JudgeAnswer.the-variants as verdict
 use Rattle.tag.specs.declared.ModelAnswer as model-answer
 use Rattle.tag.specs.declared.ModelAnswer.the-variants as storing
-use Rattle.tag.specs.Bytes.{overwrite}
+use Rattle.tag.specs.Bytes.{overwrite, Octets}
 use Rattle.tag.specs.Refusals.{message-too-long, short-gathering-buffer}
 use Rattle.tag.specs.Reading.{Report, unreadable, reads, tooShort, holds}
 use Rattle.tag.specs.Plan.{commandCount}
@@ -36,7 +36,7 @@ use Rattle.type6.specs.declared.Command as command6
 use Rattle.type6.specs.declared.commands.Decoded as decoded6
 use Rattle.type6.specs.CodecContracts as views6
 use Rattle.demands.specs.Demand3.{ourBytes}
-use Rattle.demands.specs.Demand2.{Octets, Asked, Alike2}
+use Rattle.demands.specs.Demand2.{Asked, Alike2}
 use Rattle.demands.specs.ByContract.{Run}
 
 -- ---- what the claim uses of each type

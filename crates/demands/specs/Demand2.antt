@@ -8,7 +8,7 @@ use mathlib.Core.Logic.{_⊎_, _↔_}
 use mathlib.Core.List.{List, [], _∷_}
 use Prim.Native.Nat.{ℕ, suc, _+_, _*_, _/_, _<_, _≤_}
 use lib.ListN.{length, take}
-use Rattle.tag.specs.Bytes.{byte, has}
+use Rattle.tag.specs.Bytes.{byte, has, Octets}
 use Rattle.tag.specs.Refusals.{message-too-long, block-too-small}
 use Rattle.tag.specs.Reading.{Report, unreadable, reads, answerOf, tooShort, gatheredInto, shown, holds}
 use Rattle.tag.specs.Stores.{put}
@@ -65,11 +65,6 @@ abbrev pub Fits6 : List ℕ → ℕ → Type 0
 Fits6 i n = 2 + n ≤ byte i 7 * blockSize i
 
 -- ---- refusal 11, exactly
-
--- a list of bytes: every number is below 256
-abbrev pub Octets : List ℕ → Type 0
-Octets [] = Unit {0}
-Octets (b ∷ bs) = (b < 256) × Octets bs
 
 -- the tag reads and is writable, its blocks are large enough, and the message is not empty: of writing's refusals on the tag and
 -- the message, only 11 may still come

@@ -6,7 +6,7 @@ use tag::Block;
 use type3_commands::commands;
 ghost use mathlib.Core.Path.{_≡_};
 ghost use lib.ListN.{length};
-ghost use Rattle.demands.specs.Demand2.{Octets};
+ghost use Rattle.tag.specs.Bytes.{Octets};
 ghost use Rattle.demands.specs.Code2.{codec2, codec3, codec6};
 
 // The elements of a slice of bytes are octets.

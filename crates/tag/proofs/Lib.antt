@@ -4,6 +4,7 @@ pub mod Cases
 pub mod Each
 pub mod Checks
 pub mod Images
+pub mod Octets
 pub mod Addresses
 pub mod Judging
 pub mod Keeping
@@ -22,6 +23,7 @@ pub mod Pieces
 pub mod Turns
 pub mod Laws
 pub mod Deciding
+pub mod Outputs
 pub mod Same
 pub mod Storing
 pub mod Filling

@@ -1,9 +1,10 @@
 -- A tag's memory image, as the list of its bytes. An address is a place in that list, counted from 0.
--- Bytes are plain numbers here. That a byte is below 256 is a fact about the code's values, and no rule needs it.
+-- Bytes are plain numbers here. That a byte is below 256 is a fact about the code's values, and no rule needs it. Some theorems do,
+-- and ask for `Octets`.
 -- Assumes nothing.
 use mathlib.Core.Bool.{Bool, true, false, _&&_, _||_}
 use mathlib.Core.List.{List, [], _∷_, _++_}
-use Prim.Native.Nat.{ℕ, zero, suc}
+use Prim.Native.Nat.{ℕ, zero, suc, _<_}
 use lib.Dec.{eqb}
 use lib.ListN.{length, getD, set, drop}
 
@@ -49,3 +50,8 @@ isSet (x ∷ us) (v ∷ vs) a = eqb x a || isSet us vs a
 -- a buffer after bytes are written to its front: it keeps its bytes past what is written
 abbrev pub overwrite : List ℕ → List ℕ → List ℕ
 overwrite front buffer = front ++ drop (length front) buffer
+
+-- a list of bytes: every number is below 256
+abbrev pub Octets : List ℕ → Type 0
+Octets [] = Unit {0}
+Octets (b ∷ bs) = (b < 256) × Octets bs

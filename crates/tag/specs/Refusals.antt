@@ -45,7 +45,7 @@ not-writable = 10
 abbrev pub message-too-long : ℕ
 message-too-long = 11
 
--- the list, or the bytes of a command, do not fit in the buffer
+-- the list, the bytes of a command, or the message of records do not fit in the buffer
 abbrev pub short-buffer : ℕ
 short-buffer = 12
 
@@ -71,6 +71,22 @@ misread = 22
 -- the list ends and the tag does not read as the message
 abbrev pub unfinished : ℕ
 unfinished = 23
+
+-- more than sixteen records in an NDEF message
+abbrev pub too-many-records : ℕ
+too-many-records = 30
+
+-- a record that is a part of a chunked payload
+abbrev pub chunked-record : ℕ
+chunked-record = 31
+
+-- a record that is cut short or contradicts itself, or a message without a record
+abbrev pub malformed-record : ℕ
+malformed-record = 32
+
+-- no NDEF message gives the list of records to write
+abbrev pub unwritable-records : ℕ
+unwritable-records = 33
 
 -- what a refusal returns: its number alone, or its number and the position of the command, counted from 0
 pub data Refusal : Type 0 where

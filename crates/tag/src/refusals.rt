@@ -33,7 +33,7 @@ pub const NOT_WRITABLE: u8 = 10;
 
 pub const MESSAGE_TOO_LONG: u8 = 11;
 
-// The list, or the bytes of a command, do not fit in the buffer.
+// The list, the bytes of a command, or the message of records do not fit in the buffer.
 pub const SHORT_BUFFER: u8 = 12;
 
 // An interrupted message does not fit in the gathering buffer.
@@ -53,3 +53,15 @@ pub const MISREAD: u8 = 22;
 
 // The list ends and the tag does not read as the message.
 pub const UNFINISHED: u8 = 23;
+
+// There are more than sixteen records in the NDEF message.
+pub const TOO_MANY_RECORDS: u8 = 30;
+
+// The record is a part of a chunked payload.
+pub const CHUNKED_RECORD: u8 = 31;
+
+// The record is cut short or contradicts itself, or the message has none.
+pub const MALFORMED_RECORD: u8 = 32;
+
+// No NDEF message gives the list of records to write.
+pub const UNWRITABLE_RECORDS: u8 = 33;

@@ -5,6 +5,7 @@ use std::time::Instant;
 use zanfirotta::type6;
 
 use crate::cases::Case;
+use crate::reference::ndef::TABLE;
 
 const RUNS: usize = 301;
 /// A run should take about this long.
@@ -15,6 +16,8 @@ pub struct Buffers {
     pub image: Vec<u8>,
     pub gathered: Vec<u8>,
     pub list: Vec<u8>,
+    /// For the records of a message.
+    pub table: [u64; TABLE],
 }
 
 impl Buffers {
@@ -23,6 +26,7 @@ impl Buffers {
             image: image.to_vec(),
             gathered: vec![0; 4096],
             list: vec![0; type6::LIST_MAX], // the longest of any type
+            table: [0; TABLE],
         }
     }
 
@@ -30,6 +34,7 @@ impl Buffers {
         self.image.copy_from_slice(image);
         self.gathered.fill(0);
         self.list.fill(0);
+        self.table.fill(0);
     }
 }
 
@@ -48,8 +53,8 @@ fn median(mut times: Vec<f64>) -> f64 {
     times[times.len() / 2]
 }
 
-/// Times both and prints a line of the table. Reading and the model do not go by the message, so
-/// they are not timed again on a tag that holds a part of it.
+/// Times both on a tag. Reading and the model do not go by the message, so they are not timed again
+/// on a tag that holds a part of it.
 pub fn compare(
     case: &Case,
     operation: &str,
@@ -59,7 +64,17 @@ pub fn compare(
     if case.is_rewrite && ["read", "model"].contains(&operation) {
         return;
     }
-    let (tag, image) = (case.name, &case.image[..]);
+    compare_on(&case.image, case.name, operation, library, reference);
+}
+
+/// Times both and prints a line of the table.
+pub fn compare_on(
+    image: &[u8],
+    name: &str,
+    operation: &str,
+    library: &dyn Fn(&mut Buffers),
+    reference: &dyn Fn(&mut Buffers),
+) {
     let mut buffers = Buffers::new(image);
     let mut calls = |call| {
         let once = (0..5).map(|_| run(1, image, &mut buffers, call));
@@ -74,7 +89,7 @@ pub fn compare(
     }
     let (library, reference) = (median(library_times), median(reference_times));
     println!(
-        "| {tag:<28} | {operation:<6} | {library:>12.1} | {reference:>12.1} | {:>6.2} |",
+        "| {name:<28} | {operation:<6} | {library:>12.1} | {reference:>12.1} | {:>6.2} |",
         library / reference
     );
 }

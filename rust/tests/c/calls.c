@@ -1,7 +1,7 @@
 /*
- * Calls every function that include/zanfirotta.h declares, on small tags, and tests the answers and
- * what the buffers hold afterwards. Ends with status 0, or with the number of the first line that
- * does not hold.
+ * Calls every function that include/zanfirotta.h declares, on small tags and messages, and tests the
+ * answers and what the buffers hold afterwards. Ends with status 0, or with the number of the first
+ * line that does not hold.
  */
 #include <string.h>
 
@@ -161,10 +161,64 @@ static int type6(void)
     return 0;
 }
 
+/* A text with an ID, and an empty record with four length bytes. */
+static const uint8_t two[14] = {0x99, 1, 2, 1, 'T', 'a', 'h', 'i', 0x40, 0, 0, 0, 0, 0};
+
+static int ndef(void)
+{
+    static const uint64_t second[ZAN_NDEF_RECORD] = {0, 14, 0, 14, 0, 14, 0};
+    uint64_t records[ZAN_NDEF_TABLE];
+    uint8_t bytes[16];
+
+    records[2 * ZAN_NDEF_RECORD] = 9;
+    HOLDS(zan_ndef_read(two, 14, records) == 2 * 256);
+    HOLDS(records[ZAN_NDEF_TNF] == 1);
+    HOLDS(records[ZAN_NDEF_TYPE_AT] == 4 && records[ZAN_NDEF_TYPE_LEN] == 1);
+    HOLDS(records[ZAN_NDEF_ID_AT] == 5 && records[ZAN_NDEF_ID_LEN] == 1);
+    HOLDS(records[ZAN_NDEF_PAYLOAD_AT] == 6 && records[ZAN_NDEF_PAYLOAD_LEN] == 2);
+    HOLDS(memcmp(records + ZAN_NDEF_RECORD, second, sizeof second) == 0);
+    HOLDS(records[2 * ZAN_NDEF_RECORD] == 9);
+    HOLDS(zan_ndef_read(two, 13, records) == ZAN_REFUSED_MALFORMED_RECORD);
+    HOLDS(zan_ndef_read(two, 0, records) == ZAN_REFUSED_MALFORMED_RECORD);
+    HOLDS(zan_ndef_read((const uint8_t *)"\xB1", 1, records) == ZAN_REFUSED_CHUNKED_RECORD);
+    HOLDS(records[ZAN_NDEF_TYPE_AT] == 4 && records[ZAN_NDEF_RECORD] == 0);
+
+    /* The shortest form needs three bytes less. */
+    memset(bytes, 0xAA, sizeof bytes);
+    HOLDS(zan_ndef_write(records, 14, two, 14, bytes, 10) == ZAN_REFUSED_SHORT_BUFFER && bytes[0] == 0xAA);
+    HOLDS(zan_ndef_write(records, 14, two, 14, bytes, sizeof bytes) == 11 * 256);
+    HOLDS(memcmp(bytes, "\x99\x01\x02\x01Tahi\x50\x00\x00\xAA", 12) == 0);
+    HOLDS(zan_ndef_write(records, 13, two, 14, bytes, sizeof bytes) == ZAN_REFUSED_UNWRITABLE_RECORDS);
+    HOLDS(zan_ndef_write(records, 14, two, 13, bytes, sizeof bytes) == ZAN_REFUSED_UNWRITABLE_RECORDS);
+    records[ZAN_NDEF_PAYLOAD_AT] = UINT64_MAX;
+    HOLDS(zan_ndef_write(records, 14, two, 14, bytes, sizeof bytes) == ZAN_REFUSED_UNWRITABLE_RECORDS);
+    return 0;
+}
+
+/* Sixteen empty records, and seventeen. */
+static int many(void)
+{
+    static const uint64_t records[ZAN_NDEF_TABLE + ZAN_NDEF_RECORD] = {0};
+    uint64_t table[ZAN_NDEF_TABLE];
+    uint8_t bytes[3 * ZAN_NDEF_RECORDS_MAX + 1];
+
+    HOLDS(zan_ndef_write(records, ZAN_NDEF_TABLE, two, 0, bytes, sizeof bytes) == 48 * 256);
+    HOLDS(zan_ndef_read(bytes, 48, table) == ZAN_NDEF_RECORDS_MAX * 256);
+    HOLDS(table[ZAN_NDEF_TABLE - 1] == 0 && table[ZAN_NDEF_TABLE - 2] == 48);
+    bytes[45] = 0x10;
+    bytes[48] = 0x50;
+    HOLDS(zan_ndef_read(bytes, 49, table) == ZAN_REFUSED_TOO_MANY_RECORDS);
+    HOLDS(zan_ndef_write(records, ZAN_NDEF_TABLE + ZAN_NDEF_RECORD, two, 0, bytes, sizeof bytes) == ZAN_REFUSED_UNWRITABLE_RECORDS);
+    HOLDS(zan_ndef_write(records, 0, two, 0, bytes, sizeof bytes) == ZAN_REFUSED_UNWRITABLE_RECORDS);
+    return 0;
+}
+
 int main(void)
 {
     int line = type2();
 
     line = line ? line : type3();
-    return line ? line : type6();
+    line = line ? line : type6();
+    line = line ? line : ndef();
+    return line ? line : many();
 }

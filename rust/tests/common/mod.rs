@@ -1,17 +1,23 @@
-//! Seeded random cases for the tests: tags, messages, foreign command lists; and small helpers.
+//! Seeded random cases for the tests: tags, messages, foreign command lists, records; and small
+//! helpers.
 
-#![allow(dead_code)]
+#![allow(dead_code, unused_imports)]
 
 pub mod codec;
+mod guarded;
 pub mod kinds;
 mod layout2;
 pub mod lists2;
 pub mod lists3;
 pub mod lists6;
+pub mod records;
 pub mod rewrites;
+pub mod tables;
 pub mod tags2;
 pub mod tags3;
 pub mod tags6;
+
+pub use guarded::Guarded;
 
 use crate::reference::Refusal;
 
@@ -77,42 +83,10 @@ impl Rng {
     }
 }
 
-/// A buffer to pass to a call, between guard bytes.
-#[derive(Clone, PartialEq, Eq)]
-pub struct Guarded {
-    whole: Vec<u8>,
-    start: usize,
-    end: usize,
-}
-
-impl Guarded {
-    pub fn random(rng: &mut Rng, len: usize) -> Self {
-        let contents = rng.bytes(len);
-        Guarded::holding(rng, &contents)
-    }
-
-    pub fn holding(rng: &mut Rng, contents: &[u8]) -> Self {
-        let start = rng.between(1, 24);
-        let after = rng.between(1, 24);
-        let mut whole = rng.bytes(start + contents.len() + after);
-        let end = start + contents.len();
-        whole[start..end].copy_from_slice(contents);
-        Guarded { whole, start, end }
-    }
-
-    pub fn slice(&self) -> &[u8] {
-        &self.whole[self.start..self.end]
-    }
-
-    pub fn lend(&mut self) -> &mut [u8] {
-        &mut self.whole[self.start..self.end]
-    }
-}
-
 /// How often each answer came: index 0 is success, else the refusal number.
 pub struct Tally {
     name: &'static str,
-    counts: [u64; 32],
+    counts: [u64; 40],
     extra: Vec<(&'static str, u64)>,
 }
 
@@ -120,7 +94,7 @@ impl Tally {
     pub fn new(name: &'static str) -> Self {
         Tally {
             name,
-            counts: [0; 32],
+            counts: [0; 40],
             extra: Vec::new(),
         }
     }

@@ -12,10 +12,13 @@ mod judge_cuts;
 mod naive2;
 mod naive3;
 mod naive6;
+mod naive_ndef;
 mod reading;
+mod records;
 mod specimens;
 mod specimens6;
 mod specimens_left_out;
+mod specimens_ndef;
 mod writing;
 
 /// Random cases of each kind.

@@ -4,7 +4,7 @@ use native.Mathlib.Omega.{arith}
 use borrow.Author.Needs.{needs}
 use lib.ListN.{List·getD-eq-default}
 use Rattle.tag.specs.Bytes.{byte}
-use Rattle.demands.proofs.Octets.{octets-of}
+use Rattle.tag.proofs.Octets.{octets-of}
 use Rattle.premises.proofs.octets.Statement.{statement}
 use Rattle.premises.proofs.octets.Tie as tie
 

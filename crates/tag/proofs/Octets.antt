@@ -1,11 +1,10 @@
--- Lists of bytes: each byte is below 256, and they stay lists of bytes when bytes are set, overlaid or appended.
+-- Lists of bytes: each byte is below 256, and they stay lists of bytes when bytes are set, overlaid, appended, taken or dropped.
 -- Assumes nothing.
 use mathlib.Core.List.{List, [], _∷_, _++_}
 use Prim.Native.Nat.{ℕ, zero, suc, _<_}
 use native.Mathlib.Omega.{arith}
-use lib.ListN.{set, replicate}
-use Rattle.tag.specs.Bytes.{byte, overlay}
-use Rattle.demands.specs.Demand2.{Octets}
+use lib.ListN.{set, replicate, take, drop}
+use Rattle.tag.specs.Bytes.{byte, overlay, Octets}
 
 pub octets-byte : (i : List ℕ) → Octets i → (a : ℕ) → byte i a < 256
 octets-byte [] h a = omega arith
@@ -33,3 +32,13 @@ octets-append (b ∷ x) y g h = (g .0, octets-append x y (g .1) h)
 pub octets-zeros : (n : ℕ) → Octets (replicate n 0)
 octets-zeros zero = tt
 octets-zeros (suc n) = (omega arith, octets-zeros n)
+
+pub octets-drop : (n : ℕ) (i : List ℕ) → Octets i → Octets (drop n i)
+octets-drop zero i h = h
+octets-drop (suc n) [] h = tt
+octets-drop (suc n) (b ∷ i) h = octets-drop n i (h .1)
+
+pub octets-take : (n : ℕ) (i : List ℕ) → Octets i → Octets (take n i)
+octets-take zero i h = tt
+octets-take (suc n) [] h = tt
+octets-take (suc n) (b ∷ i) h = (h .0, octets-take n i (h .1))

@@ -1,0 +1,11 @@
+-- Laws about records, and what the code needs of them. Nothing here states a rule.
+pub mod Sound
+pub mod Turns
+pub mod HeaderForms
+pub mod HeaderBack
+pub mod ListBack
+pub mod HeaderLeast
+pub mod Least
+pub mod Tables
+pub mod Filling
+pub mod Theorems

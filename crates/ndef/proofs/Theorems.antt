@@ -1,0 +1,199 @@
+-- The claims of `specs/Claims.antt`, proved.
+-- Assumes nothing.
+use mathlib.Core.Path.{_≡_, refl, sym, ap, _∙_}
+use mathlib.Core.Logic.{_↔_}
+use mathlib.Core.Bool.{Bool, true, false, cond}
+use mathlib.Core.List.{List, [], _∷_, _++_}
+use Prim.Native.Nat.{ℕ, _+_, _*_, _/_, _%_, _≤_, _<_, _^_}
+use native.Mathlib.Omega.{arith}
+use lib.ListN.{length, take, drop}
+use lib.Seq.{take-append-seam}
+use lib.Dec.{eqb, leb, ltb}
+use borrow.Author.Tests.{le-leb, lt-leb, leb-true, leb-false}
+use Rattle.tag.specs.declared.CountAnswer.{CountAnswer}
+use Rattle.tag.specs.declared.CountAnswer.the-variants as counted
+use Rattle.tag.specs.Bytes.{Octets, overwrite}
+use Rattle.tag.specs.TagType.{Output, refused-output, output, fitted}
+use Rattle.tag.proofs.Logic.{nope, one-at-most}
+use Rattle.tag.proofs.Octets.{octets-append}
+use Rattle.tag.proofs.Outputs.{put-all, put-counted}
+use Rattle.ndef.specs.Record.{Record, ndef, OctetRecord, OctetRecords}
+use Rattle.ndef.specs.Message.{records, refused, messageOf}
+use Rattle.ndef.specs.Places.{tableOf, placesOf, read}
+use Rattle.ndef.specs.Shortest.{headerBytes, recordBytes, messageBytes, isShortest}
+use Rattle.ndef.specs.Writing.{isWritable, areWritable, isWritableList, writeList, isList, recordsIn, write}
+use Rattle.ndef.specs.Contracts.{ReadRecords, WroteRecords}
+use Rattle.ndef.specs.Claims.{SameList, ShortestForm, SameBytes, UnwritableExactly, TooLongExactly, TableIsList, Calls}
+use Rattle.ndef.proofs.Sound.{both, tnf-small}
+use Rattle.ndef.proofs.HeaderForms.{each-form}
+use Rattle.ndef.proofs.ListBack.{Fit, fit, Listed, listed, lists, list-back}
+use Rattle.ndef.proofs.Least.{Message, message}
+use Rattle.ndef.proofs.Tables.{Given, given, reads-output, reads-refused, refused-reads, table-list, places-many, table-is-list, table-long}
+
+-- ---- what is written is a list of bytes
+
+header-octets : (flags type id payload : ℕ) → flags < 232 → type < 256 → id < 256 → Octets (headerBytes flags type id payload)
+header-octets flags type id payload f k i =
+    each-form flags type id payload Octets (λ h e. omega arith) (λ h e. omega arith) (λ h e. omega arith) (λ h e. omega arith)
+
+record-octets : (first last : ℕ) (r : Record) → first ≤ 1 → last ≤ 1 → isWritable r ≡ true → OctetRecord r → Octets (recordBytes first last r)
+unfolding recordBytes
+record-octets first last (ndef tnf type id payload) f l t o =
+    let w = fit tnf type id payload t in
+    let flags : ℕ = first * 128 + last * 64 + tnf in
+    let small : tnf < 6 = tnf-small tnf (length type) (length id) (length payload) (w .allowed) in
+    octets-append (headerBytes flags (length type) (length id) (length payload)) (type ++ (id ++ payload))
+    (header-octets flags (length type) (length id) (length payload) (omega arith) (w .type-small) (w .id-small))
+    (octets-append type (id ++ payload) (o .0) (octets-append id payload (o .1) (o .2)))
+
+all-octets : (first : ℕ) (rs : List Record) → first ≤ 1 → areWritable rs ≡ true → OctetRecords rs → Octets (messageBytes first rs)
+unfolding messageBytes areWritable
+all-octets first [] f t o = tt
+all-octets first (r ∷ rs) f t o =
+    let w = both (isWritable r) (areWritable rs) t in
+    let last : ℕ = cond (eqb (length rs) 0) 1 0 in
+    octets-append (recordBytes first last r) (messageBytes 0 rs) (record-octets first last r f (one-at-most (eqb (length rs) 0) .0) (w .0) (o .0)) (all-octets 0 rs (omega arith) (w .1) (o .1))
+
+-- ---- what writing says
+
+-- whatever the two tests are
+wrote-by : (a b : Bool) (k n : ℕ) (xs bs : List ℕ) → cond a (cond b (output k xs) (refused-output 12)) (refused-output 33) ≡ output n bs → (a ≡ true) × (k ≡ n) × (xs ≡ bs)
+wrote-by true true k n xs bs e = (refl, cc, cc)
+wrote-by true false k n xs bs e = absurd (nope (cc))
+wrote-by false b k n xs bs e = absurd (nope (cc))
+
+unwritten-by : (a b : Bool) (k : ℕ) (xs : List ℕ) → cond a (cond b (output k xs) (refused-output 12)) (refused-output 33) ≡ refused-output 33 → a ≡ false
+unwritten-by true true k xs e = absurd (nope (cc))
+unwritten-by true false k xs e = absurd (let z : _≡_ {A = ℕ} 12 33 = cc in omega arith)
+unwritten-by false b k xs e = refl
+
+too-long-by : (a b : Bool) (k : ℕ) (xs : List ℕ) → cond a (cond b (output k xs) (refused-output 12)) (refused-output 33) ≡ refused-output 12 → (a ≡ true) × (b ≡ false)
+too-long-by true true k xs e = absurd (nope (cc))
+too-long-by true false k xs e = (refl, refl)
+too-long-by false b k xs e = absurd (let z : _≡_ {A = ℕ} 33 12 = cc in omega arith)
+
+module _ (room : ℕ) (rs : List Record) where
+  abbrev bytes : List ℕ
+  bytes = messageBytes 1 rs
+
+  wrote : (n : ℕ) (bs : List ℕ) → writeList room rs ≡ output n bs → Listed rs × (length bytes ≡ n) × (bytes ≡ bs)
+  unfolding writeList
+  wrote n bs e =
+      let w = wrote-by (isWritableList rs) (leb (length bytes) room) (length bytes) n bytes bs e in
+      (listed rs (w .0), w .1, w .2)
+
+  unwritten : writeList room rs ≡ refused-output 33 → isWritableList rs ≡ false
+  unfolding writeList
+  unwritten e = unwritten-by (isWritableList rs) (leb (length bytes) room) (length bytes) bytes e
+
+  overlong : writeList room rs ≡ refused-output 12 → (isWritableList rs ≡ true) × (room < length bytes)
+  unfolding writeList
+  overlong e =
+      let w = too-long-by (isWritableList rs) (leb (length bytes) room) (length bytes) bytes e in
+      (w .0, leb-false (length bytes) room (w .1))
+
+  writes : Listed rs → length bytes ≤ room → writeList room rs ≡ output (length bytes) bytes
+  unfolding writeList
+  writes w l = rw (lists rs w, le-leb (length bytes) room l)
+
+  writes-none : isWritableList rs ≡ false → writeList room rs ≡ refused-output 33
+  unfolding writeList
+  writes-none q = rw q
+
+  writes-not : isWritableList rs ≡ true → room < length bytes → writeList room rs ≡ refused-output 12
+  unfolding writeList
+  writes-not q l = rw (q, lt-leb (length bytes) room l)
+
+-- ---- the claims about the definitions
+
+pub same-list : SameList
+same-list = record {
+  reads-back = λ room rs n bs e. let w = wrote room rs n bs e in rw (← w .2) (list-back rs (w .0));
+  counts = λ room rs n bs e. let w = wrote room rs n bs e in sym (w .1) ∙ ap length (w .2);
+  gives-octets = λ room rs n bs o e. let w = wrote room rs n bs e in rw (← w .2) (all-octets 1 rs (omega arith) (w .0 .each) o);
+}
+
+pub shortest-form : ShortestForm
+shortest-form = record {
+  no-shorter = λ room rs n bs m e o r. let w = wrote room rs n bs e in rw (← w .2) (message m rs o r .least .small);
+  no-other = λ room rs n bs m e o r l. let w = wrote room rs n bs e in message m rs o r .least .same (ap length (w .2) ∙ sym l) ∙ w .2;
+}
+
+module _ (rs : List Record) (m : List ℕ) (o : Octets m) (r : messageOf m ≡ records rs) where
+  abbrev from-list : Message m rs
+  from-list = message m rs o r
+
+  -- writing gives the message back exactly if what is written is as long
+  again : length (messageBytes 1 rs) ≡ length m → writeList (length m) rs ≡ output (length m) m
+  again e = writes (length m) rs (from-list .list) (from-list .least .small) ∙ rw (e, sym (from-list .least .same e))
+
+  as-long : writeList (length m) rs ≡ output (length m) m → length (messageBytes 1 rs) ≡ length m
+  as-long e = ap length (wrote (length m) rs (length m) m e .2)
+
+  least-other : (other : List ℕ) → Octets other → messageOf other ≡ records rs → length (messageBytes 1 rs) ≤ length other
+  least-other other oo q = message other rs oo q .least .small
+
+  is-least : ((other : List ℕ) → Octets other → messageOf other ≡ records rs → length m ≤ length other) → length (messageBytes 1 rs) ≡ length m
+  is-least least =
+      let w = from-list in
+      let l : length m ≤ length (messageBytes 1 rs) = least (messageBytes 1 rs) (all-octets 1 rs (omega arith) (w .list .each) (w .octets)) (list-back rs (w .list)) in
+      omega (arith, w .least .small)
+
+pub same-bytes : SameBytes
+same-bytes = record {
+  by-headers = λ rs m o r. (λ q. again rs m o r (from-list rs m o r .even q), λ e. from-list rs m o r .shortest (as-long rs m o r e));
+  by-length = λ rs m o r. (
+    λ least. again rs m o r (is-least rs m o r least),
+    λ e other oo q. omega (arith, as-long rs m o r e, least-other rs m o r other oo q),
+  );
+}
+
+module _ (rs : List Record) (o : OctetRecords rs) where
+  -- a list that can be written is read from what is written
+  some-message : isWritableList rs ≡ true → Octets (messageBytes 1 rs) × (messageOf (messageBytes 1 rs) ≡ records rs)
+  some-message q = (all-octets 1 rs (omega arith) (listed rs q .each) o, list-back rs (listed rs q))
+
+  none-reads : (room : ℕ) → writeList room rs ≡ refused-output 33 → (m : List ℕ) → Octets m → messageOf m ≡ records rs → ⊥
+  none-reads room e m om r =
+      let a : isWritableList rs ≡ false = unwritten room rs e in
+      let b : isWritableList rs ≡ true = lists rs (message m rs om r .list) in
+      nope (cc)
+
+  none-writes : (room : ℕ) → ((m : List ℕ) → Octets m → messageOf m ≡ records rs → ⊥) → writeList room rs ≡ refused-output 33
+  none-writes room none = go (isWritableList rs) refl
+    where
+      go : (c : Bool) → isWritableList rs ≡ c → writeList room rs ≡ refused-output 33
+      go true q = let s = some-message q in absurd (none (messageBytes 1 rs) (s .0) (s .1))
+      go false q = writes-none room rs q
+
+  no-room : (room : ℕ) → writeList room rs ≡ refused-output 12
+      → (((m : List ℕ) → Octets m → messageOf m ≡ records rs → ⊥) → ⊥) × ((m : List ℕ) → Octets m → messageOf m ≡ records rs → room < length m)
+  no-room room e =
+      let w = overlong room rs e in
+      let s = some-message (w .0) in
+      (λ none. none (messageBytes 1 rs) (s .0) (s .1), λ m om q. omega (arith, w .1, message m rs om q .least .small))
+
+  all-longer : (room : ℕ) → (((m : List ℕ) → Octets m → messageOf m ≡ records rs → ⊥) → ⊥) → ((m : List ℕ) → Octets m → messageOf m ≡ records rs → room < length m)
+      → writeList room rs ≡ refused-output 12
+  all-longer room some longer = go (isWritableList rs) refl
+    where
+      go : (c : Bool) → isWritableList rs ≡ c → writeList room rs ≡ refused-output 12
+      go true q = let s = some-message q in writes-not room rs q (longer (messageBytes 1 rs) (s .0) (s .1))
+      go false q = absurd (some (none-reads room (writes-none room rs q)))
+
+pub unwritable-exactly : UnwritableExactly
+unwritable-exactly = record { unwritable = λ room rs o. (λ e. none-reads rs o room e, λ none. none-writes rs o room none) }
+
+pub too-long-exactly : TooLongExactly
+too-long-exactly = record { too-long = λ room rs o. (λ e. no-room rs o room e, λ w. all-longer rs o room (w .0) (w .1)) }
+
+cut-out : (m t : List ℕ) (rs : List Record) → messageOf m ≡ records rs → t ≡ tableOf (placesOf 16 0 m) → messageOf m ≡ records (recordsIn t m)
+cut-out m t rs r e = r ∙ ap records (rw e (sym (table-list m rs r)))
+
+pub table-is-a-list : TableIsList
+table-is-a-list = record {
+  refuses = λ m r. (λ e. refused-reads m r e, λ e. reads-refused m r e);
+  seven-each = λ m n t e. let g = given m n t e in rw (g .table-is, g .counted) (table-long (placesOf 16 0 m) ∙ ap (λ k. 7 * k) (places-many m (g .list) (g .reads)));
+  lies-in = λ m n t e. let g = given m n t e in rw (g .table-is) (table-is-list m (g .list) (g .reads));
+  reads-as = λ m n t e. let g = given m n t e in cut-out m t (g .list) (g .reads) (g .table-is);
+}

@@ -1,0 +1,3 @@
+-- Views of the code of `ndef`: nobody has to believe them.
+pub mod Headers
+pub mod Reading

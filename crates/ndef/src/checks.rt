@@ -1,0 +1,72 @@
+// The tests of one record: refusals 31 and 32.
+
+use crate::headers;
+use crate::headers::Header;
+use tag::refusals;
+ghost use mathlib.Core.Path.{_≡_};
+ghost use mathlib.Core.Bool.{cond};
+ghost use Prim.Native.Nat.{_≤_};
+ghost use lib.Dec.{eqb};
+ghost use Rattle.ndef.specs.Record.{tnfAllows};
+ghost use Rattle.ndef.specs.Views.Headers.{Small, faultFor};
+
+// Whether a record with this TNF may have a type, an ID and a payload of these lengths.
+pub fn tnf_allows(tnf: usize, rtype: usize, id: usize, payload: usize) -> bool
+    ensures { λ r. ⌜ r ≡ tnfAllows tnf rtype id payload ⌝ }
+{
+    if 6 <= tnf {
+        return false;
+    }
+    if tnf == 5 {
+        return rtype == 0;
+    }
+    if tnf != 0 {
+        return true;
+    }
+    if rtype != 0 {
+        return false;
+    }
+    if id != 0 {
+        return false;
+    }
+    payload == 0
+}
+
+// 1 if the numbers are equal, else 0.
+pub fn one_if_equal(a: usize, b: usize) -> usize
+    ensures is { λ r. ⌜ r ≡ cond (eqb a b) 1 0 ⌝ }
+    ensures small { λ r. ⌜ r ≤ 1 ⌝ }
+{
+    if a == b {
+        return 1;
+    }
+    0
+}
+
+// Refusal 31 or 32 for a record with this header, where `size` bytes of the message are left, or 0. `first` is 1 for the message's first
+// record, else 0.
+pub fn fault(h: Header, size: usize, first: usize) -> u8
+    requires { ⌜ Small h ⌝ }
+    ensures { λ r. ⌜ r ≡ faultFor h size first ⌝ }
+{
+    if h.flags / 32 % 2 != 0 {
+        return refusals::CHUNKED_RECORD;
+    }
+    if h.flags % 8 == 6 {
+        return refusals::CHUNKED_RECORD;
+    }
+    let len = headers::record_len(h);
+    if size < len {
+        return refusals::MALFORMED_RECORD;
+    }
+    if !tnf_allows(h.flags % 8, h.rtype, h.id, h.payload) {
+        return refusals::MALFORMED_RECORD;
+    }
+    if h.flags / 128 != first {
+        return refusals::MALFORMED_RECORD;
+    }
+    if h.flags / 64 % 2 != one_if_equal(len, size) {
+        return refusals::MALFORMED_RECORD;
+    }
+    refusals::NONE
+}

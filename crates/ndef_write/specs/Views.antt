@@ -1,0 +1,3 @@
+-- Views of the code that writes records.
+pub mod Sizes
+pub mod Laying
