@@ -34,7 +34,7 @@ pub part-size : (s : List ℕ) (at n : ℕ) → at + n ≤ length s → length (
 unfolding part
 part-size s at n h = length-take-le n (drop at s) (omega (arith, length-drop at s))
 
-octets-part : (s : List ℕ) → Octets s → (at n : ℕ) → Octets (part at n s)
+pub octets-part : (s : List ℕ) → Octets s → (at n : ℕ) → Octets (part at n s)
 unfolding part
 octets-part s o at n = octets-take n (drop at s) (octets-drop at s o)
 

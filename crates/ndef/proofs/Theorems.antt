@@ -3,7 +3,7 @@
 use mathlib.Core.Path.{_≡_, refl, sym, ap, _∙_}
 use mathlib.Core.Logic.{_↔_}
 use mathlib.Core.Bool.{Bool, true, false, cond}
-use mathlib.Core.List.{List, [], _∷_, _++_}
+use mathlib.Core.List.{List, [], _∷_, _++_, map}
 use Prim.Native.Nat.{ℕ, _+_, _*_, _/_, _%_, _≤_, _<_, _^_}
 use native.Mathlib.Omega.{arith}
 use lib.ListN.{length, take, drop}
@@ -16,18 +16,19 @@ use Rattle.tag.specs.Bytes.{Octets, overwrite}
 use Rattle.tag.specs.TagType.{Output, refused-output, output, fitted}
 use Rattle.tag.proofs.Logic.{nope, one-at-most}
 use Rattle.tag.proofs.Octets.{octets-append}
-use Rattle.tag.proofs.Outputs.{put-all, put-counted}
+use Rattle.tag.proofs.Outputs.{put-all, put-counted, refused-exactly}
 use Rattle.ndef.specs.Record.{Record, ndef, OctetRecord, OctetRecords}
 use Rattle.ndef.specs.Message.{records, refused, messageOf}
-use Rattle.ndef.specs.Places.{tableOf, placesOf, read}
+use Rattle.ndef.specs.declared.Place.{Place}
+use Rattle.ndef.specs.Places.{recordAt, tableOf, placesOf, read}
 use Rattle.ndef.specs.Shortest.{headerBytes, recordBytes, messageBytes, isShortest}
-use Rattle.ndef.specs.Writing.{isWritable, areWritable, isWritableList, writeList, isList, recordsIn, write}
+use Rattle.ndef.specs.Writing.{isWritable, areWritable, isWritableList, writeList, isList, placesOfTable, recordsIn, write}
 use Rattle.ndef.specs.Contracts.{ReadRecords, WroteRecords}
 use Rattle.ndef.specs.Claims.{SameList, ShortestForm, SameBytes, UnwritableExactly, TooLongExactly, TableIsList, Calls}
 use Rattle.ndef.proofs.Sound.{both, tnf-small}
 use Rattle.ndef.proofs.HeaderForms.{each-form}
 use Rattle.ndef.proofs.ListBack.{Fit, fit, Listed, listed, lists, list-back}
-use Rattle.ndef.proofs.Least.{Message, message}
+use Rattle.ndef.proofs.Least.{octets-part, Message, message}
 use Rattle.ndef.proofs.Tables.{Given, given, reads-output, reads-refused, refused-reads, table-list, places-many, table-is-list, table-long}
 
 -- ---- what is written is a list of bytes
@@ -196,4 +197,99 @@ table-is-a-list = record {
   seven-each = λ m n t e. let g = given m n t e in rw (g .table-is, g .counted) (table-long (placesOf 16 0 m) ∙ ap (λ k. 7 * k) (places-many m (g .list) (g .reads)));
   lies-in = λ m n t e. let g = given m n t e in rw (g .table-is) (table-is-list m (g .list) (g .reads));
   reads-as = λ m n t e. let g = given m n t e in cut-out m t (g .list) (g .reads) (g .table-is);
+}
+
+-- ---- the claims about the code's answers
+
+-- what was put at a buffer's front
+front-is : (xs ys : List ℕ) (n : ℕ) → n ≡ length xs → take n (overwrite xs ys) ≡ xs
+front-is xs ys n e = rw e (take-append-seam xs (drop (length xs) ys))
+
+-- a call that wrote: the table was a list, and what was written is its message
+written-list : (room : ℕ) (t bytes : List ℕ) (n : ℕ) (all : List ℕ) → write room t bytes ≡ output n all → (isList t bytes ≡ true) × (writeList room (recordsIn t bytes) ≡ output n all)
+unfolding write
+written-list room t bytes n all e = go (isList t bytes) e
+  where
+    go : (b : Bool) → cond b (writeList room (recordsIn t bytes)) (refused-output 33) ≡ output n all → (b ≡ true) × (writeList room (recordsIn t bytes) ≡ output n all)
+    go true e = (refl, e)
+    go false e = absurd (nope (cc))
+
+list-written : (room : ℕ) (t bytes : List ℕ) → isList t bytes ≡ true → write room t bytes ≡ writeList room (recordsIn t bytes)
+unfolding write
+list-written room t bytes e = rw e
+
+-- reading a message that reads: how many records, and the table's front
+read-answer : (m : List ℕ) (rs : List Record) → messageOf m ≡ records rs → (table : List ℕ) (r : CountAnswer) (out : List ℕ) → ReadRecords m table r out
+    → (r ≡ counted.Count (length rs)) × (recordsIn (take (7 * length rs) out) m ≡ rs)
+read-answer m rs e table r out w =
+    let t : List ℕ = tableOf (placesOf 16 0 m) in
+    let a = put-all (λ room. read m) table out r (length rs) t w (reads-output m rs e) in
+    let long : 7 * length rs ≡ length t = sym (table-long (placesOf 16 0 m) ∙ ap (λ k. 7 * k) (places-many m rs e)) in
+    let front : take (7 * length rs) out ≡ t = ap (take (7 * length rs)) (a .1) ∙ front-is t table (7 * length rs) long in
+    (a .0, rw front (table-list m rs e))
+
+calls-same-list : (t bytes buffer : List ℕ) (n : ℕ) (out table : List ℕ) (r : CountAnswer) (out′ : List ℕ)
+    → WroteRecords t bytes buffer (counted.Count n) out → ReadRecords (take n out) table r out′
+    → (k : ℕ) × (r ≡ counted.Count k) × (recordsIn (take (7 * k) out′) (take n out) ≡ recordsIn t bytes)
+calls-same-list t bytes buffer n out table r out′ w v =
+    let p = put-counted (λ room. write room t bytes) buffer out n w in
+    let l = written-list (length buffer) t bytes n (p .0) (p .1) in
+    let q = wrote (length buffer) (recordsIn t bytes) n (p .0) (l .1) in
+    let front : take n out ≡ p .0 = ap (take n) (p .2) ∙ front-is (p .0) buffer n (sym (q .1) ∙ ap length (q .2)) in
+    let reads : messageOf (take n out) ≡ records (recordsIn t bytes) = ap messageOf (front ∙ sym (q .2)) ∙ list-back (recordsIn t bytes) (q .0) in
+    let a = read-answer (take n out) (recordsIn t bytes) reads table r out′ v in
+    (length (recordsIn t bytes), a .0, a .1)
+
+calls-same-bytes : (m table : List ℕ) (k : ℕ) (out buffer : List ℕ) (r : CountAnswer) (out′ : List ℕ) → Octets m → length m ≤ length buffer
+    → ReadRecords m table (counted.Count k) out → WroteRecords (take (7 * k) out) m buffer r out′
+    → (n : ℕ) × (r ≡ counted.Count n) × (n ≤ length m) × (isShortest m ≡ true ↔ take n out′ ≡ m)
+calls-same-bytes m table k out buffer r out′ o room w v =
+    let p = put-counted (λ n. read m) table out k w in
+    let g = given m k (p .0) (p .1) in
+    let rs : List Record = g .list in
+    let t : List ℕ = tableOf (placesOf 16 0 m) in
+    let long : 7 * k ≡ length t = rw (g .counted) (sym (table-long (placesOf 16 0 m) ∙ ap (λ j. 7 * j) (places-many m rs (g .reads)))) in
+    let front : take (7 * k) out ≡ t = ap (take (7 * k)) (p .2 ∙ ap (λ x. overwrite x table) (g .table-is)) ∙ front-is t table (7 * k) long in
+    let l = message m rs o (g .reads) in
+    let bs : List ℕ = messageBytes 1 rs in
+    let is-list : write (length buffer) (take (7 * k) out) m ≡ writeList (length buffer) (recordsIn t m) = rw front (list-written (length buffer) t m (table-is-list m rs (g .reads))) in
+    let its-bytes : writeList (length buffer) (recordsIn t m) ≡ output (length bs) bs =
+    rw (table-list m rs (g .reads)) (writes (length buffer) rs (l .list) (omega (arith, l .least .small))) in
+    let a = put-all (λ n. write n (take (7 * k) out) m) buffer out′ r (length bs) bs v (is-list ∙ its-bytes) in
+    let taken : take (length bs) out′ ≡ bs = ap (take (length bs)) (a .1) ∙ front-is bs buffer (length bs) refl in (
+      length bs,
+      a .0,
+      l .least .small,
+      (λ q. taken ∙ sym (l .least .same (l .even q)), λ e. l .shortest (ap length (sym taken ∙ e))),
+    )
+
+-- the records of a table are made of octets if its bytes are
+table-octets : (bytes : List ℕ) → Octets bytes → (ps : List Place) → OctetRecords (map (recordAt bytes) ps)
+unfolding recordAt
+table-octets bytes o [] = tt
+table-octets bytes o (p ∷ ps) =
+    ((octets-part bytes o (p .rtype .at) (p .rtype .len), octets-part bytes o (p .id .at) (p .id .len), octets-part bytes o (p .payload .at) (p .payload .len)), table-octets bytes o ps)
+
+module _ (room : ℕ) (t bytes : List ℕ) (o : Octets bytes) where
+  none-if-refused : write room t bytes ≡ refused-output 33 → isList t bytes ≡ true → (m : List ℕ) → Octets m → messageOf m ≡ records (recordsIn t bytes) → ⊥
+  none-if-refused e l = none-reads (recordsIn t bytes) (table-octets bytes o (placesOfTable t)) room (sym (list-written room t bytes l) ∙ e)
+
+  refused-if-none : (isList t bytes ≡ true → (m : List ℕ) → Octets m → messageOf m ≡ records (recordsIn t bytes) → ⊥) → write room t bytes ≡ refused-output 33
+  unfolding write
+  refused-if-none none = go (isList t bytes) refl
+    where
+      go : (b : Bool) → isList t bytes ≡ b → cond b (writeList room (recordsIn t bytes)) (refused-output 33) ≡ refused-output 33
+      go true q = none-writes (recordsIn t bytes) (table-octets bytes o (placesOfTable t)) room (none q)
+      go false q = refl
+
+pub calls : Calls
+calls = record {
+  refuses = λ m table r out k w.
+      let e = refused-exactly (read m) r k (w .0) in
+      (λ q. refused-reads m k (e .0 q), λ q. e .1 (reads-refused m k q));
+  unwritable = λ t bytes buffer r out o w.
+      let e = refused-exactly (write (length buffer) t bytes) r 33 (w .0) in
+      (λ q. none-if-refused (length buffer) t bytes o (e .0 q), λ none. e .1 (refused-if-none (length buffer) t bytes o none));
+  same-list = calls-same-list;
+  same-bytes = calls-same-bytes;
 }

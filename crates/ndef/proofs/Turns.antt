@@ -117,7 +117,7 @@ module _ (s : List ℕ) where
     unfolding onto
     ended l = w .same ∙ rw (at-end first (16 - count) (drop at s) (rw length-drop (omega arith)), append-nil)
 
-    left : at < length s → length (drop at s) ≡ 0 → ⊥
+    pub left : at < length s → length (drop at s) ≡ 0 → ⊥
     left l e = omega (arith, length-drop at s)
 
     one-less : (count ≡ 16 → ⊥) → 16 - count ≡ suc (16 - (count + 1))
@@ -128,7 +128,7 @@ module _ (s : List ℕ) where
     overfull l e = w .same ∙ rw (e, too-many first (drop at s) (left l))
 
     module _ (h : Header) (q : Says (take (length s - at) (drop at s)) h) where
-      says : Says (drop at s) h
+      pub says : Says (drop at s) h
       says = rw (rest-is s at) at q
 
       size-is : length s - at ≡ length (drop at s)

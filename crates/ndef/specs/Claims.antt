@@ -62,12 +62,16 @@ pub record TableIsList : Type 0 where
 
 -- ---- of what the code answers
 
--- The calls answer as their contracts say. What was written, read again, has the records that were written; a message that was read,
+-- The calls answer as their contracts say. Reading refuses exactly where the definition does, and writing gives 33 exactly if the table is
+-- no list or no message reads as the list. What was written, read again, has the records that were written. A message that was read,
 -- written again from its table, gets no longer, and is the same bytes exactly if it used the shortest form.
 pub record Calls : Type 0 where
-  pub same-list : (t bytes buffer : List ℕ) (n : ℕ) (out table : List ℕ) (r : CountAnswer) (out′ : List ℕ) → length table ≡ 112
+  pub refuses : (m table : List ℕ) (r : CountAnswer) (out : List ℕ) (k : ℕ) → ReadRecords m table r out → r ≡ counted.Refused k ↔ messageOf m ≡ refused k
+  pub unwritable : (t bytes buffer : List ℕ) (r : CountAnswer) (out : List ℕ) → Octets bytes → WroteRecords t bytes buffer r out
+      → r ≡ counted.Refused unwritable-records ↔ (isList t bytes ≡ true → (m : List ℕ) → Octets m → messageOf m ≡ records (recordsIn t bytes) → ⊥)
+  pub same-list : (t bytes buffer : List ℕ) (n : ℕ) (out table : List ℕ) (r : CountAnswer) (out′ : List ℕ)
       → WroteRecords t bytes buffer (counted.Count n) out → ReadRecords (take n out) table r out′
       → (k : ℕ) × (r ≡ counted.Count k) × (recordsIn (take (numbersEach * k) out′) (take n out) ≡ recordsIn t bytes)
-  pub same-bytes : (m table : List ℕ) (k : ℕ) (out buffer : List ℕ) (r : CountAnswer) (out′ : List ℕ) → length table ≡ 112 → Octets m → length m ≤ length buffer
+  pub same-bytes : (m table : List ℕ) (k : ℕ) (out buffer : List ℕ) (r : CountAnswer) (out′ : List ℕ) → Octets m → length m ≤ length buffer
       → ReadRecords m table (counted.Count k) out → WroteRecords (take (numbersEach * k) out) m buffer r out′
       → (n : ℕ) × (r ≡ counted.Count n) × (n ≤ length m) × (isShortest m ≡ true ↔ take n out′ ≡ m)

@@ -5,24 +5,15 @@ use crate::headers::Header;
 use tag::refusals;
 ghost use mathlib.Core.Path.{_≡_};
 ghost use mathlib.Core.Bool.{cond};
-ghost use Prim.Native.Nat.{_≤_};
+ghost use Prim.Native.Nat.{_+_, _≤_};
 ghost use lib.Dec.{eqb};
 ghost use Rattle.ndef.specs.Record.{tnfAllows};
 ghost use Rattle.ndef.specs.Views.Headers.{Small, faultFor};
 
-// Whether a record with this TNF may have a type, an ID and a payload of these lengths.
-pub fn tnf_allows(tnf: usize, rtype: usize, id: usize, payload: usize) -> bool
-    ensures { λ r. ⌜ r ≡ tnfAllows tnf rtype id payload ⌝ }
+// Whether there is no type, no ID and no payload.
+fn none_of(rtype: usize, id: usize, payload: usize) -> bool
+    ensures { λ r. ⌜ r ≡ eqb (rtype + id + payload) 0 ⌝ }
 {
-    if 6 <= tnf {
-        return false;
-    }
-    if tnf == 5 {
-        return rtype == 0;
-    }
-    if tnf != 0 {
-        return true;
-    }
     if rtype != 0 {
         return false;
     }
@@ -30,6 +21,22 @@ pub fn tnf_allows(tnf: usize, rtype: usize, id: usize, payload: usize) -> bool
         return false;
     }
     payload == 0
+}
+
+// Whether a record with this TNF may have a type, an ID and a payload of these lengths.
+pub fn tnf_allows(tnf: usize, rtype: usize, id: usize, payload: usize) -> bool
+    ensures { λ r. ⌜ r ≡ tnfAllows tnf rtype id payload ⌝ }
+{
+    if tnf == 0 {
+        return none_of(rtype, id, payload);
+    }
+    if tnf < 5 {
+        return true;
+    }
+    if tnf == 5 {
+        return rtype == 0;
+    }
+    false
 }
 
 // 1 if the numbers are equal, else 0.

@@ -1,10 +1,10 @@
 // The header of a record: what its bytes say of the record's lengths.
 
 ghost use mathlib.Core.Path.{_≡_};
-ghost use Prim.Native.Nat.{_≤_, _<_, _^_};
+ghost use Prim.Native.Nat.{_+_, _*_, _<_, _^_};
 ghost use Rattle.tag.specs.Bytes.{byte};
-ghost use Rattle.ndef.specs.Header.{headerLength, payloadLength, idLength};
-ghost use Rattle.ndef.specs.Views.Headers.{Says, Small, lengthFor};
+ghost use Rattle.ndef.specs.Header.{sr, headerLength};
+ghost use Rattle.ndef.specs.Views.Headers.{Says, Small, lengthFor, packedFor, headerFrom};
 
 // What the header of a record says: its first byte, and the lengths of the header, the type, the ID and the payload.
 pub struct Header {
@@ -26,20 +26,106 @@ fn byte(s: &[u8], at: usize) -> usize
     0
 }
 
-// The payload's length: one byte with SR, else four.
-fn payload_len(flags: usize, s: &[u8]) -> usize
-    ensures is { λ r. ⌜ r ≡ payloadLength flags (now (s .entry)) ⌝ }
+// The number that four bytes of a header give, high byte first.
+fn long_len(s: &[u8]) -> usize
+    ensures is { λ r. ⌜ r ≡ byte (now (s .entry)) 2 * 16777216 + byte (now (s .entry)) 3 * 65536 + byte (now (s .entry)) 4 * 256 + byte (now (s .entry)) 5 ⌝ }
     ensures small { λ r. ⌜ r < 2 ^ 32 ⌝ }
 {
-    if flags / 16 % 2 == 1 {
-        return byte(s, 2);
-    }
     byte(s, 2) * 16777216 + byte(s, 3) * 65536 + byte(s, 4) * 256 + byte(s, 5)
 }
 
+// The header of a short record: the payload's length is one byte.
+fn short_header(flags: usize, s: &[u8]) -> Header
+    requires { ⌜ (flags ≡ byte (now s) 0) × (sr flags ≡ 1) × (flags < 256) ⌝ }
+    ensures says { λ r. ⌜ Says (now (s .entry)) r ⌝ }
+    ensures small { λ r. ⌜ Small r ⌝ }
+{
+    if flags / 8 % 2 == 1 {
+        let rtype = byte(s, 1);
+        let payload = byte(s, 2);
+        let id = byte(s, 3);
+        return Header {
+            flags,
+            len: 4,
+            rtype,
+            id,
+            payload,
+        };
+    }
+    let rtype = byte(s, 1);
+    let payload = byte(s, 2);
+    Header {
+        flags,
+        len: 3,
+        rtype,
+        id: 0,
+        payload,
+    }
+}
+
+// The header of a record that is not short: the payload's length is four bytes.
+fn long_header(flags: usize, s: &[u8]) -> Header
+    requires { ⌜ (flags ≡ byte (now s) 0) × (sr flags ≡ 1 → ⊥) × (flags < 256) ⌝ }
+    ensures says { λ r. ⌜ Says (now (s .entry)) r ⌝ }
+    ensures small { λ r. ⌜ Small r ⌝ }
+{
+    if flags / 8 % 2 == 1 {
+        let rtype = byte(s, 1);
+        let payload = long_len(s);
+        let id = byte(s, 6);
+        return Header {
+            flags,
+            len: 7,
+            rtype,
+            id,
+            payload,
+        };
+    }
+    let rtype = byte(s, 1);
+    let payload = long_len(s);
+    Header {
+        flags,
+        len: 6,
+        rtype,
+        id: 0,
+        payload,
+    }
+}
+
+// The header at the front of `s`. Each form has its own branch, and its length is a constant there: the place of the next record then
+// waits for no test of the flags.
+pub fn header_of(s: &[u8]) -> Header
+    ensures says { λ r. ⌜ Says (now (s .entry)) r ⌝ }
+    ensures small { λ r. ⌜ Small r ⌝ }
+{
+    let flags = byte(s, 0);
+    if flags / 16 % 2 == 1 {
+        return short_header(flags, s);
+    }
+    long_header(flags, s)
+}
+
+// The length of the whole record.
+pub fn record_len(h: Header) -> usize
+    requires { ⌜ lengthFor h < 2 ^ 64 ⌝ }
+    ensures { λ r. ⌜ r ≡ lengthFor h ⌝ }
+{
+    h.len + h.rtype + h.id + h.payload
+}
+
+// ---- a header as one number
+
+// The flags and the lengths of type and ID are a byte each, from the lowest on. Above them is the length of the payload.
+pub(crate) fn packed(h: Header) -> u64
+    requires { ⌜ Small h ⌝ }
+    ensures { λ r. ⌜ r ≡ packedFor h ⌝ }
+{
+    (h.flags + 256 * h.rtype + 65536 * h.id + 16777216 * h.payload) as u64
+}
+
+// The length of a header, by its flags.
 fn header_len(flags: usize) -> usize
-    ensures is { λ r. ⌜ r ≡ headerLength flags ⌝ }
-    ensures small { λ r. ⌜ (3 ≤ r) × (r ≤ 7) ⌝ }
+    ensures { λ r. ⌜ r ≡ headerLength flags ⌝ }
 {
     if flags / 16 % 2 == 1 {
         if flags / 8 % 2 == 1 {
@@ -53,28 +139,16 @@ fn header_len(flags: usize) -> usize
     6
 }
 
-// The ID's length, which is the header's last byte; 0 without IL.
-fn id_len(flags: usize, len: usize, s: &[u8]) -> usize
-    requires { ⌜ (3 ≤ len) × (len ≡ headerLength flags) ⌝ }
-    ensures is { λ r. ⌜ r ≡ idLength flags (now (s .entry)) ⌝ }
-    ensures small { λ r. ⌜ r < 256 ⌝ }
+// The header that was packed.
+pub(crate) fn unpacked(word: u64) -> Header
+    ensures { λ r. ⌜ r ≡ headerFrom word ⌝ }
 {
-    if flags / 8 % 2 == 1 {
-        return byte(s, len - 1);
-    }
-    0
-}
-
-// The header at the front of `s`.
-pub fn header_of(s: &[u8]) -> Header
-    ensures says { λ r. ⌜ Says (now (s .entry)) r ⌝ }
-    ensures small { λ r. ⌜ Small r ⌝ }
-{
-    let flags = byte(s, 0);
+    let w = word as usize;
+    let flags = w % 256;
     let len = header_len(flags);
-    let rtype = byte(s, 1);
-    let id = id_len(flags, len, s);
-    let payload = payload_len(flags, s);
+    let rtype = w / 256 % 256;
+    let id = w / 65536 % 256;
+    let payload = w / 16777216;
     Header {
         flags,
         len,
@@ -82,12 +156,4 @@ pub fn header_of(s: &[u8]) -> Header
         id,
         payload,
     }
-}
-
-// The length of the whole record.
-pub fn record_len(h: Header) -> usize
-    requires { ⌜ Small h ⌝ }
-    ensures { λ r. ⌜ r ≡ lengthFor h ⌝ }
-{
-    h.len + h.rtype + h.id + h.payload
 }

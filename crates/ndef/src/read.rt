@@ -1,7 +1,7 @@
 // Reading a message: how many records it has, and a table of their places.
 //
-// The message is gone through twice: once with all tests, and once to fill in the table, when nothing can be refused any more. So a
-// refusal leaves the table as it was, and no list of sixteen places is made and copied for a message of one record.
+// One loop tests the records and keeps each header, packed in a number. A second fills in the table from these, when nothing can be
+// refused any more. So a refusal leaves the table as it was, and no table of sixteen records is made and copied for a message of one.
 
 use crate::MOST;
 use crate::NUMBERS;
@@ -23,11 +23,13 @@ ghost use Rattle.ndef.specs.Record.{most};
 ghost use Rattle.ndef.specs.Places.{numbersOf, tableOf, placeOf, placesOf, read};
 ghost use Rattle.ndef.specs.Contracts.{ReadRecords};
 ghost use Rattle.ndef.specs.Views.Headers.{lengthFor, placeFor};
-ghost use Rattle.ndef.specs.Views.Reading.{Reads};
+ghost use Rattle.ndef.specs.Views.Reading.{Reads, Keeps, Filling};
 
-// How many records the message has, or the refusal.
-pub fn count_records(message: &[u8]) -> CountAnswer
-    ensures { λ r. ⌜ countAs r ≡ countOf (read (now (message .entry))) ⌝ }
+// How many records the message has, or the refusal. The headers of the records are put in `kept`.
+fn keep_headers(message: &[u8], kept: &mut [u64]) -> CountAnswer
+    requires { ⌜ length (now kept) ≡ most ⌝ }
+    ensures is { λ r. ⌜ countAs r ≡ countOf (read (now (message .entry))) ⌝ }
+    ensures keeps { λ r. ⌜ Keeps (now (message .entry)) (now (kept .entry)) r (now (kept .exit)) ⌝ }
 {
     if message.len() == 0 {
         return CountAnswer::Refused(refusals::MALFORMED_RECORD);
@@ -44,6 +46,7 @@ pub fn count_records(message: &[u8]) -> CountAnswer
         if refusal != refusals::NONE {
             return CountAnswer::Refused(refusal);
         }
+        kept[count] = headers::packed(h);
         at += headers::record_len(h);
         count += 1;
         first = 0;
@@ -93,20 +96,35 @@ fn put_place(p: Place, table: &mut [u64], at: usize)
     table[at + 6] = p.payload.len as u64;
 }
 
-// Fills in the table for a message that reads.
-fn put_places(message: &[u8], table: &mut [u64])
+// Fills in the table for a message that reads, from the headers that were kept.
+fn put_places(message: &[u8], kept: &[u64], table: &mut [u64])
     requires { ⌜ Reads 1 most (now message) ⌝ }
-    requires { ⌜ length (now table) ≡ 112 ⌝ }
+    requires { ⌜ Filling (now message) (now kept) (now table) ⌝ }
     ensures { λ _. ⌜ now (table .exit) ≡ overwrite (tableOf (placesOf most 0 (now (message .entry)))) (now (table .entry)) ⌝ }
 {
     let mut at = 0usize;
-    let mut n = 0usize;
+    let mut i = 0usize;
     while at < message.len() {
-        let h = headers::header_of(&message[at..]);
+        let h = headers::unpacked(kept[i]);
         let p = place_of(h, at);
-        put_place(p, table, n);
+        put_place(p, table, NUMBERS * i);
         at += headers::record_len(h);
-        n += NUMBERS;
+        i += 1;
+    }
+}
+
+// Reads a message with room for its headers.
+fn read_with(message: &[u8], kept: &mut [u64], table: &mut [u64; TABLE]) -> CountAnswer
+    requires { ⌜ length (now kept) ≡ most ⌝ }
+    ensures { λ r. ⌜ ReadRecords (now (message .entry)) (now (table .entry)) r (now (table .exit)) ⌝ }
+{
+    let counted = keep_headers(message, kept);
+    match counted {
+        CountAnswer::Refused(r) => CountAnswer::Refused(r),
+        CountAnswer::Count(n) => {
+            put_places(message, kept, table);
+            CountAnswer::Count(n)
+        }
     }
 }
 
@@ -115,12 +133,6 @@ fn put_places(message: &[u8], table: &mut [u64])
 pub fn read(message: &[u8], table: &mut [u64; TABLE]) -> CountAnswer
     ensures { λ r. ⌜ ReadRecords (now (message .entry)) (now (table .entry)) r (now (table .exit)) ⌝ }
 {
-    let counted = count_records(message);
-    match counted {
-        CountAnswer::Refused(r) => CountAnswer::Refused(r),
-        CountAnswer::Count(n) => {
-            put_places(message, table);
-            CountAnswer::Count(n)
-        }
-    }
+    let mut kept = [0u64; MOST];
+    read_with(message, &mut kept, table)
 }

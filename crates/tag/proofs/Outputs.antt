@@ -2,6 +2,7 @@
 -- Assumes nothing.
 use mathlib.Core.Path.{_≡_, refl, sym, ap, _∙_}
 use mathlib.Core.Bool.{Bool, true, false, _&&_}
+use mathlib.Core.Logic.{_↔_}
 use mathlib.Core.List.{List}
 use Prim.Native.Nat.{ℕ}
 use lib.Dec.{leb}
@@ -58,3 +59,11 @@ module _ (o : ℕ → Output) (buffer out : List ℕ) where
           let z : gives n ≡ gives k = a ∙ ap countOf q in
           let k-n : k ≡ n = cc in
           (all, q ∙ ap (λ x. output x all) k-n, b ∙ ap (outputInto buffer) q)
+
+-- a refusal is answered exactly if the output is that refusal
+pub refused-exactly : (o : Output) (r : count.CountAnswer) (k : ℕ) → countAs r ≡ countOf o → r ≡ counted.Refused k ↔ o ≡ refused-output k
+refused-exactly o r k e = (λ q. go o (sym (ap countAs q) ∙ e), λ z. refused-count-is r k (e ∙ ap countOf z))
+  where
+    go : (o : Output) → refusesOne k ≡ countOf o → o ≡ refused-output k
+    go (refused-output j) e = ap refused-output (sym (same-refusal k j e))
+    go (output n all) e = absurd (nope (cc))

@@ -3,7 +3,7 @@
 use mathlib.Core.Path.{_≡_}
 use mathlib.Core.Bool.{cond}
 use mathlib.Core.List.{List}
-use Prim.Native.Nat.{ℕ, _+_, _<_, _≤_, _^_}
+use Prim.Native.Nat.{ℕ, _+_, _*_, _/_, _%_, _<_, _≤_, _^_}
 use lib.Dec.{eqb, leb}
 use Rattle.tag.specs.Bytes.{byte}
 use Rattle.tag.specs.Refusals.{chunked-record, malformed-record}
@@ -27,10 +27,19 @@ pub record Small (h : Header) : Type 0 where
   pub type-small : h .rtype < 256
   pub id-small : h .id < 256
   pub payload-small : h .payload < 2 ^ 32
+  pub flags-small : h .flags < 256
 
 -- the length of the record
 abbrev pub lengthFor : Header → ℕ
 lengthFor h = h .len + h .rtype + h .id + h .payload
+
+-- a header as one number: the flags and the lengths of type and ID, a byte each, and above them the length of the payload
+abbrev pub packedFor : Header → ℕ
+packedFor h = h .flags + 256 * h .rtype + 65536 * h .id + 16777216 * h .payload
+
+-- and the header of such a number
+abbrev pub headerFrom : ℕ → Header
+headerFrom w = record { flags = w % 256; len = headerLength (w % 256); rtype = w / 256 % 256; id = w / 65536 % 256; payload = w / 16777216 }
 
 -- the tests of a record as the code makes them; 0 is no refusal
 unfoldable pub faultFor : Header → ℕ → ℕ → ℕ
