@@ -11,3 +11,4 @@ pub mod Packing
 pub mod Tables
 pub mod Filling
 pub mod Theorems
+pub mod Specimens

@@ -7,5 +7,6 @@ pub mod Places
 pub mod Shortest
 pub mod Writing
 pub mod Contracts
+pub mod Specimens
 pub mod Claims
 pub mod Views
