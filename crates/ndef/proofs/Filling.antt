@@ -1,16 +1,14 @@
 -- Filling in the table of a message that reads, place by place.
 -- Assumes nothing.
 use mathlib.Core.Path.{_≡_, refl, sym, ap, subst, _∙_}
-use mathlib.Core.Bool.{Bool, true, false}
-use mathlib.Core.List.{List, [], _∷_, _++_, append-nil, append-assoc}
+use mathlib.Core.List.{List, [], _++_, append-nil, append-assoc}
 use Prim.Native.Nat.{ℕ, zero, suc, _+_, _-_, _*_, _≤_, _<_}
 use native.Mathlib.Omega.{arith}
-use lib.ListN.{length, take, drop, length-append, length-drop}
+use lib.ListN.{length, drop, length-append, length-drop}
 use lib.Seq.{sets, length-sets, drop-drop}
 use Rattle.tag.specs.declared.CountAnswer.{CountAnswer}
 use Rattle.tag.specs.declared.CountAnswer.the-variants as counted
 use Rattle.tag.specs.Bytes.{byte, Octets, overwrite}
-use Rattle.tag.specs.Checks.{fine, firstOf}
 use Rattle.tag.specs.TagType.{Output, refused-output, output, outputInto}
 use Rattle.tag.specs.Answers.{gives, refusesOne, countOf, countAs}
 use Rattle.tag.proofs.Logic.{nope}
@@ -18,13 +16,12 @@ use Rattle.tag.proofs.Octets.{octets-drop}
 use Rattle.tag.proofs.Storing.{sets-append, sets-front}
 use Rattle.ndef.specs.declared.headers.Header.{Header}
 use Rattle.ndef.specs.Header.{recordLength}
-use Rattle.ndef.specs.Message.{recordChecks, recordsOf}
 use Rattle.ndef.specs.Places.{numbersOf, tableOf, placeOf, placesOf, read}
 use Rattle.ndef.specs.Views.Headers.{Says, lengthFor, headerFrom, placeFor}
 use Rattle.ndef.specs.Views.Reading.{Reads, wordsOf, Keeps}
 use Rattle.ndef.proofs.Turns.{too-many, whole, Step, step, length-is}
 use Rattle.ndef.proofs.Packing.{Split, split-start, split-turn, kept-word, kept-within, says-unpacked}
-use Rattle.ndef.proofs.Tables.{no-places, one-place, Given, given, from-start}
+use Rattle.ndef.proofs.Tables.{no-places, one-place, given, from-start}
 
 -- the place that the code makes
 place-is : (s : List ℕ) (h : Header) (at : ℕ) → Says s h → placeFor h at ≡ placeOf at s

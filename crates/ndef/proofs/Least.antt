@@ -3,7 +3,7 @@
 use mathlib.Core.Path.{_≡_, refl, sym, ap, ap₂, _∙_}
 use mathlib.Core.Bool.{Bool, true, false, cond}
 use mathlib.Core.List.{List, [], _∷_, _++_, append-assoc}
-use Prim.Native.Nat.{ℕ, zero, suc, _+_, _-_, _*_, _/_, _%_, _≤_, _<_, _^_}
+use Prim.Native.Nat.{ℕ, zero, suc, _+_, _-_, _*_, _≤_, _<_}
 use native.Mathlib.Omega.{arith}
 use lib.ListN.{length, take, drop, length-append, length-drop, take-append-drop}
 use lib.Seq.{take-add, length-take-le}
@@ -13,14 +13,14 @@ use Rattle.tag.specs.Bytes.{byte, Octets}
 use Rattle.tag.specs.Checks.{fine, firstOf}
 use Rattle.tag.proofs.Logic.{nope}
 use Rattle.tag.proofs.Octets.{octets-take, octets-drop}
-use Rattle.ndef.specs.Record.{Record, ndef, tnfAllows, OctetRecord, OctetRecords}
+use Rattle.ndef.specs.Record.{Record, ndef, OctetRecord, OctetRecords}
 use Rattle.ndef.specs.Header.{me, tnf, headerLength, idLength, payloadLength, recordLength}
 use Rattle.ndef.specs.Message.{records, part, recordChecks, recordBy, recordOf, recordsOf, messageOf}
 use Rattle.ndef.specs.Shortest.{headerBytes, recordBytes, messageBytes, isShortestHeader, areShortest, isShortest}
 use Rattle.ndef.specs.Writing.{isWritable, areWritable}
 use Rattle.ndef.proofs.Sound.{sound, both}
-use Rattle.ndef.proofs.Turns.{too-many, no-message, some-message, Step, step, none-read}
-use Rattle.ndef.proofs.HeaderLeast.{Tight, Headed, headed, Even, even}
+use Rattle.ndef.proofs.Turns.{too-many, no-message, some-message, step, none-read}
+use Rattle.ndef.proofs.HeaderLeast.{Tight, headed, even}
 use Rattle.ndef.proofs.ListBack.{Fit, Listed, fits-so}
 
 -- `front`, `size` bytes long, against the bytes that are written

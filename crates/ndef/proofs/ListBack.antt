@@ -1,11 +1,11 @@
 -- What is written reads as what was written: one record, then a list.
 -- Assumes nothing.
-use mathlib.Core.Path.{_≡_, refl, sym, ap, _∙_}
+use mathlib.Core.Path.{_≡_, refl, _∙_}
 use mathlib.Core.Bool.{Bool, true, false, cond}
 use mathlib.Core.List.{List, [], _∷_, _++_, append-assoc}
 use Prim.Native.Nat.{ℕ, zero, suc, _+_, _*_, _≤_, _<_, _^_}
 use native.Mathlib.Omega.{arith}
-use lib.ListN.{length, drop, length-append}
+use lib.ListN.{length, length-append}
 use lib.Seq.{drop-append-seam}
 use lib.Dec.{eqb, ltb, leb}
 use borrow.Author.Tests.{lt-ltb, eq-eqb, ne-eqb, ltb-true, eqb-true, eqb-false, leb-true, le-leb}
@@ -13,11 +13,11 @@ use Rattle.tag.specs.Bytes.{byte}
 use Rattle.tag.specs.Checks.{fine, firstOf}
 use Rattle.tag.proofs.Logic.{nope, one-at-most}
 use Rattle.ndef.specs.Record.{Record, ndef, tnfAllows}
-use Rattle.ndef.specs.Header.{headerLength, idLength, payloadLength, recordLength}
-use Rattle.ndef.specs.Message.{records, recordChecks, recordOf, onto, recordsOf, messageOf}
+use Rattle.ndef.specs.Header.{recordLength}
+use Rattle.ndef.specs.Message.{records, recordChecks, onto, recordsOf, messageOf}
 use Rattle.ndef.specs.Shortest.{headerBytes, recordBytes, messageBytes}
 use Rattle.ndef.specs.Writing.{headerHolds, isWritable, areWritable, isWritableList}
-use Rattle.ndef.proofs.Sound.{Sound, passes, both, tnf-small}
+use Rattle.ndef.proofs.Sound.{passes, both, tnf-small}
 use Rattle.ndef.proofs.Turns.{at-end, one-record, some-message}
 use Rattle.ndef.proofs.HeaderForms.{record-long, record-some}
 use Rattle.ndef.proofs.HeaderBack.{Back, back, record-back}

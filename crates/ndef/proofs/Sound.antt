@@ -8,7 +8,7 @@ use native.Mathlib.Omega.{arith}
 use lib.ListN.{length}
 use lib.Dec.{eqb, leb, ltb}
 use borrow.Author.Tests.{le-leb, leb-true, eq-eqb, ne-eqb, eqb-true, ltb-true}
-use Rattle.tag.specs.Checks.{check, fine, fault, firstOf}
+use Rattle.tag.specs.Checks.{check, fine, firstOf}
 use Rattle.tag.specs.Views.Faults.{faultAs}
 use Rattle.tag.proofs.Checks.{fine-all, all-fine}
 use Rattle.tag.proofs.Logic.{nope}

@@ -1,23 +1,23 @@
 -- The table of a message's places, with the message for its bytes, is the list of its records.
 -- Assumes nothing.
 use mathlib.Core.Path.{_≡_, refl, sym, ap, ap₂, _∙_}
-use mathlib.Core.Bool.{Bool, true, false, _&&_, cond}
+use mathlib.Core.Bool.{Bool, true, false, _&&_}
 use mathlib.Core.List.{List, [], _∷_, _++_, map, append-assoc}
-use Prim.Native.Nat.{ℕ, zero, suc, _+_, _-_, _*_, _/_, _%_, _≤_, _<_}
+use Prim.Native.Nat.{ℕ, zero, suc, _+_, _-_, _*_, _/_, _%_, _≤_}
 use native.Mathlib.Omega.{arith}
 use native.Mathlib.Nat.{add-assoc}
-use lib.ListN.{length, take, drop, length-map, length-append, length-drop}
+use lib.ListN.{length, drop, length-map, length-append, length-drop}
 use lib.Seq.{drop-drop}
 use lib.Dec.{eqb, leb}
 use borrow.Author.Tests.{eq-eqb, ne-eqb, eqb-true, eqb-false, le-leb}
 use Rattle.tag.specs.Bytes.{byte}
 use Rattle.tag.specs.Checks.{fine, firstOf}
 use Rattle.tag.specs.declared.CountAnswer.the-variants as counted
-use Rattle.tag.specs.TagType.{Output, refused-output, output}
+use Rattle.tag.specs.TagType.{refused-output, output}
 use Rattle.tag.specs.Answers.{gives, countOf, countAs}
 use Rattle.tag.proofs.Logic.{nope}
 use Rattle.ndef.specs.declared.Place.{Place}
-use Rattle.ndef.specs.Record.{Record, ndef}
+use Rattle.ndef.specs.Record.{Record}
 use Rattle.ndef.specs.Header.{headerLength, idLength, payloadLength, recordLength}
 use Rattle.ndef.specs.Message.{Parsed, records, refused, part, recordChecks, recordBy, recordOf, recordsOf, messageOf}
 use Rattle.ndef.specs.Places.{recordAt, liesIn, numbersOf, tableOf, firstPlace, placesIn, placeOf, placesOf, readBy, read}

@@ -4,21 +4,21 @@ use mathlib.Core.Path.{_≡_, refl, sym, ap, _∙_}
 use mathlib.Core.Logic.{_↔_}
 use mathlib.Core.Bool.{Bool, true, false, cond}
 use mathlib.Core.List.{List, [], _∷_, _++_, map}
-use Prim.Native.Nat.{ℕ, _+_, _*_, _/_, _%_, _≤_, _<_, _^_}
+use Prim.Native.Nat.{ℕ, _+_, _*_, _≤_, _<_}
 use native.Mathlib.Omega.{arith}
 use lib.ListN.{length, take, drop}
 use lib.Seq.{take-append-seam}
-use lib.Dec.{eqb, leb, ltb}
-use borrow.Author.Tests.{le-leb, lt-leb, leb-true, leb-false}
+use lib.Dec.{eqb, leb}
+use borrow.Author.Tests.{le-leb, lt-leb, leb-false}
 use Rattle.tag.specs.declared.CountAnswer.{CountAnswer}
 use Rattle.tag.specs.declared.CountAnswer.the-variants as counted
 use Rattle.tag.specs.Bytes.{Octets, overwrite}
-use Rattle.tag.specs.TagType.{Output, refused-output, output, fitted}
+use Rattle.tag.specs.TagType.{refused-output, output}
 use Rattle.tag.proofs.Logic.{nope, one-at-most}
 use Rattle.tag.proofs.Octets.{octets-append}
 use Rattle.tag.proofs.Outputs.{put-all, put-counted, refused-exactly}
 use Rattle.ndef.specs.Record.{Record, ndef, OctetRecord, OctetRecords}
-use Rattle.ndef.specs.Message.{records, refused, messageOf}
+use Rattle.ndef.specs.Message.{records, messageOf}
 use Rattle.ndef.specs.declared.Place.{Place}
 use Rattle.ndef.specs.Places.{recordAt, tableOf, placesOf, read}
 use Rattle.ndef.specs.Shortest.{headerBytes, recordBytes, messageBytes, isShortest}
@@ -27,9 +27,9 @@ use Rattle.ndef.specs.Contracts.{ReadRecords, WroteRecords}
 use Rattle.ndef.specs.Claims.{SameList, ShortestForm, SameBytes, UnwritableExactly, TooLongExactly, TableIsList, Calls}
 use Rattle.ndef.proofs.Sound.{both, tnf-small}
 use Rattle.ndef.proofs.HeaderForms.{each-form}
-use Rattle.ndef.proofs.ListBack.{Fit, fit, Listed, listed, lists, list-back}
+use Rattle.ndef.proofs.ListBack.{fit, Listed, listed, lists, list-back}
 use Rattle.ndef.proofs.Least.{octets-part, Message, message}
-use Rattle.ndef.proofs.Tables.{Given, given, reads-output, reads-refused, refused-reads, table-list, places-many, table-is-list, table-long}
+use Rattle.ndef.proofs.Tables.{given, reads-output, reads-refused, refused-reads, table-list, places-many, table-is-list, table-long}
 
 -- ---- what is written is a list of bytes
 

@@ -2,9 +2,8 @@
 -- Assumes nothing.
 use mathlib.Core.Path.{_≡_, refl, sym, ap, _∙_}
 use mathlib.Core.List.{List, [], _∷_, _++_, append-nil, append-assoc}
-use Prim.Native.Nat.{ℕ, zero, suc, _+_, _-_, _*_, _≤_, _<_}
+use Prim.Native.Nat.{ℕ, zero, suc, _+_, _-_, _≤_, _<_}
 use native.Mathlib.Omega.{arith}
-use native.Mathlib.Nat.{add-assoc}
 use lib.ListN.{length, take, drop, length-append, length-drop}
 use lib.Seq.{drop-drop, take-all}
 use borrow.Author.Tests.{eq-eqb, ne-eqb}
@@ -18,7 +17,7 @@ use Rattle.ndef.specs.Record.{Record}
 use Rattle.ndef.specs.Header.{headerLength, idLength, payloadLength, recordLength}
 use Rattle.ndef.specs.Message.{Parsed, records, refused, recordChecks, recordOf, onto, recordsOf, messageOf}
 use Rattle.ndef.specs.Views.Headers.{Says, lengthFor, faultFor}
-use Rattle.ndef.proofs.Sound.{Sound, sound, fault-is}
+use Rattle.ndef.proofs.Sound.{sound, fault-is}
 
 -- ---- one turn of the definition
 

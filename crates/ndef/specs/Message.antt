@@ -9,7 +9,7 @@ use lib.Dec.{eqb, leb}
 use lib.ListN.{length, take, drop}
 use Rattle.tag.specs.Bytes.{byte}
 use Rattle.tag.specs.Refusals.{too-many-records, chunked-record, malformed-record}
-use Rattle.tag.specs.Checks.{Check, check, Checked, fine, fault, firstOf}
+use Rattle.tag.specs.Checks.{Check, check, fine, fault, firstOf}
 use Rattle.ndef.specs.Record.{Record, ndef, most, tnfAllows}
 use Rattle.ndef.specs.Header.{mb, me, cf, tnf, headerLength, payloadLength, idLength, recordLength}
 

@@ -20,7 +20,7 @@ ghost use lib.Seq.{sets};
 ghost use Rattle.tag.specs.Bytes.{overwrite};
 ghost use Rattle.tag.specs.Answers.{countOf, countAs};
 ghost use Rattle.ndef.specs.Record.{most};
-ghost use Rattle.ndef.specs.Places.{numbersOf, tableOf, placeOf, placesOf, read};
+ghost use Rattle.ndef.specs.Places.{numbersOf, tableOf, placesOf, read};
 ghost use Rattle.ndef.specs.Contracts.{ReadRecords};
 ghost use Rattle.ndef.specs.Views.Headers.{lengthFor, placeFor};
 ghost use Rattle.ndef.specs.Views.Reading.{Reads, Keeps, Filling};

@@ -2,7 +2,7 @@
 -- Assumes nothing.
 use mathlib.Core.Path.{_≡_, refl, sym, ap, _∙_}
 use mathlib.Core.Bool.{Bool, true, false, cond}
-use mathlib.Core.List.{List, [], _∷_, _++_, map, append-nil, append-assoc}
+use mathlib.Core.List.{List, [], _++_, map, append-nil, append-assoc}
 use Prim.Native.Nat.{ℕ, _+_, _-_, _*_, _/_, _%_, _≤_, _<_}
 use native.Mathlib.Omega.{arith}
 use native.Mathlib.Nat.{add-sub-cancel-left}
@@ -12,15 +12,14 @@ use lib.Dec.{eqb}
 use borrow.Author.Tests.{eq-eqb, ne-eqb, eqb-true, eqb-false}
 use Rattle.tag.proofs.Storing.{sets-append}
 use Rattle.ndef.specs.declared.Place.{Place}
-use Rattle.ndef.specs.Record.{Record}
 use Rattle.ndef.specs.Message.{part}
 use Rattle.ndef.specs.Places.{partAt, recordAt, firstPlace, placesIn}
 use Rattle.ndef.specs.Shortest.{headerBytes, recordBytes, messageBytes}
-use Rattle.ndef.specs.Writing.{isWritableList, isList, placesOfTable, recordsIn}
+use Rattle.ndef.specs.Writing.{isList, placesOfTable, recordsIn}
 use Rattle.ndef.proofs.Sound.{both}
-use Rattle.ndef.proofs.ListBack.{Listed, listed}
+use Rattle.ndef.proofs.ListBack.{listed}
 use Rattle.ndef_write.specs.Views.Laying.{PutAt, Lays, Fits}
-use Rattle.ndef_write.proofs.Measuring.{Inside, type-long, id-long, payload-long, bytes-are, ok, lays, allOk, ok-more, places-long, left-is, none-left, records-many}
+use Rattle.ndef_write.proofs.Measuring.{Inside, type-long, id-long, payload-long, bytes-are, ok, lays, allOk, ok-more, places-long, left-is, none-left}
 
 -- one thing behind another
 pub then : {a b c : List ℕ} {at r q : ℕ} (xs ys : List ℕ) → PutAt a b at xs r → PutAt b c r ys q → PutAt a c at (xs ++ ys) q

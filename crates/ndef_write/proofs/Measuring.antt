@@ -1,18 +1,17 @@
 -- How long the message of a table's records is, place by place.
 -- Assumes nothing.
-use mathlib.Core.Path.{_≡_, refl, sym, ap, ap₂, _∙_}
-use mathlib.Core.Bool.{Bool, true, false, _&&_, cond}
+use mathlib.Core.Path.{_≡_, refl, sym, ap, _∙_}
+use mathlib.Core.Bool.{Bool, true, false, cond}
 use mathlib.Core.List.{List, [], _∷_, _++_, map}
-use Prim.Native.Nat.{ℕ, zero, suc, _+_, _-_, _*_, _/_, _%_, _≤_, _<_, _^_}
+use Prim.Native.Nat.{ℕ, zero, suc, _+_, _-_, _*_, _/_, _%_, _≤_, _<_}
 use native.Mathlib.Omega.{arith}
-use lib.ListN.{length, drop, length-map, length-append, length-drop}
+use lib.ListN.{length, drop, length-map, length-append}
 use lib.Seq.{drop-drop}
-use lib.Dec.{eqb, leb, ltb}
-use borrow.Author.Tests.{eq-eqb, ne-eqb, eqb-true, eqb-false, le-leb, leb-true, lt-leb, ltb-true}
-use Rattle.tag.proofs.Logic.{nope, and-three}
+use lib.Dec.{eqb, ltb}
+use borrow.Author.Tests.{eq-eqb, ne-eqb, le-leb, leb-true, lt-leb}
+use Rattle.tag.proofs.Logic.{and-three}
 use Rattle.ndef.specs.declared.Place.{Place}
 use Rattle.ndef.specs.Record.{Record, ndef, tnfAllows}
-use Rattle.ndef.specs.Message.{part}
 use Rattle.ndef.specs.Places.{partAt, partIn, recordAt, liesIn, firstPlace, placesIn}
 use Rattle.ndef.specs.Shortest.{headerBytes, recordBytes, messageBytes}
 use Rattle.ndef.specs.Writing.{headerHolds, isWritable, areWritable, isWritableList, allLieIn, placesOfTable, isList, recordsIn}
@@ -21,7 +20,7 @@ use Rattle.ndef.proofs.HeaderForms.{record-long, record-some, header-long}
 use Rattle.ndef.proofs.ListBack.{Fit, fit}
 use Rattle.ndef.proofs.Least.{part-size}
 use Rattle.ndef_write.specs.Views.Sizes.{headerSize, sizeFor, Sized}
-use Rattle.ndef_write.specs.Views.Laying.{Lays, Fits}
+use Rattle.ndef_write.specs.Views.Laying.{Lays}
 
 -- ---- one record
 

@@ -1,6 +1,6 @@
 -- `read::keep_headers` meets its contract. The loop keeps: what the message reads as is the records before `at`, and then what the rest
 -- reads as; the headers of the former are kept. Assumes nothing.
-use mathlib.Core.Path.{_≡_, refl, sym, _∙_}
+use mathlib.Core.Path.{sym, _∙_}
 use Prim.Native.Nat.{_-_, _+_, _≤_}
 use native.Mathlib.Omega.{arith}
 use borrow.Author.Needs.{needs}

@@ -1,5 +1,4 @@
 -- `laying::put_header` meets its contract. Assumes nothing.
-use native.Mathlib.Omega.{arith}
 use borrow.Author.Needs.{needs}
 use Rattle.ndef.proofs.HeaderForms.{header-3, header-4, header-6, header-7}
 use Rattle.ndef_write.proofs.laying.put_header.Statement.{statement}

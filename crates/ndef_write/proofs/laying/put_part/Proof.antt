@@ -1,5 +1,4 @@
 -- `laying::put_part` meets its contract. Assumes nothing.
-use native.Mathlib.Omega.{arith}
 use borrow.Author.Needs.{needs}
 use Rattle.ndef_write.proofs.Behind.{cut-is}
 use Rattle.ndef_write.proofs.laying.put_part.Statement.{statement}

@@ -1,5 +1,4 @@
 -- `laying::put_record` meets its contract. Assumes nothing.
-use Prim.Native.Nat.{_+_, _*_}
 use native.Mathlib.Omega.{arith}
 use borrow.Author.Needs.{needs}
 use Rattle.ndef_write.proofs.Behind.{record-is-long, part-lengths, record-put, same-size}

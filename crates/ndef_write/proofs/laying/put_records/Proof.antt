@@ -1,5 +1,4 @@
 -- `laying::put_records` meets its contract. The loop keeps: the records before the table's number k are laid, up to `at`. Assumes nothing.
-use mathlib.Core.Path.{_≡_, ap, _∙_}
 use Prim.Native.Nat.{_-_}
 use native.Mathlib.Omega.{arith}
 use borrow.Author.Needs.{needs}

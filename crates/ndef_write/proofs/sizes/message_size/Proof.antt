@@ -1,7 +1,7 @@
 -- `sizes::message_size` meets its contract. The loop keeps: the table is a list that can be written exactly if what is left of it is, and
 -- the lengths so far and those left add up to the message's. Assumes nothing.
 use mathlib.Core.Path.{_≡_, ap, _∙_}
-use Prim.Native.Nat.{_+_, _-_, _<_, _≤_}
+use Prim.Native.Nat.{_+_, _-_, _≤_}
 use native.Mathlib.Omega.{arith}
 use borrow.Author.Needs.{needs}
 use lib.ListN.{length, drop}
