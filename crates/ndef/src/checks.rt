@@ -52,7 +52,7 @@ pub fn one_if_equal(a: usize, b: usize) -> usize
 
 // Refusal 31 or 32 for a record with this header, where `size` bytes of the message are left, or 0. `first` is 1 for the message's first
 // record, else 0.
-pub fn fault(h: Header, size: usize, first: usize) -> u8
+pub(crate) fn fault(h: Header, size: usize, first: usize) -> u8
     requires { ⌜ Small h ⌝ }
     ensures { λ r. ⌜ r ≡ faultFor h size first ⌝ }
 {

@@ -94,7 +94,7 @@ fn long_header(flags: usize, s: &[u8]) -> Header
 
 // The header at the front of `s`. Each form has its own branch, and its length is a constant there: the place of the next record then
 // waits for no test of the flags.
-pub fn header_of(s: &[u8]) -> Header
+pub(crate) fn header_of(s: &[u8]) -> Header
     ensures says { λ r. ⌜ Says (now (s .entry)) r ⌝ }
     ensures small { λ r. ⌜ Small r ⌝ }
 {
@@ -106,7 +106,7 @@ pub fn header_of(s: &[u8]) -> Header
 }
 
 // The length of the whole record.
-pub fn record_len(h: Header) -> usize
+pub(crate) fn record_len(h: Header) -> usize
     requires { ⌜ lengthFor h < 2 ^ 64 ⌝ }
     ensures { λ r. ⌜ r ≡ lengthFor h ⌝ }
 {

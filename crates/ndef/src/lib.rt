@@ -1,7 +1,7 @@
 // NDEF records, over the bytes of a message: reading a message as a list of at most sixteen records. Nothing here knows of tags.
 
 pub mod checks;
-pub mod headers;
+mod headers;
 pub mod read;
 
 // The most records that a message may have.

@@ -55,7 +55,7 @@ fn keep_headers(message: &[u8], kept: &mut [u64]) -> CountAnswer
 }
 
 // The place of the record with this header, which follows `at` bytes of the message.
-pub fn place_of(h: Header, at: usize) -> Place
+fn place_of(h: Header, at: usize) -> Place
     requires { ⌜ at + lengthFor h < 2 ^ 64 ⌝ }
     ensures { λ r. ⌜ r ≡ placeFor h at ⌝ }
 {

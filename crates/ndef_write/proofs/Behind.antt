@@ -19,7 +19,8 @@ use Rattle.ndef.specs.Writing.{isList, placesOfTable, recordsIn}
 use Rattle.ndef.proofs.Sound.{both}
 use Rattle.ndef.proofs.ListBack.{listed}
 use Rattle.ndef_write.specs.Views.Laying.{PutAt, Lays, Fits}
-use Rattle.ndef_write.proofs.Measuring.{Inside, type-long, id-long, payload-long, bytes-are, ok, lays, allOk, ok-more, places-long, left-is, none-left}
+use Rattle.ndef_write.proofs.OneRecord.{Inside, type-long, id-long, payload-long, bytes-are, ok, lays}
+use Rattle.ndef_write.proofs.Measuring.{allOk, ok-more, places-long, left-is, none-left}
 
 -- one thing behind another
 pub then : {a b c : List ℕ} {at r q : ℕ} (xs ys : List ℕ) → PutAt a b at xs r → PutAt b c r ys q → PutAt a c at (xs ++ ys) q

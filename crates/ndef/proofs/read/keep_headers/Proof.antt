@@ -74,7 +74,8 @@ slice-write-kept c =
 -- the record lies in the message
 fits-in : (c : tie.After-record-len Inv-loop μ-loop) →
     let at-fault = c .before .before .before in
-    let at-loop = at-fault .before .before .before .before .before in
+    let at-if2 = at-fault .before .before .before in
+    let at-loop = at-if2 .before .before in
     let m = at-loop .before .before .before .before .args .message .now in
     at-loop .loop .at + c .record-len .result ≤ length m
 fits-in c =
