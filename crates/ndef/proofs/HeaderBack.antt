@@ -103,5 +103,6 @@ record-back first last tnf₀ type id payload rest f l t p =
     let h : List ℕ = headerBytes (first * 128 + last * 64 + tnf₀) (length type) (length id) (length payload) in
     let s : List ℕ = h ++ (type ++ (id ++ (payload ++ rest))) in
     let joined : (h ++ (type ++ (id ++ payload))) ++ rest ≡ s = simp append-assoc in
-    let w : Back first last tnf₀ (length h) (length type) (length id) (length payload) s = back first last tnf₀ (length type) (length id) (length payload) f l t p (type ++ (id ++ (payload ++ rest))) in
+    let w : Back first last tnf₀ (length h) (length type) (length id) (length payload) s =
+    back first last tnf₀ (length type) (length id) (length payload) f l t p (type ++ (id ++ (payload ++ rest))) in
     rw (joined, w .tnf-is, w .header-is, w .type-is, w .id-is, w .payload-is) (cuts tnf₀ h type id payload rest)

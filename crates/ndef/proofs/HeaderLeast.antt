@@ -81,7 +81,8 @@ module _ (f k first last : ℕ) (octet : f < 256) (begins : f / 128 ≡ first) (
   flags = first * 128 + last * 64 + f % 8
 
   -- two headers of known bytes
-  by : (type id payload header : ℕ) (front h : List ℕ) → headerBytes flags type id payload ≡ h → length h ≤ header → (length h ≡ header → front ≡ h) → Tight flags type id payload header front
+  by : (type id payload header : ℕ) (front h : List ℕ) → headerBytes flags type id payload ≡ h → length h ≤ header → (length h ≡ header → front ≡ h)
+      → Tight flags type id payload header front
   by type id payload header front h e a b = record { small = rw e a; same = rw e b }
 
   tight-3 : (p : ℕ) → p < 256 → f / 16 % 2 ≡ 1 → (f / 8 % 2 ≡ 1 → ⊥) → Tight flags k 0 p 3 (f ∷ k ∷ p ∷ [])
@@ -144,7 +145,8 @@ pub record Headed (s : List ℕ) (first last : ℕ) : Type 0 where
   pub type-small : byte s 1 < 256
   pub id-small : idLength (byte s 0) s < 256
   pub payload-small : payloadLength (byte s 0) s < 2 ^ 32
-  pub tight : Tight (first * 128 + last * 64 + byte s 0 % 8) (byte s 1) (idLength (byte s 0) s) (payloadLength (byte s 0) s) (headerLength (byte s 0)) (take (headerLength (byte s 0)) s)
+  pub tight : Tight (first * 128 + last * 64 + byte s 0 % 8) (byte s 1) (idLength (byte s 0) s) (payloadLength (byte s 0) s)
+      (headerLength (byte s 0)) (take (headerLength (byte s 0)) s)
 
 module _ (s : List ℕ) (o : Octets s) (first last : ℕ)
     (begins : byte s 0 / 128 ≡ first) (ends : byte s 0 / 64 % 2 ≡ last) (unchunked : byte s 0 / 32 % 2 ≡ 0) (whole : headerLength (byte s 0) ≤ length s) where
@@ -169,7 +171,8 @@ module _ (s : List ℕ) (o : Octets s) (first last : ℕ)
           type-small = octet 1;
           id-small = omega arith;
           payload-small = omega (arith, octet 2);
-          tight = rw (id, payload, size, take-3 s (omega arith)) (tight-3 f (byte s 1) first last (octet 0) begins ends unchunked (byte s 2) (octet 2) (eqb-true (f / 16 % 2) 1 q) (eqb-false (f / 8 % 2) 1 w));
+          tight = rw (id, payload, size, take-3 s (omega arith))
+              (tight-3 f (byte s 1) first last (octet 0) begins ends unchunked (byte s 2) (octet 2) (eqb-true (f / 16 % 2) 1 q) (eqb-false (f / 8 % 2) 1 w));
         }
     go true q true w =
         let size : headerLength f ≡ 4 = rw (q, w) in
@@ -179,7 +182,8 @@ module _ (s : List ℕ) (o : Octets s) (first last : ℕ)
           type-small = octet 1;
           id-small = rw id (octet 3);
           payload-small = omega (arith, octet 2);
-          tight = rw (id, payload, size, take-4 s (omega arith)) (tight-4 f (byte s 1) first last (octet 0) begins ends unchunked (byte s 2) (byte s 3) (octet 2) (eqb-true (f / 16 % 2) 1 q) (eqb-true (f / 8 % 2) 1 w));
+          tight = rw (id, payload, size, take-4 s (omega arith))
+              (tight-4 f (byte s 1) first last (octet 0) begins ends unchunked (byte s 2) (byte s 3) (octet 2) (eqb-true (f / 16 % 2) 1 q) (eqb-true (f / 8 % 2) 1 w));
         }
     go false q false w =
         let size : headerLength f ≡ 6 = rw (q, w) in
@@ -189,7 +193,9 @@ module _ (s : List ℕ) (o : Octets s) (first last : ℕ)
           type-small = octet 1;
           id-small = omega arith;
           payload-small = rw payload (small-sum (byte s 2) (byte s 3) (byte s 4) (byte s 5) (octet 2) (octet 3) (octet 4) (octet 5));
-          tight = rw (id, size, take-6 s (omega arith)) (tight-6 f (byte s 1) first last (octet 0) begins ends unchunked (byte s 2) (byte s 3) (byte s 4) (byte s 5) (payloadLength f s) (octet 2) (octet 3) (octet 4) (octet 5) payload (eqb-false (f / 16 % 2) 1 q) (eqb-false (f / 8 % 2) 1 w));
+          tight = rw (id, size, take-6 s (omega arith))
+              (tight-6 f (byte s 1) first last (octet 0) begins ends unchunked
+              (byte s 2) (byte s 3) (byte s 4) (byte s 5) (payloadLength f s) (octet 2) (octet 3) (octet 4) (octet 5) payload (eqb-false (f / 16 % 2) 1 q) (eqb-false (f / 8 % 2) 1 w));
         }
     go false q true w =
         let size : headerLength f ≡ 7 = rw (q, w) in
@@ -199,5 +205,7 @@ module _ (s : List ℕ) (o : Octets s) (first last : ℕ)
           type-small = octet 1;
           id-small = rw id (octet 6);
           payload-small = rw payload (small-sum (byte s 2) (byte s 3) (byte s 4) (byte s 5) (octet 2) (octet 3) (octet 4) (octet 5));
-          tight = rw (id, size, take-7 s (omega arith)) (tight-7 f (byte s 1) first last (octet 0) begins ends unchunked (byte s 2) (byte s 3) (byte s 4) (byte s 5) (payloadLength f s) (octet 2) (octet 3) (octet 4) (octet 5) payload (eqb-false (f / 16 % 2) 1 q) (byte s 6) (eqb-true (f / 8 % 2) 1 w));
+          tight = rw (id, size, take-7 s (omega arith))
+              (tight-7 f (byte s 1) first last (octet 0) begins ends unchunked
+              (byte s 2) (byte s 3) (byte s 4) (byte s 5) (payloadLength f s) (octet 2) (octet 3) (octet 4) (octet 5) payload (eqb-false (f / 16 % 2) 1 q) (byte s 6) (eqb-true (f / 8 % 2) 1 w));
         }

@@ -164,7 +164,8 @@ unfolding areWritable messageBytes
 more first n s rs o l z w =
     let f = front s first o z in
     let size : ℕ = recordLength s in
-    let bit : cond (eqb (length rs) 0) 1 0 ≡ me (byte s 0) = last-bit (length rs) (length (drop size s)) size (length s) (w .none) (w .ended) (length-drop size s) (f .whole) ∙ sym (f .ends) in
+    let bit : cond (eqb (length rs) 0) 1 0 ≡ me (byte s 0) =
+    last-bit (length rs) (length (drop size s)) size (length s) (w .none) (w .ended) (length-drop size s) (f .whole) ∙ sym (f .ends) in
     let xs : List ℕ = recordBytes first (me (byte s 0)) (recordOf s) in
     let ys : List ℕ = messageBytes 0 rs in
     let long : length (xs ++ ys) ≡ length xs + length ys = length-append xs ys in

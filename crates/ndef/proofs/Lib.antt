@@ -7,6 +7,7 @@ pub mod HeaderBack
 pub mod ListBack
 pub mod HeaderLeast
 pub mod Least
+pub mod Written
 pub mod Packing
 pub mod Tables
 pub mod Filling

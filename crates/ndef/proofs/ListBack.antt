@@ -124,7 +124,8 @@ all-back first n [] f l t = at-end first n [] refl
 all-back first zero (r ∷ rs) f l t = absurd (omega arith)
 all-back first (suc n) (r ∷ rs) f l t =
     let w = both (isWritable r) (areWritable rs) t in
-    front first (cond (eqb (length rs) 0) 1 0) n r rs (messageBytes 0 rs) f (one-at-most (eqb (length rs) 0) .0) (w .0) (bytes-none rs) (all-back 0 n rs (omega arith) (omega arith) (w .1))
+    front first (cond (eqb (length rs) 0) 1 0) n r rs (messageBytes 0 rs) f (one-at-most (eqb (length rs) 0) .0) (w .0) (bytes-none rs)
+    (all-back 0 n rs (omega arith) (omega arith) (w .1))
 
 -- a list that can be written
 pub record Listed (rs : List Record) : Type 0 where

@@ -3,107 +3,30 @@
 use mathlib.Core.Path.{_≡_, refl, sym, ap, _∙_}
 use mathlib.Core.Logic.{_↔_}
 use mathlib.Core.Bool.{Bool, true, false, cond}
-use mathlib.Core.List.{List, [], _∷_, _++_, map}
-use Prim.Native.Nat.{ℕ, _+_, _*_, _≤_, _<_}
+use mathlib.Core.List.{List, [], _∷_, map}
+use Prim.Native.Nat.{ℕ, _*_, _≤_, _<_}
 use native.Mathlib.Omega.{arith}
 use lib.ListN.{length, take, drop}
 use lib.Seq.{take-append-seam}
-use lib.Dec.{eqb, leb}
-use borrow.Author.Tests.{le-leb, lt-leb, leb-false}
 use Rattle.tag.specs.declared.CountAnswer.{CountAnswer}
 use Rattle.tag.specs.declared.CountAnswer.the-variants as counted
 use Rattle.tag.specs.Bytes.{Octets, overwrite}
 use Rattle.tag.specs.TagType.{refused-output, output}
-use Rattle.tag.proofs.Logic.{nope, one-at-most}
-use Rattle.tag.proofs.Octets.{octets-append}
+use Rattle.tag.proofs.Logic.{nope}
 use Rattle.tag.proofs.Outputs.{put-all, put-counted, refused-exactly}
-use Rattle.ndef.specs.Record.{Record, ndef, OctetRecord, OctetRecords}
+use Rattle.ndef.specs.Record.{Record, OctetRecords}
 use Rattle.ndef.specs.Message.{records, messageOf}
+use Rattle.ndef.specs.declared.Part.{Part}
 use Rattle.ndef.specs.declared.Place.{Place}
-use Rattle.ndef.specs.Places.{recordAt, tableOf, placesOf, read}
-use Rattle.ndef.specs.Shortest.{headerBytes, recordBytes, messageBytes, isShortest}
-use Rattle.ndef.specs.Writing.{isWritable, areWritable, isWritableList, writeList, isList, placesOfTable, recordsIn, write}
+use Rattle.ndef.specs.Places.{partAt, recordAt, tableOf, placesOf, read}
+use Rattle.ndef.specs.Shortest.{messageBytes, isShortest}
+use Rattle.ndef.specs.Writing.{isWritableList, writeList, isList, placesOfTable, recordsIn, write}
 use Rattle.ndef.specs.Contracts.{ReadRecords, WroteRecords}
 use Rattle.ndef.specs.Claims.{SameList, ShortestForm, SameBytes, UnwritableExactly, TooLongExactly, TableIsList, Calls}
-use Rattle.ndef.proofs.Sound.{both, tnf-small}
-use Rattle.ndef.proofs.HeaderForms.{each-form}
-use Rattle.ndef.proofs.ListBack.{fit, Listed, listed, lists, list-back}
+use Rattle.ndef.proofs.ListBack.{listed, lists, list-back}
 use Rattle.ndef.proofs.Least.{octets-part, Message, message}
+use Rattle.ndef.proofs.Written.{all-octets, wrote, unwritten, overlong, writes, writes-none, writes-not}
 use Rattle.ndef.proofs.Tables.{given, reads-output, reads-refused, refused-reads, table-list, places-many, table-is-list, table-long}
-
--- ---- what is written is a list of bytes
-
-header-octets : (flags type id payload : ℕ) → flags < 232 → type < 256 → id < 256 → Octets (headerBytes flags type id payload)
-header-octets flags type id payload f k i =
-    each-form flags type id payload Octets (λ h e. omega arith) (λ h e. omega arith) (λ h e. omega arith) (λ h e. omega arith)
-
-record-octets : (first last : ℕ) (r : Record) → first ≤ 1 → last ≤ 1 → isWritable r ≡ true → OctetRecord r → Octets (recordBytes first last r)
-unfolding recordBytes
-record-octets first last (ndef tnf type id payload) f l t o =
-    let w = fit tnf type id payload t in
-    let flags : ℕ = first * 128 + last * 64 + tnf in
-    let small : tnf < 6 = tnf-small tnf (length type) (length id) (length payload) (w .allowed) in
-    octets-append (headerBytes flags (length type) (length id) (length payload)) (type ++ (id ++ payload))
-    (header-octets flags (length type) (length id) (length payload) (omega arith) (w .type-small) (w .id-small))
-    (octets-append type (id ++ payload) (o .0) (octets-append id payload (o .1) (o .2)))
-
-all-octets : (first : ℕ) (rs : List Record) → first ≤ 1 → areWritable rs ≡ true → OctetRecords rs → Octets (messageBytes first rs)
-unfolding messageBytes areWritable
-all-octets first [] f t o = tt
-all-octets first (r ∷ rs) f t o =
-    let w = both (isWritable r) (areWritable rs) t in
-    let last : ℕ = cond (eqb (length rs) 0) 1 0 in
-    octets-append (recordBytes first last r) (messageBytes 0 rs) (record-octets first last r f (one-at-most (eqb (length rs) 0) .0) (w .0) (o .0)) (all-octets 0 rs (omega arith) (w .1) (o .1))
-
--- ---- what writing says
-
--- whatever the two tests are
-wrote-by : (a b : Bool) (k n : ℕ) (xs bs : List ℕ) → cond a (cond b (output k xs) (refused-output 12)) (refused-output 33) ≡ output n bs → (a ≡ true) × (k ≡ n) × (xs ≡ bs)
-wrote-by true true k n xs bs e = (refl, cc, cc)
-wrote-by true false k n xs bs e = absurd (nope (cc))
-wrote-by false b k n xs bs e = absurd (nope (cc))
-
-unwritten-by : (a b : Bool) (k : ℕ) (xs : List ℕ) → cond a (cond b (output k xs) (refused-output 12)) (refused-output 33) ≡ refused-output 33 → a ≡ false
-unwritten-by true true k xs e = absurd (nope (cc))
-unwritten-by true false k xs e = absurd (let z : _≡_ {A = ℕ} 12 33 = cc in omega arith)
-unwritten-by false b k xs e = refl
-
-too-long-by : (a b : Bool) (k : ℕ) (xs : List ℕ) → cond a (cond b (output k xs) (refused-output 12)) (refused-output 33) ≡ refused-output 12 → (a ≡ true) × (b ≡ false)
-too-long-by true true k xs e = absurd (nope (cc))
-too-long-by true false k xs e = (refl, refl)
-too-long-by false b k xs e = absurd (let z : _≡_ {A = ℕ} 33 12 = cc in omega arith)
-
-module _ (room : ℕ) (rs : List Record) where
-  abbrev bytes : List ℕ
-  bytes = messageBytes 1 rs
-
-  wrote : (n : ℕ) (bs : List ℕ) → writeList room rs ≡ output n bs → Listed rs × (length bytes ≡ n) × (bytes ≡ bs)
-  unfolding writeList
-  wrote n bs e =
-      let w = wrote-by (isWritableList rs) (leb (length bytes) room) (length bytes) n bytes bs e in
-      (listed rs (w .0), w .1, w .2)
-
-  unwritten : writeList room rs ≡ refused-output 33 → isWritableList rs ≡ false
-  unfolding writeList
-  unwritten e = unwritten-by (isWritableList rs) (leb (length bytes) room) (length bytes) bytes e
-
-  overlong : writeList room rs ≡ refused-output 12 → (isWritableList rs ≡ true) × (room < length bytes)
-  unfolding writeList
-  overlong e =
-      let w = too-long-by (isWritableList rs) (leb (length bytes) room) (length bytes) bytes e in
-      (w .0, leb-false (length bytes) room (w .1))
-
-  writes : Listed rs → length bytes ≤ room → writeList room rs ≡ output (length bytes) bytes
-  unfolding writeList
-  writes w l = rw (lists rs w, le-leb (length bytes) room l)
-
-  writes-none : isWritableList rs ≡ false → writeList room rs ≡ refused-output 33
-  unfolding writeList
-  writes-none q = rw q
-
-  writes-not : isWritableList rs ≡ true → room < length bytes → writeList room rs ≡ refused-output 12
-  unfolding writeList
-  writes-not q l = rw (q, lt-leb (length bytes) room l)
 
 -- ---- the claims about the definitions
 
@@ -206,7 +129,8 @@ front-is : (xs ys : List ℕ) (n : ℕ) → n ≡ length xs → take n (overwrit
 front-is xs ys n e = rw e (take-append-seam xs (drop (length xs) ys))
 
 -- a call that wrote: the table was a list, and what was written is its message
-written-list : (room : ℕ) (t bytes : List ℕ) (n : ℕ) (all : List ℕ) → write room t bytes ≡ output n all → (isList t bytes ≡ true) × (writeList room (recordsIn t bytes) ≡ output n all)
+written-list : (room : ℕ) (t bytes : List ℕ) (n : ℕ) (all : List ℕ) → write room t bytes ≡ output n all
+    → (isList t bytes ≡ true) × (writeList room (recordsIn t bytes) ≡ output n all)
 unfolding write
 written-list room t bytes n all e = go (isList t bytes) e
   where
@@ -252,7 +176,8 @@ calls-same-bytes m table k out buffer r out′ o room w v =
     let front : take (7 * k) out ≡ t = ap (take (7 * k)) (p .2 ∙ ap (λ x. overwrite x table) (g .table-is)) ∙ front-is t table (7 * k) long in
     let l = message m rs o (g .reads) in
     let bs : List ℕ = messageBytes 1 rs in
-    let is-list : write (length buffer) (take (7 * k) out) m ≡ writeList (length buffer) (recordsIn t m) = rw front (list-written (length buffer) t m (table-is-list m rs (g .reads))) in
+    let is-list : write (length buffer) (take (7 * k) out) m ≡ writeList (length buffer) (recordsIn t m) =
+    rw front (list-written (length buffer) t m (table-is-list m rs (g .reads))) in
     let its-bytes : writeList (length buffer) (recordsIn t m) ≡ output (length bs) bs =
     rw (table-list m rs (g .reads)) (writes (length buffer) rs (l .list) (omega (arith, l .least .small))) in
     let a = put-all (λ n. write n (take (7 * k) out) m) buffer out′ r (length bs) bs v (is-list ∙ its-bytes) in
@@ -268,7 +193,8 @@ table-octets : (bytes : List ℕ) → Octets bytes → (ps : List Place) → Oct
 unfolding recordAt
 table-octets bytes o [] = tt
 table-octets bytes o (p ∷ ps) =
-    ((octets-part bytes o (p .rtype .at) (p .rtype .len), octets-part bytes o (p .id .at) (p .id .len), octets-part bytes o (p .payload .at) (p .payload .len)), table-octets bytes o ps)
+    let part : (q : Part) → Octets (partAt bytes q) = λ q. octets-part bytes o (q .at) (q .len) in
+    ((part (p .rtype), part (p .id), part (p .payload)), table-octets bytes o ps)
 
 module _ (room : ℕ) (t bytes : List ℕ) (o : Octets bytes) where
   none-if-refused : write room t bytes ≡ refused-output 33 → isList t bytes ≡ true → (m : List ℕ) → Octets m → messageOf m ≡ records (recordsIn t bytes) → ⊥
