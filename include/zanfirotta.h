@@ -133,7 +133,7 @@ typedef struct zan_report {
 #define ZAN_NDEF_RECORD 7
 #define ZAN_NDEF_TABLE (ZAN_NDEF_RECORDS_MAX * ZAN_NDEF_RECORD)
 
-/* The numbers of a record, in order: the TNF, then the place and the length of each part. */
+/* The numbers of a record, in order: the TNF, then start and length of each part. */
 enum zan_ndef_number {
     ZAN_NDEF_TNF = 0,
     ZAN_NDEF_TYPE_AT = 1,
@@ -306,7 +306,7 @@ uint64_t zan_type6_decode(const uint8_t *bytes, size_t bytes_len, uint64_t block
  *         show(message + record[ZAN_NDEF_PAYLOAD_AT], record[ZAN_NDEF_PAYLOAD_LEN]);
  *     }
  */
-uint64_t zan_ndef_read(const uint8_t *message, size_t message_len, uint64_t records[112]);
+uint64_t zan_ndef_read(const uint8_t *message, size_t message_len, uint64_t records[ZAN_NDEF_TABLE]);
 
 /*
  * Writes the message of a list of records, in the shortest form, to the front of message. The list

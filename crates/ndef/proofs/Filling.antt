@@ -18,9 +18,9 @@ use Rattle.ndef.specs.declared.headers.Header.{Header}
 use Rattle.ndef.specs.Header.{recordLength}
 use Rattle.ndef.specs.Places.{numbersOf, tableOf, placeOf, placesOf, read}
 use Rattle.ndef.specs.Views.Headers.{Says, lengthFor, headerFrom, placeFor}
-use Rattle.ndef.specs.Views.Reading.{Reads, wordsOf, Keeps}
+use Rattle.ndef.specs.Views.Reading.{Reads, packedHeaders, Keeps}
 use Rattle.ndef.proofs.Turns.{too-many, whole, Step, step, length-is}
-use Rattle.ndef.proofs.Packing.{Split, split-start, split-turn, kept-word, kept-within, says-unpacked}
+use Rattle.ndef.proofs.Packing.{Split, split-start, split-turn, kept-packed, kept-within, says-unpacked}
 use Rattle.ndef.proofs.Tables.{no-places, one-place, given, from-start}
 
 -- the place that the code makes
@@ -36,7 +36,7 @@ module _ (s table₀ : List ℕ) where
     pub few : count ≤ 16
     pub inside : at ≤ length s
     pub left : Reads first (16 - count) (drop at s)
-    pub words : Split s count at
+    pub headers : Split s count at
     pub long : length front ≡ 7 * count
     pub all : tableOf (placesOf 16 0 s) ≡ front ++ tableOf (placesOf (16 - count) at (drop at s))
     pub put : table ≡ sets table₀ 0 front
@@ -49,7 +49,7 @@ module _ (s table₀ : List ℕ) where
     few = omega arith;
     inside = omega arith;
     left = w;
-    words = split-start s;
+    headers = split-start s;
     long = refl;
     all = refl;
     put = refl;
@@ -83,11 +83,11 @@ module _ (s table₀ : List ℕ) where
       taken = step (w .first) (16 - (count + 1)) (drop at s) (w .left .list) some-left (rw one-less at (w .left .as-list))
 
       -- the header that was kept for it
-      pub kept-says : (before : List ℕ) → Octets s → Says (drop at s) (headerFrom (byte (overwrite (wordsOf 16 s) before) count))
-      kept-says before o = says-unpacked (drop at s) _ (octets-drop at s o) (kept-word s (w .words) room some-left before)
+      pub kept-says : (before : List ℕ) → Octets s → Says (drop at s) (headerFrom (byte (overwrite (packedHeaders 16 s) before) count))
+      kept-says before o = says-unpacked (drop at s) _ (octets-drop at s o) (kept-packed s (w .headers) room some-left before)
 
-      pub kept-inside : (before : List ℕ) → count < length (overwrite (wordsOf 16 s) before)
-      kept-inside before = kept-within s (w .words) room some-left before
+      pub kept-inside : (before : List ℕ) → count < length (overwrite (packedHeaders 16 s) before)
+      kept-inside before = kept-within s (w .headers) room some-left before
 
       module _ (h : Header) (says : Says (drop at s) h) where
         pub fits : at + lengthFor h ≤ length s
@@ -114,7 +114,7 @@ module _ (s table₀ : List ℕ) where
           few = omega (arith, room);
           inside = fits;
           left = record { list = taken .more; as-list = rw next at (taken .reads-more) };
-          words = rw (length-is (drop at s) h says) (split-turn s (w .words) room some-left);
+          headers = rw (length-is (drop at s) h says) (split-turn s (w .headers) room some-left);
           long = omega (arith, length-append (w .front) nums, nums-long, w .long);
           all = w .all ∙ rw table-turn (sym (append-assoc (w .front) nums _));
           put = ap (λ t. sets t (7 * count) nums) (w .put) ∙ rw (← start) (sym (sets-append (w .front) nums table₀ 0));
@@ -140,7 +140,7 @@ pub record Counts (m table : List ℕ) : Type 0 where
   pub filled : overwrite (tableOf (placesOf 16 0 m)) table ≡ outputInto table (read m)
 
 -- and the headers are kept
-pub keeps : (m before after : List ℕ) (r : CountAnswer) (n : ℕ) → r ≡ counted.Count n → Keeps m before r after → after ≡ overwrite (wordsOf 16 m) before
+pub keeps : (m before after : List ℕ) (r : CountAnswer) (n : ℕ) → r ≡ counted.Count n → Keeps m before r after → after ≡ overwrite (packedHeaders 16 m) before
 keeps m before after r n q e = subst (λ x. Keeps m before x after) q e
 
 pub counts : (m table : List ℕ) (r : CountAnswer) (n : ℕ) → r ≡ counted.Count n → countAs r ≡ countOf (read m) → Counts m table

@@ -15,13 +15,13 @@ use Rattle.tag.proofs.Storing.{sets-append, sets-front}
 use Rattle.ndef.specs.declared.headers.Header.{Header}
 use Rattle.ndef.specs.Header.{il, headerLength, idLength, payloadLength, recordLength}
 use Rattle.ndef.specs.Views.Headers.{Says, packedFor, headerFrom}
-use Rattle.ndef.specs.Views.Reading.{wordOf, wordsOf}
+use Rattle.ndef.specs.Views.Reading.{packedHeader, packedHeaders}
 
 -- ---- one header
 
-pub word-is : (s : List ℕ) (h : Header) → Says s h → packedFor h ≡ wordOf s
-unfolding wordOf
-word-is s h w = rw (w .flags-are, w .type-is, w .id-is, w .payload-is)
+pub packed-is : (s : List ℕ) (h : Header) → Says s h → packedFor h ≡ packedHeader s
+unfolding packedHeader
+packed-is s h w = rw (w .flags-are, w .type-is, w .id-is, w .payload-is)
 
 id-small : (flags : ℕ) (s : List ℕ) → Octets s → idLength flags s < 256
 unfolding idLength
@@ -36,29 +36,29 @@ unpacks : (f t i p : ℕ) → f < 256 → t < 256 → i < 256 →
     let w = f + 256 * t + 65536 * i + 16777216 * p in (w % 256 ≡ f) × (w / 256 % 256 ≡ t) × (w / 65536 % 256 ≡ i) × (w / 16777216 ≡ p)
 unpacks f t i p a b c = (omega arith, omega arith, omega arith, omega arith)
 
-pub says-unpacked : (s : List ℕ) (w : ℕ) → Octets s → w ≡ wordOf s → Says s (headerFrom w)
-unfolding wordOf
+pub says-unpacked : (s : List ℕ) (w : ℕ) → Octets s → w ≡ packedHeader s → Says s (headerFrom w)
+unfolding packedHeader
 says-unpacked s w o e =
     let u = unpacks (byte s 0) (byte s 1) (idLength (byte s 0) s) (payloadLength (byte s 0) s) (octets-byte s o 0) (octets-byte s o 1) (id-small (byte s 0) s o) in
     rw e (record { flags-are = u .0; len-is = ap headerLength (u .0); type-is = u .1; id-is = u .2; payload-is = u .3 })
 
 -- ---- one turn
 
-pub no-words : (n : ℕ) (s : List ℕ) → length s ≡ 0 → wordsOf n s ≡ []
-unfolding wordsOf
-no-words zero s e = refl
-no-words (suc n) s e = rw (wordsOf, eq-eqb (length s) 0 e)
+pub none-packed : (n : ℕ) (s : List ℕ) → length s ≡ 0 → packedHeaders n s ≡ []
+unfolding packedHeaders
+none-packed zero s e = refl
+none-packed (suc n) s e = rw (packedHeaders, eq-eqb (length s) 0 e)
 
-pub one-word : (n : ℕ) (s : List ℕ) → (length s ≡ 0 → ⊥) → wordsOf (suc n) s ≡ wordOf s ∷ wordsOf n (drop (recordLength s) s)
-unfolding wordsOf
-one-word n s f = rw (wordsOf, ne-eqb (length s) 0 f)
+pub one-packed : (n : ℕ) (s : List ℕ) → (length s ≡ 0 → ⊥) → packedHeaders (suc n) s ≡ packedHeader s ∷ packedHeaders n (drop (recordLength s) s)
+unfolding packedHeaders
+one-packed n s f = rw (packedHeaders, ne-eqb (length s) 0 f)
 
-words-few : (n : ℕ) (s : List ℕ) → length (wordsOf n s) ≤ n
-unfolding wordsOf
-words-few zero s = omega arith
-words-few (suc n) s = go (eqb (length s) 0) (words-few n (drop (recordLength s) s))
+packed-few : (n : ℕ) (s : List ℕ) → length (packedHeaders n s) ≤ n
+unfolding packedHeaders
+packed-few zero s = omega arith
+packed-few (suc n) s = go (eqb (length s) 0) (packed-few n (drop (recordLength s) s))
   where
-    go : (b : Bool) → length (wordsOf n (drop (recordLength s) s)) ≤ n → length {A = ℕ} (elim b [ true ↦ [] | false ↦ wordOf s ∷ wordsOf n (drop (recordLength s) s) ]) ≤ suc n
+    go : (b : Bool) → length (packedHeaders n (drop (recordLength s) s)) ≤ n → length {A = ℕ} (elim b [ true ↦ [] | false ↦ packedHeader s ∷ packedHeaders n (drop (recordLength s) s) ]) ≤ suc n
     go true h = omega arith
     go false h = omega arith
 
@@ -66,39 +66,39 @@ words-few (suc n) s = go (eqb (length s) 0) (words-few n (drop (recordLength s) 
 pub record Split (s : List ℕ) (count at : ℕ) : Type 0 where
   pub front : List ℕ
   pub long : length front ≡ count
-  pub all : wordsOf 16 s ≡ front ++ wordsOf (16 - count) (drop at s)
+  pub all : packedHeaders 16 s ≡ front ++ packedHeaders (16 - count) (drop at s)
 
 pub split-start : (s : List ℕ) → Split s 0 0
 split-start s = record { front = []; long = refl; all = refl }
 
 module _ (s : List ℕ) {count at : ℕ} (w : Split s count at) (few : count < 16) (some : length (drop at s) ≡ 0 → ⊥) where
-  words-turn : wordsOf (16 - count) (drop at s) ≡ wordOf (drop at s) ∷ wordsOf (16 - (count + 1)) (drop (at + recordLength (drop at s)) s)
-  words-turn =
+  packed-turn : packedHeaders (16 - count) (drop at s) ≡ packedHeader (drop at s) ∷ packedHeaders (16 - (count + 1)) (drop (at + recordLength (drop at s)) s)
+  packed-turn =
       let one-less : 16 - count ≡ suc (16 - (count + 1)) = omega arith in
-      rw (one-less, one-word (16 - (count + 1)) (drop at s) some, drop-drop)
+      rw (one-less, one-packed (16 - (count + 1)) (drop at s) some, drop-drop)
 
   pub split-turn : Split s (count + 1) (at + recordLength (drop at s))
   split-turn = record {
-    front = w .front ++ (wordOf (drop at s) ∷ []);
-    long = omega (arith, length-append (w .front) (wordOf (drop at s) ∷ []), w .long);
-    all = w .all ∙ rw words-turn (sym (append-assoc (w .front) (wordOf (drop at s) ∷ []) _));
+    front = w .front ++ (packedHeader (drop at s) ∷ []);
+    long = omega (arith, length-append (w .front) (packedHeader (drop at s) ∷ []), w .long);
+    all = w .all ∙ rw packed-turn (sym (append-assoc (w .front) (packedHeader (drop at s) ∷ []) _));
   }
 
   -- the header kept for the record at `at`
-  pub kept-word : (before : List ℕ) → byte (overwrite (wordsOf 16 s) before) count ≡ wordOf (drop at s)
-  kept-word before =
-      let rest : List ℕ = wordsOf (16 - (count + 1)) (drop (at + recordLength (drop at s)) s) in
-      let words : wordsOf 16 s ≡ w .front ++ (wordOf (drop at s) ∷ rest) = w .all ∙ rw words-turn in
-      let after : List ℕ = drop (length (w .front ++ (wordOf (drop at s) ∷ rest))) before in
+  pub kept-packed : (before : List ℕ) → byte (overwrite (packedHeaders 16 s) before) count ≡ packedHeader (drop at s)
+  kept-packed before =
+      let rest : List ℕ = packedHeaders (16 - (count + 1)) (drop (at + recordLength (drop at s)) s) in
+      let words : packedHeaders 16 s ≡ w .front ++ (packedHeader (drop at s) ∷ rest) = w .all ∙ rw packed-turn in
+      let after : List ℕ = drop (length (w .front ++ (packedHeader (drop at s) ∷ rest))) before in
       ap (λ x. byte (overwrite x before) count) words
-      ∙ ap (λ l. byte l count) (append-assoc (w .front) (wordOf (drop at s) ∷ rest) after)
-      ∙ getD-at (w .front) (wordOf (drop at s)) (rest ++ after) 0 count (w .long)
+      ∙ ap (λ l. byte l count) (append-assoc (w .front) (packedHeader (drop at s) ∷ rest) after)
+      ∙ getD-at (w .front) (packedHeader (drop at s)) (rest ++ after) 0 count (w .long)
 
-  pub kept-within : (before : List ℕ) → count < length (overwrite (wordsOf 16 s) before)
+  pub kept-within : (before : List ℕ) → count < length (overwrite (packedHeaders 16 s) before)
   kept-within before =
-      let rest : List ℕ = wordsOf (16 - (count + 1)) (drop (at + recordLength (drop at s)) s) in
-      let words : wordsOf 16 s ≡ w .front ++ (wordOf (drop at s) ∷ rest) = w .all ∙ rw words-turn in
-      omega (arith, length-append (wordsOf 16 s) (drop (length (wordsOf 16 s)) before), ap length words, length-append (w .front) (wordOf (drop at s) ∷ rest), w .long)
+      let rest : List ℕ = packedHeaders (16 - (count + 1)) (drop (at + recordLength (drop at s)) s) in
+      let words : packedHeaders 16 s ≡ w .front ++ (packedHeader (drop at s) ∷ rest) = w .all ∙ rw packed-turn in
+      omega (arith, length-append (packedHeaders 16 s) (drop (length (packedHeaders 16 s)) before), ap length words, length-append (w .front) (packedHeader (drop at s) ∷ rest), w .long)
 
 -- ---- as they are kept
 
@@ -122,12 +122,12 @@ module _ (s kept₀ : List ℕ) where
     unfolding split-turn
     kept-turn h q few some = record {
       split = split-turn s (w .split) few some;
-      stored = rw (word-is (drop at s) h q) (stored-more kept₀ kept (w .split .front) count (wordOf (drop at s)) (w .split .long) (w .stored));
+      stored = rw (packed-is (drop at s) h q) (stored-more kept₀ kept (w .split .front) count (packedHeader (drop at s)) (w .split .long) (w .stored));
       size = length-set kept count (packedFor h) ∙ w .size;
     }
 
-    pub kept-all : length s ≤ at → length kept₀ ≡ 16 → kept ≡ overwrite (wordsOf 16 s) kept₀
+    pub kept-all : length s ≤ at → length kept₀ ≡ 16 → kept ≡ overwrite (packedHeaders 16 s) kept₀
     kept-all l z =
         let none : length (drop at s) ≡ 0 = rw length-drop (omega arith) in
-        let done : wordsOf 16 s ≡ w .split .front = w .split .all ∙ rw (no-words (16 - count) (drop at s) none, append-nil) in
-        w .stored ∙ rw (← done) (sets-front (wordsOf 16 s) kept₀ (omega (arith, words-few 16 s)))
+        let done : packedHeaders 16 s ≡ w .split .front = w .split .all ∙ rw (none-packed (16 - count) (drop at s) none, append-nil) in
+        w .stored ∙ rw (← done) (sets-front (packedHeaders 16 s) kept₀ (omega (arith, packed-few 16 s)))

@@ -22,8 +22,8 @@ use Rattle.ndef.specs.Places.{partAt, recordAt, tableOf, placesOf, read}
 use Rattle.ndef.specs.Shortest.{messageBytes, isShortest}
 use Rattle.ndef.specs.Writing.{isWritableList, writeList, isList, placesOfTable, recordsIn, write}
 use Rattle.ndef.specs.Contracts.{ReadRecords, WroteRecords}
-use Rattle.ndef.specs.Claims.{SameList, ShortestForm, SameBytes, UnwritableExactly, TooLongExactly, TableIsList, Calls}
-use Rattle.ndef.proofs.ListBack.{listed, lists, list-back}
+use Rattle.ndef.specs.Claims.{Readable, SameList, ShortestForm, SameBytes, UnwritableExactly, TooLongExactly, TableIsList, Calls}
+use Rattle.ndef.proofs.ListBack.{Listed, listed, lists, list-back}
 use Rattle.ndef.proofs.Least.{octets-part, Message, message}
 use Rattle.ndef.proofs.Written.{all-octets, wrote, unwritten, overlong, writes, writes-none, writes-not}
 use Rattle.ndef.proofs.Tables.{given, reads-output, reads-refused, refused-reads, table-list, places-many, table-is-list, table-long}
@@ -90,20 +90,19 @@ module _ (rs : List Record) (o : OctetRecords rs) where
       go true q = let s = some-message q in absurd (none (messageBytes 1 rs) (s .0) (s .1))
       go false q = writes-none room rs q
 
-  no-room : (room : ℕ) → writeList room rs ≡ refused-output 12
-      → (((m : List ℕ) → Octets m → messageOf m ≡ records rs → ⊥) → ⊥) × ((m : List ℕ) → Octets m → messageOf m ≡ records rs → room < length m)
+  no-room : (room : ℕ) → writeList room rs ≡ refused-output 12 → Readable rs × ((m : List ℕ) → Octets m → messageOf m ≡ records rs → room < length m)
   no-room room e =
       let w = overlong room rs e in
       let s = some-message (w .0) in
-      (λ none. none (messageBytes 1 rs) (s .0) (s .1), λ m om q. omega (arith, w .1, message m rs om q .least .small))
+      ((messageBytes 1 rs, s .0, s .1), λ m om q. omega (arith, w .1, message m rs om q .least .small))
 
-  all-longer : (room : ℕ) → (((m : List ℕ) → Octets m → messageOf m ≡ records rs → ⊥) → ⊥) → ((m : List ℕ) → Octets m → messageOf m ≡ records rs → room < length m)
+  all-longer : (room : ℕ) → Readable rs → ((m : List ℕ) → Octets m → messageOf m ≡ records rs → room < length m)
       → writeList room rs ≡ refused-output 12
   all-longer room some longer = go (isWritableList rs) refl
     where
       go : (c : Bool) → isWritableList rs ≡ c → writeList room rs ≡ refused-output 12
       go true q = let s = some-message q in writes-not room rs q (longer (messageBytes 1 rs) (s .0) (s .1))
-      go false q = absurd (some (none-reads room (writes-none room rs q)))
+      go false q = absurd (none-reads room (writes-none room rs q) (some .0) (some .1) (some .2))
 
 pub unwritable-exactly : UnwritableExactly
 unwritable-exactly = record { unwritable = λ room rs o. (λ e. none-reads rs o room e, λ none. none-writes rs o room none) }
@@ -152,15 +151,29 @@ read-answer m rs e table r out w =
     let front : take (7 * length rs) out ≡ t = ap (take (7 * length rs)) (a .1) ∙ front-is t table (7 * length rs) long in
     (a .0, rw front (table-list m rs e))
 
-calls-same-list : (t bytes buffer : List ℕ) (n : ℕ) (out table : List ℕ) (r : CountAnswer) (out′ : List ℕ)
-    → WroteRecords t bytes buffer (counted.Count n) out → ReadRecords (take n out) table r out′
-    → (k : ℕ) × (r ≡ counted.Count k) × (recordsIn (take (7 * k) out′) (take n out) ≡ recordsIn t bytes)
-calls-same-list t bytes buffer n out table r out′ w v =
+-- writing that gave a count: the list can be written, and its message is at the buffer's front
+write-answer : (t bytes buffer : List ℕ) (n : ℕ) (out : List ℕ) → WroteRecords t bytes buffer (counted.Count n) out
+    → Listed (recordsIn t bytes) × (take n out ≡ messageBytes 1 (recordsIn t bytes)) × (length (messageBytes 1 (recordsIn t bytes)) ≡ n)
+write-answer t bytes buffer n out w =
     let p = put-counted (λ room. write room t bytes) buffer out n w in
     let l = written-list (length buffer) t bytes n (p .0) (p .1) in
     let q = wrote (length buffer) (recordsIn t bytes) n (p .0) (l .1) in
     let front : take n out ≡ p .0 = ap (take n) (p .2) ∙ front-is (p .0) buffer n (sym (q .1) ∙ ap length (q .2)) in
-    let reads : messageOf (take n out) ≡ records (recordsIn t bytes) = ap messageOf (front ∙ sym (q .2)) ∙ list-back (recordsIn t bytes) (q .0) in
+    (q .0, front ∙ sym (q .2), q .1)
+
+calls-no-shorter : (t bytes buffer : List ℕ) (n : ℕ) (out m : List ℕ) → WroteRecords t bytes buffer (counted.Count n) out → Octets m → messageOf m ≡ records (recordsIn t bytes)
+    → (n ≤ length m) × (length m ≡ n → m ≡ take n out)
+calls-no-shorter t bytes buffer n out m w o r =
+    let a = write-answer t bytes buffer n out w in
+    let l = message m (recordsIn t bytes) o r .least in
+    (omega (arith, l .small, a .2), λ e. l .same (a .2 ∙ sym e) ∙ sym (a .1))
+
+calls-same-list : (t bytes buffer : List ℕ) (n : ℕ) (out table : List ℕ) (r : CountAnswer) (out′ : List ℕ)
+    → WroteRecords t bytes buffer (counted.Count n) out → ReadRecords (take n out) table r out′
+    → (k : ℕ) × (r ≡ counted.Count k) × (recordsIn (take (7 * k) out′) (take n out) ≡ recordsIn t bytes)
+calls-same-list t bytes buffer n out table r out′ w v =
+    let q = write-answer t bytes buffer n out w in
+    let reads : messageOf (take n out) ≡ records (recordsIn t bytes) = ap messageOf (q .1) ∙ list-back (recordsIn t bytes) (q .0) in
     let a = read-answer (take n out) (recordsIn t bytes) reads table r out′ v in
     (length (recordsIn t bytes), a .0, a .1)
 
@@ -208,6 +221,22 @@ module _ (room : ℕ) (t bytes : List ℕ) (o : Octets bytes) where
       go true q = none-writes (recordsIn t bytes) (table-octets bytes o (placesOfTable t)) room (none q)
       go false q = refl
 
+  longer-if-refused : write room t bytes ≡ refused-output 12
+      → (isList t bytes ≡ true) × Readable (recordsIn t bytes) × ((m : List ℕ) → Octets m → messageOf m ≡ records (recordsIn t bytes) → room < length m)
+  unfolding write
+  longer-if-refused e =
+      let l = go (isList t bytes) e in
+      let w = no-room (recordsIn t bytes) (table-octets bytes o (placesOfTable t)) room (l .1) in
+      (l .0, w .0, w .1)
+    where
+      go : (b : Bool) → cond b (writeList room (recordsIn t bytes)) (refused-output 33) ≡ refused-output 12 → (b ≡ true) × (writeList room (recordsIn t bytes) ≡ refused-output 12)
+      go true e = (refl, e)
+      go false e = absurd (let z : _≡_ {A = ℕ} 33 12 = cc in omega arith)
+
+  refused-if-longer : isList t bytes ≡ true → Readable (recordsIn t bytes) → ((m : List ℕ) → Octets m → messageOf m ≡ records (recordsIn t bytes) → room < length m)
+      → write room t bytes ≡ refused-output 12
+  refused-if-longer l some longer = list-written room t bytes l ∙ all-longer (recordsIn t bytes) (table-octets bytes o (placesOfTable t)) room some longer
+
 pub calls : Calls
 calls = record {
   refuses = λ m table r out k w.
@@ -216,6 +245,10 @@ calls = record {
   unwritable = λ t bytes buffer r out o w.
       let e = refused-exactly (write (length buffer) t bytes) r 33 (w .0) in
       (λ q. none-if-refused (length buffer) t bytes o (e .0 q), λ none. e .1 (refused-if-none (length buffer) t bytes o none));
+  too-long = λ t bytes buffer r out o w.
+      let e = refused-exactly (write (length buffer) t bytes) r 12 (w .0) in
+      (λ q. longer-if-refused (length buffer) t bytes o (e .0 q), λ v. e .1 (refused-if-longer (length buffer) t bytes o (v .0) (v .1) (v .2)));
+  no-shorter = calls-no-shorter;
   same-list = calls-same-list;
   same-bytes = calls-same-bytes;
 }

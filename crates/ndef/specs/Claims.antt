@@ -47,11 +47,15 @@ pub record UnwritableExactly : Type 0 where
   pub unwritable : (room : ℕ) (rs : List Record) → OctetRecords rs
       → writeList room rs ≡ refused-output unwritable-records ↔ ((m : List ℕ) → Octets m → messageOf m ≡ records rs → ⊥)
 
+-- some message reads as the list
+abbrev pub Readable : List Record → Type 0
+Readable rs = (m : List ℕ) × Octets m × (messageOf m ≡ records rs)
+
 -- 12 exactly if some message reads as the list, and each that does is longer than the buffer
 pub record TooLongExactly : Type 0 where
   pub too-long : (room : ℕ) (rs : List Record) → OctetRecords rs
       → writeList room rs ≡ refused-output short-buffer
-      ↔ ((((m : List ℕ) → Octets m → messageOf m ≡ records rs → ⊥) → ⊥) × ((m : List ℕ) → Octets m → messageOf m ≡ records rs → room < length m))
+      ↔ (Readable rs × ((m : List ℕ) → Octets m → messageOf m ≡ records rs → room < length m))
 
 -- the table that reading gives, with the message for its bytes, is the list that the message reads as: seven numbers a record
 pub record TableIsList : Type 0 where
@@ -62,13 +66,20 @@ pub record TableIsList : Type 0 where
 
 -- ---- of what the code answers
 
--- The calls answer as their contracts say. Reading refuses exactly where the definition does, and writing gives 33 exactly if the table is
--- no list or no message reads as the list. What was written, read again, has the records that were written. A message that was read,
--- written again from its table, gets no longer, and is the same bytes exactly if it used the shortest form.
+-- The calls answer as their contracts say. Reading refuses exactly where the definition does. Writing gives 33 exactly if the table is no
+-- list or no message reads as the list, and 12 exactly if some message does and each that does is longer than the buffer. What was
+-- written, read again, has the records that were written; every message that reads the same is at least as long, and one as short is the
+-- same bytes. A message that was read, written again from its table, gets no longer, and is the same bytes exactly if it used the shortest
+-- form.
 pub record Calls : Type 0 where
   pub refuses : (m table : List ℕ) (r : CountAnswer) (out : List ℕ) (k : ℕ) → ReadRecords m table r out → r ≡ counted.Refused k ↔ messageOf m ≡ refused k
   pub unwritable : (t bytes buffer : List ℕ) (r : CountAnswer) (out : List ℕ) → Octets bytes → WroteRecords t bytes buffer r out
       → r ≡ counted.Refused unwritable-records ↔ (isList t bytes ≡ true → (m : List ℕ) → Octets m → messageOf m ≡ records (recordsIn t bytes) → ⊥)
+  pub too-long : (t bytes buffer : List ℕ) (r : CountAnswer) (out : List ℕ) → Octets bytes → WroteRecords t bytes buffer r out
+      → r ≡ counted.Refused short-buffer
+      ↔ ((isList t bytes ≡ true) × Readable (recordsIn t bytes) × ((m : List ℕ) → Octets m → messageOf m ≡ records (recordsIn t bytes) → length buffer < length m))
+  pub no-shorter : (t bytes buffer : List ℕ) (n : ℕ) (out m : List ℕ) → WroteRecords t bytes buffer (counted.Count n) out → Octets m → messageOf m ≡ records (recordsIn t bytes)
+      → (n ≤ length m) × (length m ≡ n → m ≡ take n out)
   pub same-list : (t bytes buffer : List ℕ) (n : ℕ) (out table : List ℕ) (r : CountAnswer) (out′ : List ℕ)
       → WroteRecords t bytes buffer (counted.Count n) out → ReadRecords (take n out) table r out′
       → (k : ℕ) × (r ≡ counted.Count k) × (recordsIn (take (numbersEach * k) out′) (take n out) ≡ recordsIn t bytes)

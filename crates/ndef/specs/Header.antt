@@ -13,7 +13,7 @@ use Prim.Native.Nat.{ℕ, _+_, _-_, _*_, _/_, _%_}
 use lib.Dec.{eqb}
 use Rattle.tag.specs.Bytes.{byte}
 
--- ---- the flags, each 0 or 1, and the TNF
+-- ---- the flags, each 0 or 1 for a byte, and the TNF
 
 abbrev pub mb : ℕ → ℕ
 mb flags = flags / 128

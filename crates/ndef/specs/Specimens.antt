@@ -1,5 +1,5 @@
--- Worked messages and lists, on each side of every limit of 02's E5, with what reading and writing give. `specimens-read` and
--- `specimens-written` claim all rows at once, and the checker computes them.
+-- Worked messages, lists and tables, on each side of every limit of 02's E5, with what reading and writing give. `SpecimensRead`,
+-- `SpecimensWritten` and `SpecimensShortest` claim all rows at once, and the checker computes them.
 -- Assumes nothing.
 use mathlib.Core.Path.{_≡_}
 use mathlib.Core.Bool.{Bool, true, false}

@@ -15,7 +15,8 @@ pub struct Header {
     pub payload: usize,
 }
 
-// The byte at a place, 0 past the end. A header that is cut short thus needs no test of its own: the record is too long for its message.
+// The byte at an index, 0 past the end. A header that is cut short thus needs no test of its own: the record is too long for what is left
+// of the message.
 fn byte(s: &[u8], at: usize) -> usize
     ensures is { λ r. ⌜ r ≡ byte (now (s .entry)) at ⌝ }
     ensures small { λ r. ⌜ r < 256 ⌝ }
@@ -92,7 +93,7 @@ fn long_header(flags: usize, s: &[u8]) -> Header
     }
 }
 
-// The header at the front of `s`. Each form has its own branch, and its length is a constant there: the place of the next record then
+// The header at the front of `s`. Each form has its own branch, and its length is a constant there: where the next record starts then
 // waits for no test of the flags.
 pub(crate) fn header_of(s: &[u8]) -> Header
     ensures says { λ r. ⌜ Says (now (s .entry)) r ⌝ }
@@ -140,10 +141,10 @@ fn header_len(flags: usize) -> usize
 }
 
 // The header that was packed.
-pub(crate) fn unpacked(word: u64) -> Header
-    ensures { λ r. ⌜ r ≡ headerFrom word ⌝ }
+pub(crate) fn unpacked(number: u64) -> Header
+    ensures { λ r. ⌜ r ≡ headerFrom number ⌝ }
 {
-    let w = word as usize;
+    let w = number as usize;
     let flags = w % 256;
     let len = header_len(flags);
     let rtype = w / 256 % 256;

@@ -15,7 +15,7 @@ ghost use Rattle.ndef.specs.Shortest.{headerBytes, recordBytes, messageBytes};
 ghost use Rattle.ndef.specs.Writing.{recordsIn};
 ghost use Rattle.ndef_write.specs.Views.Laying.{PutAt, Lays, Fits};
 
-// Writes bytes at a place, and returns the place behind them.
+// Writes bytes to the buffer from `at` on, and returns where they end.
 fn put(from: &[u8], out: &mut [u8], at: usize) -> usize
     requires { ⌜ at + length (now from) ≤ length (now out) ⌝ }
     ensures { λ r. ⌜ PutAt (now (out .entry)) (now (out .exit)) at (now (from .entry)) r ⌝ }
@@ -58,7 +58,7 @@ fn put_header(
     put(&long, out, at)
 }
 
-// Writes a part of the bytes at a place, and returns the place behind it.
+// Writes a part of the bytes to the buffer from `at` on, and returns where it ends.
 fn put_part(part: Part, bytes: &[u8], out: &mut [u8], at: usize) -> usize
     requires { ⌜ part .at + part .len ≤ length (now bytes) ⌝ }
     requires { ⌜ at + part .len ≤ length (now out) ⌝ }
@@ -69,7 +69,7 @@ fn put_part(part: Part, bytes: &[u8], out: &mut [u8], at: usize) -> usize
     put(&bytes[start..end], out, at)
 }
 
-// Writes the record at a place of the bytes. `first` is 1 for the first record of a list, else 0, and `last` likewise.
+// Writes the record that a place names in the bytes. `first` is 1 for the first record of a list, else 0, and `last` likewise.
 fn put_record(first: usize, last: usize, p: Place, bytes: &[u8], out: &mut [u8], at: usize) -> usize
     requires { ⌜ (first ≤ 1) × (last ≤ 1) ⌝ }
     requires { ⌜ Lays (length (now bytes)) p ⌝ }

@@ -1,5 +1,5 @@
 // Writing a list of records as an NDEF message, in the shortest form.
 
-pub mod laying;
-pub mod sizes;
+mod laying;
+mod sizes;
 pub mod write;

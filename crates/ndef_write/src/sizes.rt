@@ -12,7 +12,7 @@ ghost use Rattle.ndef.specs.Places.{partIn, liesIn, firstPlace};
 ghost use Rattle.ndef.specs.Writing.{headerHolds};
 ghost use Rattle.ndef_write.specs.Views.Sizes.{headerSize, sizeFor, Sized};
 
-// The place that a table has from `at` on.
+// The place whose numbers a table has from `at` on.
 pub(crate) fn place_at(table: &[u64], at: usize) -> Place
     requires { ⌜ at + 7 ≤ length (now table) ⌝ }
     ensures { λ r. ⌜ r ≡ firstPlace (drop at (now (table .entry))) ⌝ }
@@ -93,7 +93,7 @@ fn header_holds(rtype: usize, id: usize, payload: usize) -> bool
     payload < 4294967296
 }
 
-// The length of the record at a place of `size` bytes, or 0 if it cannot be written.
+// The length of the record that a place names in `size` bytes, or 0 if it cannot be written.
 fn record_size(p: Place, size: usize) -> usize
     ensures is { λ r. ⌜ r ≡ sizeFor size p ⌝ }
     ensures small { λ r. ⌜ r < 8589934592 ⌝ }

@@ -39,7 +39,7 @@ pub data Returned (A : Type 0) : Type 0 where
 abbrev pub refusesOne : {A : Type 0} → ℕ → Returned A
 refusesOne r = refuses (refusalAt r 0)
 
--- writing and encoding give a number
+-- writing, encoding and reading records give a number
 abbrev pub countOf : Output → Returned ℕ
 countOf (refused-output r) = refusesOne r
 countOf (output n bytes) = gives n

@@ -1,5 +1,5 @@
--- The refusals, by name, and what a refusal returns. The numbers are those of the table 'Refusal numbers' of the requirements. A
--- refusal returns its number and, from 20 to 23, the position of the command.
+-- The refusals, by name, and what a refusal returns. The numbers are those of the table 'Refusal numbers' of the requirements
+-- and of the requests. A refusal returns its number and, from 20 to 23, the position of the command.
 -- Assumes nothing.
 use mathlib.Core.Bool.{_&&_, cond}
 use Prim.Native.Nat.{ℕ}
@@ -80,7 +80,7 @@ too-many-records = 30
 abbrev pub chunked-record : ℕ
 chunked-record = 31
 
--- a record that is cut short or contradicts itself, or a message without a record
+-- a record that is cut short, a TNF with lengths that it does not allow, MB or ME in the wrong place, or a message without a record
 abbrev pub malformed-record : ℕ
 malformed-record = 32
 

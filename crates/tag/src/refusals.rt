@@ -1,5 +1,5 @@
-// The refusals, by name. Their numbers are those of the table 'Refusal numbers' of the requirements. specs/Refusals.antt has the
-// same names for the definitions.
+// The refusals, by name. Their numbers are those of the table 'Refusal numbers' of the requirements and of the requests.
+// specs/Refusals.antt has the same names for the definitions.
 
 // No refusal, in functions that answer only a refusal's number.
 pub const NONE: u8 = 0;
@@ -60,7 +60,7 @@ pub const TOO_MANY_RECORDS: u8 = 30;
 // The record is a part of a chunked payload.
 pub const CHUNKED_RECORD: u8 = 31;
 
-// The record is cut short or contradicts itself, or the message has none.
+// The record is cut short, its TNF does not allow its lengths, MB or ME is in the wrong place, or the message has no record.
 pub const MALFORMED_RECORD: u8 = 32;
 
 // No NDEF message gives the list of records to write.

@@ -1,5 +1,5 @@
 -- The answers as C gets them, each one number: a refusal in its low byte, and above it the position, or on success the count. A
--- count or a position keeps 56 bits, which is all of it: no list in a machine's memory has 2^56 commands.
+-- count or a position keeps 56 bits, which is all of it: nothing in a machine's memory has 2^56 commands, records or bytes.
 -- Assumes nothing.
 use mathlib.Core.Path.{_≡_}
 use mathlib.Core.Bool.{Bool, true, false, cond}
@@ -27,7 +27,7 @@ abbrev pub packedRefusal : Refusal → ℕ
 packedRefusal (plain r) = r
 packedRefusal (positioned r p) = r + above p
 
--- writing and encoding give a count
+-- writing, encoding and reading records give a count
 abbrev pub packedCount : Returned ℕ → ℕ
 packedCount (refuses f) = packedRefusal f
 packedCount (gives n) = above n

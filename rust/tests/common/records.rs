@@ -1,4 +1,4 @@
-//! Records to test with: lists of them, messages in any form or damaged, and tables of numbers.
+//! Records to test with: lists of them, and messages in any form or damaged.
 
 use super::Rng;
 

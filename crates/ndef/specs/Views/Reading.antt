@@ -14,13 +14,13 @@ use Rattle.ndef.specs.Header.{idLength, payloadLength, recordLength}
 use Rattle.ndef.specs.Message.{records, recordsOf}
 
 -- the header at the front of s, packed
-unfoldable pub wordOf : List ℕ → ℕ
-wordOf s = byte s 0 + 256 * byte s 1 + 65536 * idLength (byte s 0) s + 16777216 * payloadLength (byte s 0) s
+unfoldable pub packedHeader : List ℕ → ℕ
+packedHeader s = byte s 0 + 256 * byte s 1 + 65536 * idLength (byte s 0) s + 16777216 * payloadLength (byte s 0) s
 
 -- those of its records, of which n are still allowed
-unfoldable pub wordsOf : ℕ → List ℕ → List ℕ
-wordsOf zero s = []
-wordsOf (suc n) s = elim (eqb (length s) 0) [ true ↦ [] | false ↦ wordOf s ∷ wordsOf n (drop (recordLength s) s) ]
+unfoldable pub packedHeaders : ℕ → List ℕ → List ℕ
+packedHeaders zero s = []
+packedHeaders (suc n) s = elim (eqb (length s) 0) [ true ↦ [] | false ↦ packedHeader s ∷ packedHeaders n (drop (recordLength s) s) ]
 
 -- s reads as some list, of which n records are still allowed
 pub record Reads (first n : ℕ) (s : List ℕ) : Type 0 where
@@ -30,10 +30,10 @@ pub record Reads (first n : ℕ) (s : List ℕ) : Type 0 where
 -- with a count, the headers of all records are kept
 abbrev pub Keeps : List ℕ → List ℕ → CountAnswer → List ℕ → Type 0
 Keeps s before (counted.Refused r) after = Unit {0}
-Keeps s before (counted.Count n) after = after ≡ overwrite (wordsOf most s) before
+Keeps s before (counted.Count n) after = after ≡ overwrite (packedHeaders most s) before
 
 -- the headers that were kept, and a table to fill in
 pub record Filling (s kept table : List ℕ) : Type 0 where
   pub before : List ℕ
-  pub all-kept : kept ≡ overwrite (wordsOf most s) before
+  pub all-kept : kept ≡ overwrite (packedHeaders most s) before
   pub room : length table ≡ 112

@@ -10,12 +10,12 @@ use Rattle.ndef.specs.declared.Place.{Place}
 use Rattle.ndef.specs.Shortest.{messageBytes}
 use Rattle.ndef.specs.Writing.{isWritableList, isList, recordsIn}
 
--- xs stand in the buffer from `at` on, and r is the place behind them
+-- xs stand in the buffer from `at` on, and end at r
 pub record PutAt (before after : List ℕ) (at : ℕ) (xs : List ℕ) (r : ℕ) : Type 0 where
   pub stored : after ≡ sets before at xs
   pub behind : r ≡ at + length xs
 
--- a place whose record can be written, in `size` bytes
+-- a place that names, in `size` bytes, a record that can be written
 pub record Lays (size : ℕ) (p : Place) : Type 0 where
   pub tnf-small : p .tnf < 6
   pub type-small : p .rtype .len < 256

@@ -16,7 +16,7 @@ use Rattle.ndef.specs.Writing.{headerHolds, isWritableList, isList, recordsIn}
 unfoldable pub headerSize : ℕ → ℕ → ℕ
 headerSize id payload = cond (ltb payload 256) (cond (eqb id 0) 3 4) (cond (eqb id 0) 6 7)
 
--- the record at a place of `size` bytes; 0 if it cannot be written
+-- the record that a place names in `size` bytes; 0 if it cannot be written
 unfoldable pub sizeFor : ℕ → Place → ℕ
 sizeFor size p =
     cond (liesIn size p)
