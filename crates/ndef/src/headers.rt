@@ -3,7 +3,7 @@
 ghost use mathlib.Core.Path.{_≡_};
 ghost use Prim.Native.Nat.{_+_, _*_, _<_, _^_};
 ghost use Rattle.tag.specs.Bytes.{byte};
-ghost use Rattle.ndef.specs.Header.{sr, headerLength};
+ghost use Rattle.ndef.specs.Header.{sr, il, headerLength};
 ghost use Rattle.ndef.specs.Views.Headers.{Says, Small, lengthFor, packedFor, headerFrom};
 
 // What the header of a record says: its first byte, and the lengths of the header, the type, the ID and the payload.
@@ -35,24 +35,12 @@ fn long_len(s: &[u8]) -> usize
     byte(s, 2) * 16777216 + byte(s, 3) * 65536 + byte(s, 4) * 256 + byte(s, 5)
 }
 
-// The header of a short record: the payload's length is one byte.
-fn short_header(flags: usize, s: &[u8]) -> Header
-    requires { ⌜ (flags ≡ byte (now s) 0) × (sr flags ≡ 1) × (flags < 256) ⌝ }
+// The header of a short record without IL: three bytes.
+fn bare_header(flags: usize, s: &[u8]) -> Header
+    requires { ⌜ (flags ≡ byte (now s) 0) × (sr flags ≡ 1) × (il flags ≡ 1 → ⊥) × (flags < 256) ⌝ }
     ensures says { λ r. ⌜ Says (now (s .entry)) r ⌝ }
     ensures small { λ r. ⌜ Small r ⌝ }
 {
-    if flags / 8 % 2 == 1 {
-        let rtype = byte(s, 1);
-        let payload = byte(s, 2);
-        let id = byte(s, 3);
-        return Header {
-            flags,
-            len: 4,
-            rtype,
-            id,
-            payload,
-        };
-    }
     let rtype = byte(s, 1);
     let payload = byte(s, 2);
     Header {
@@ -60,6 +48,24 @@ fn short_header(flags: usize, s: &[u8]) -> Header
         len: 3,
         rtype,
         id: 0,
+        payload,
+    }
+}
+
+// The header of a short record with IL: four bytes.
+fn short_header(flags: usize, s: &[u8]) -> Header
+    requires { ⌜ (flags ≡ byte (now s) 0) × (sr flags ≡ 1) × (il flags ≡ 1) × (flags < 256) ⌝ }
+    ensures says { λ r. ⌜ Says (now (s .entry)) r ⌝ }
+    ensures small { λ r. ⌜ Small r ⌝ }
+{
+    let rtype = byte(s, 1);
+    let payload = byte(s, 2);
+    let id = byte(s, 3);
+    Header {
+        flags,
+        len: 4,
+        rtype,
+        id,
         payload,
     }
 }
@@ -94,13 +100,16 @@ fn long_header(flags: usize, s: &[u8]) -> Header
 }
 
 // The header at the front of `s`. Each form has its own branch, and its length is a constant there: where the next record starts then
-// waits for no test of the flags.
+// waits for no test of the flags. One test of SR and IL together finds the form that most records have.
 pub(crate) fn header_of(s: &[u8]) -> Header
     ensures says { λ r. ⌜ Says (now (s .entry)) r ⌝ }
     ensures small { λ r. ⌜ Small r ⌝ }
 {
     let flags = byte(s, 0);
-    if flags / 16 % 2 == 1 {
+    if flags / 8 % 4 == 2 {
+        return bare_header(flags, s);
+    }
+    if flags / 8 % 4 == 3 {
         return short_header(flags, s);
     }
     long_header(flags, s)

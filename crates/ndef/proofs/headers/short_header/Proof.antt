@@ -1,7 +1,7 @@
 -- `headers::short_header` meets its contract. Assumes nothing.
 use mathlib.Core.Path.{refl}
 use borrow.Author.Needs.{needs}
-use Rattle.ndef.proofs.Saying.{says-short-id, says-short}
+use Rattle.ndef.proofs.Saying.{says-short-id}
 use Rattle.ndef.proofs.headers.short_header.Statement.{statement}
 use Rattle.ndef.proofs.headers.short_header.Tie as tie
 
@@ -9,29 +9,15 @@ returns : tie.Need-returns
 returns c =
     let at-byte2 = c .before in
     let at-byte = at-byte2 .before in
-    let at-if1 = at-byte .before in
-    let at-start = at-if1 .before .before in (
-      says-short-id (at-start .args .s .now) _ (at-start .pre .0) (at-byte .byte .ensures .0) (at-start .pre .1) (at-if1 .if1 .taken) refl (at-byte2 .byte2 .ensures .0) (c .byte3 .ensures .0),
-      record { some-len = search needs; len-small = search needs; type-small = search needs; id-small = search needs; payload-small = search needs; flags-small = search needs },
-    )
-
-returns-2 : tie.Need-returns-2
-returns-2 c =
-    let at-byte4 = c .before in
-    let at-if1 = at-byte4 .before in
-    let at-start = at-if1 .before .before in (
-      says-short (at-start .args .s .now) _ (at-start .pre .0) (at-byte4 .byte4 .ensures .0) (at-start .pre .1) (at-if1 .if1 .left) refl (c .byte5 .ensures .0) refl,
+    let at-start = at-byte .before .before in (
+      says-short-id (at-start .args .s .now) _ (at-start .pre .0) (at-byte .byte .ensures .0) (at-start .pre .1) (at-start .pre .2) refl (at-byte2 .byte2 .ensures .0) (c .byte3 .ensures .0),
       record { some-len = search needs; len-small = search needs; type-small = search needs; id-small = search needs; payload-small = search needs; flags-small = search needs },
     )
 
 pub short-header-spec : {M : Type 1} → statement M
-short-header-spec =
-    tie.close
+short-header-spec = tie.close
     (tie.spec
     (λ c κs. search needs)
     (λ c κs. search needs)
     (λ c κs. search needs)
-    returns
-    (λ c κs. search needs)
-    (λ c κs. search needs)
-    returns-2)
+    returns)
