@@ -37,15 +37,16 @@ pub record ShortestForm : Type 0 where
 -- a message read and written is the same bytes if it used the shortest form, and only then
 pub record SameBytes : Type 0 where
   -- the shortest form in the header's words: SR exactly if the payload has at most 255 bytes, IL exactly if the ID is not empty
-  pub by-headers : (rs : List Record) (m : List ℕ) → Octets m → messageOf m ≡ records rs → isShortest m ≡ true ↔ writeList (length m) rs ≡ output (length m) m
+  pub by-headers : (rs : List Record) (m : List ℕ) → Octets m → messageOf m ≡ records rs
+      → (isShortest m ≡ true) ↔ (writeList (length m) rs ≡ output (length m) m)
   -- and as what it is: no message that reads the same is shorter
   pub by-length : (rs : List Record) (m : List ℕ) → Octets m → messageOf m ≡ records rs
-      → ((other : List ℕ) → Octets other → messageOf other ≡ records rs → length m ≤ length other) ↔ writeList (length m) rs ≡ output (length m) m
+      → ((other : List ℕ) → Octets other → messageOf other ≡ records rs → length m ≤ length other) ↔ (writeList (length m) rs ≡ output (length m) m)
 
 -- 33 exactly if no message reads as the list
 pub record UnwritableExactly : Type 0 where
   pub unwritable : (room : ℕ) (rs : List Record) → OctetRecords rs
-      → writeList room rs ≡ refused-output unwritable-records ↔ ((m : List ℕ) → Octets m → messageOf m ≡ records rs → ⊥)
+      → (writeList room rs ≡ refused-output unwritable-records) ↔ ((m : List ℕ) → Octets m → messageOf m ≡ records rs → ⊥)
 
 -- some message reads as the list
 abbrev pub Readable : List Record → Type 0
@@ -54,12 +55,12 @@ Readable rs = (m : List ℕ) × Octets m × (messageOf m ≡ records rs)
 -- 12 exactly if some message reads as the list, and each that does is longer than the buffer
 pub record TooLongExactly : Type 0 where
   pub too-long : (room : ℕ) (rs : List Record) → OctetRecords rs
-      → writeList room rs ≡ refused-output short-buffer
+      → (writeList room rs ≡ refused-output short-buffer)
       ↔ (Readable rs × ((m : List ℕ) → Octets m → messageOf m ≡ records rs → room < length m))
 
 -- the table that reading gives, with the message for its bytes, is the list that the message reads as: seven numbers a record
 pub record TableIsList : Type 0 where
-  pub refuses : (m : List ℕ) (r : ℕ) → read m ≡ refused-output r ↔ messageOf m ≡ refused r
+  pub refuses : (m : List ℕ) (r : ℕ) → (read m ≡ refused-output r) ↔ (messageOf m ≡ refused r)
   pub seven-each : (m : List ℕ) (n : ℕ) (t : List ℕ) → read m ≡ output n t → length t ≡ numbersEach * n
   pub lies-in : (m : List ℕ) (n : ℕ) (t : List ℕ) → read m ≡ output n t → isList t m ≡ true
   pub reads-as : (m : List ℕ) (n : ℕ) (t : List ℕ) → read m ≡ output n t → messageOf m ≡ records (recordsIn t m)
@@ -72,17 +73,18 @@ pub record TableIsList : Type 0 where
 -- same bytes. A message that was read, written again from its table, gets no longer, and is the same bytes exactly if it used the shortest
 -- form.
 pub record Calls : Type 0 where
-  pub refuses : (m table : List ℕ) (r : CountAnswer) (out : List ℕ) (k : ℕ) → ReadRecords m table r out → r ≡ counted.Refused k ↔ messageOf m ≡ refused k
+  pub refuses : (m table : List ℕ) (r : CountAnswer) (out : List ℕ) (k : ℕ) → ReadRecords m table r out
+      → (r ≡ counted.Refused k) ↔ (messageOf m ≡ refused k)
   pub unwritable : (t bytes buffer : List ℕ) (r : CountAnswer) (out : List ℕ) → Octets bytes → WroteRecords t bytes buffer r out
-      → r ≡ counted.Refused unwritable-records ↔ (isList t bytes ≡ true → (m : List ℕ) → Octets m → messageOf m ≡ records (recordsIn t bytes) → ⊥)
+      → (r ≡ counted.Refused unwritable-records) ↔ (isList t bytes ≡ true → (m : List ℕ) → Octets m → messageOf m ≡ records (recordsIn t bytes) → ⊥)
   pub too-long : (t bytes buffer : List ℕ) (r : CountAnswer) (out : List ℕ) → Octets bytes → WroteRecords t bytes buffer r out
-      → r ≡ counted.Refused short-buffer
+      → (r ≡ counted.Refused short-buffer)
       ↔ ((isList t bytes ≡ true) × Readable (recordsIn t bytes) × ((m : List ℕ) → Octets m → messageOf m ≡ records (recordsIn t bytes) → length buffer < length m))
-  pub no-shorter : (t bytes buffer : List ℕ) (n : ℕ) (out m : List ℕ) → WroteRecords t bytes buffer (counted.Count n) out → Octets m → messageOf m ≡ records (recordsIn t bytes)
-      → (n ≤ length m) × (length m ≡ n → m ≡ take n out)
+  pub no-shorter : (t bytes buffer : List ℕ) (n : ℕ) (out m : List ℕ) → WroteRecords t bytes buffer (counted.Count n) out
+      → Octets m → messageOf m ≡ records (recordsIn t bytes) → (n ≤ length m) × (length m ≡ n → m ≡ take n out)
   pub same-list : (t bytes buffer : List ℕ) (n : ℕ) (out table : List ℕ) (r : CountAnswer) (out′ : List ℕ)
       → WroteRecords t bytes buffer (counted.Count n) out → ReadRecords (take n out) table r out′
       → (k : ℕ) × (r ≡ counted.Count k) × (recordsIn (take (numbersEach * k) out′) (take n out) ≡ recordsIn t bytes)
   pub same-bytes : (m table : List ℕ) (k : ℕ) (out buffer : List ℕ) (r : CountAnswer) (out′ : List ℕ) → Octets m → length m ≤ length buffer
       → ReadRecords m table (counted.Count k) out → WroteRecords (take (numbersEach * k) out) m buffer r out′
-      → (n : ℕ) × (r ≡ counted.Count n) × (n ≤ length m) × (isShortest m ≡ true ↔ take n out′ ≡ m)
+      → (n : ℕ) × (r ≡ counted.Count n) × (n ≤ length m) × ((isShortest m ≡ true) ↔ (take n out′ ≡ m))

@@ -53,7 +53,7 @@ unfoldable pub onto : List Record → Parsed → Parsed
 onto rs (records more) = records (rs ++ more)
 onto rs (refused r) = refused r
 
--- the records of s, of which n are still allowed
+-- the records of s; n more are allowed
 unfoldable pub recordsOf : ℕ → ℕ → List ℕ → Parsed
 recordsOf first zero s = elim (eqb (length s) 0) [ true ↦ records [] | false ↦ refused too-many-records ]
 recordsOf first (suc n) s =

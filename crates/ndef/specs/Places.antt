@@ -74,7 +74,7 @@ placeOf at s =
       payload = record { at = payload-at; len = payloadLength flags s };
     }
 
--- the places of the records of s, of which n are still allowed
+-- the places of the records of s; n more are allowed
 unfoldable pub placesOf : ℕ → ℕ → List ℕ → List Place
 placesOf zero at s = []
 placesOf (suc n) at s =

@@ -10,6 +10,13 @@ ghost use lib.Dec.{eqb};
 ghost use Rattle.ndef.specs.Record.{tnfAllows};
 ghost use Rattle.ndef.specs.Views.Headers.{Small, faultFor};
 
+// The type name formats that have a rule of their own: an empty record, a payload of unknown type, and a chunk that is not the first.
+const EMPTY: usize = 0;
+
+const UNKNOWN: usize = 5;
+
+const UNCHANGED: usize = 6;
+
 // Whether there is no type, no ID and no payload.
 fn none_of(rtype: usize, id: usize, payload: usize) -> bool
     ensures { λ r. ⌜ r ≡ eqb (rtype + id + payload) 0 ⌝ }
@@ -27,13 +34,13 @@ fn none_of(rtype: usize, id: usize, payload: usize) -> bool
 pub fn tnf_allows(tnf: usize, rtype: usize, id: usize, payload: usize) -> bool
     ensures { λ r. ⌜ r ≡ tnfAllows tnf rtype id payload ⌝ }
 {
-    if tnf == 0 {
+    if tnf == EMPTY {
         return none_of(rtype, id, payload);
     }
-    if tnf < 5 {
+    if tnf < UNKNOWN {
         return true;
     }
-    if tnf == 5 {
+    if tnf == UNKNOWN {
         return rtype == 0;
     }
     false
@@ -56,10 +63,11 @@ pub(crate) fn fault(h: Header, size: usize, first: usize) -> u8
     requires { ⌜ Small h ⌝ }
     ensures { λ r. ⌜ r ≡ faultFor h size first ⌝ }
 {
+    // CF
     if h.flags / 32 % 2 != 0 {
         return refusals::CHUNKED_RECORD;
     }
-    if h.flags % 8 == 6 {
+    if h.flags % 8 == UNCHANGED {
         return refusals::CHUNKED_RECORD;
     }
     let len = headers::record_len(h);
@@ -69,9 +77,11 @@ pub(crate) fn fault(h: Header, size: usize, first: usize) -> u8
     if !tnf_allows(h.flags % 8, h.rtype, h.id, h.payload) {
         return refusals::MALFORMED_RECORD;
     }
+    // MB
     if h.flags / 128 != first {
         return refusals::MALFORMED_RECORD;
     }
+    // ME
     if h.flags / 64 % 2 != one_if_equal(len, size) {
         return refusals::MALFORMED_RECORD;
     }

@@ -17,12 +17,12 @@ use Rattle.ndef.specs.Message.{records, recordsOf}
 unfoldable pub packedHeader : List ℕ → ℕ
 packedHeader s = byte s 0 + 256 * byte s 1 + 65536 * idLength (byte s 0) s + 16777216 * payloadLength (byte s 0) s
 
--- those of its records, of which n are still allowed
+-- those of its records; n more are allowed
 unfoldable pub packedHeaders : ℕ → List ℕ → List ℕ
 packedHeaders zero s = []
 packedHeaders (suc n) s = elim (eqb (length s) 0) [ true ↦ [] | false ↦ packedHeader s ∷ packedHeaders n (drop (recordLength s) s) ]
 
--- s reads as some list, of which n records are still allowed
+-- s reads as some list; n more records are allowed
 pub record Reads (first n : ℕ) (s : List ℕ) : Type 0 where
   pub list : List Record
   pub as-list : recordsOf first n s ≡ records list
