@@ -306,7 +306,8 @@ uint64_t zan_type6_decode(const uint8_t *bytes, size_t bytes_len, uint64_t block
  *         show(message + record[ZAN_NDEF_PAYLOAD_AT], record[ZAN_NDEF_PAYLOAD_LEN]);
  *     }
  */
-uint64_t zan_ndef_read(const uint8_t *message, size_t message_len, uint64_t records[ZAN_NDEF_TABLE]);
+uint64_t zan_ndef_read(const uint8_t *message, size_t message_len,
+                       uint64_t records[ZAN_NDEF_TABLE]);
 
 /*
  * Writes the message of a list of records, in the shortest form, to the front of message. The list
