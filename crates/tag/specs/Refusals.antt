@@ -45,7 +45,7 @@ not-writable = 10
 abbrev pub message-too-long : ℕ
 message-too-long = 11
 
--- the list, the bytes of a command, or the message of records do not fit in the buffer
+-- the list, the bytes of a command, the message of records, a URI or its payload do not fit in the buffer
 abbrev pub short-buffer : ℕ
 short-buffer = 12
 
@@ -87,6 +87,14 @@ malformed-record = 32
 -- no NDEF message gives the list of records to write
 abbrev pub unwritable-records : ℕ
 unwritable-records = 33
+
+-- the payload of a URI record has no byte, or its first byte is no code of an abbreviation
+abbrev pub bad-uri : ℕ
+bad-uri = 34
+
+-- a Smart Poster record inside four others
+abbrev pub nested-too-deep : ℕ
+nested-too-deep = 35
 
 -- what a refusal returns: its number alone, or its number and the position of the command, counted from 0
 pub data Refusal : Type 0 where

@@ -33,7 +33,7 @@ pub const NOT_WRITABLE: u8 = 10;
 
 pub const MESSAGE_TOO_LONG: u8 = 11;
 
-// The list, the bytes of a command, or the message of records do not fit in the buffer.
+// The list, the bytes of a command, the message of records, a URI or its payload do not fit in the buffer.
 pub const SHORT_BUFFER: u8 = 12;
 
 // An interrupted message does not fit in the gathering buffer.
@@ -65,3 +65,9 @@ pub const MALFORMED_RECORD: u8 = 32;
 
 // No NDEF message gives the list of records to write.
 pub const UNWRITABLE_RECORDS: u8 = 33;
+
+// The payload of a URI record has no byte, or its first byte is no code of an abbreviation.
+pub const BAD_URI: u8 = 34;
+
+// A Smart Poster record is inside four others.
+pub const NESTED_TOO_DEEP: u8 = 35;

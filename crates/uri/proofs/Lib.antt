@@ -1,0 +1,5 @@
+-- Laws about URIs and their prefixes, and what the code needs of them. Nothing here states a rule.
+pub mod Rows
+pub mod Parts
+pub mod Choosing
+pub mod Expanding
