@@ -24,7 +24,7 @@ use Rattle.ndef.proofs.Packing.{Split, split-start, split-turn, kept-pa
 use Rattle.ndef.proofs.Tables.{no-places, one-place, given, from-start}
 
 -- the place that the code makes
-place-is : (s : List ℕ) (h : Header) (at : ℕ) → Says s h → placeFor h at ≡ placeOf at s
+pub place-is : (s : List ℕ) (h : Header) (at : ℕ) → Says s h → placeFor h at ≡ placeOf at s
 unfolding placeOf
 place-is s h at w = rw (w .flags-are, w .len-is, w .type-is, w .id-is, w .payload-is)
 

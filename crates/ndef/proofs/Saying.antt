@@ -12,7 +12,7 @@ use Rattle.ndef.specs.declared.headers.Header.{Header}
 use Rattle.ndef.specs.Header.{sr, il, headerLength, payloadLength, idLength}
 use Rattle.ndef.specs.Views.Headers.{Says, lengthFor}
 
-header-some : (flags : ℕ) → 3 ≤ headerLength flags
+pub header-some : (flags : ℕ) → 3 ≤ headerLength flags
 unfolding headerLength
 header-some flags = go (eqb (sr flags) 1) (eqb (il flags) 1)
   where

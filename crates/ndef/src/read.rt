@@ -1,4 +1,5 @@
-// Reading a message: how many records it has, and a table of their places.
+// Reading a message: how many records it has, and a table of their places. Whoever walks through a message record by record needs no
+// table: `count`, then `place_at`.
 //
 // One loop tests the records and keeps each header, packed in a number. A second fills in the table from these, when nothing can be
 // refused any more. So a refusal leaves the table as it was, and no table of sixteen records is made and copied for a message of one.
@@ -15,12 +16,12 @@ use tag::CountAnswer;
 use tag::refusals;
 ghost use mathlib.Core.Path.{_≡_};
 ghost use Prim.Native.Nat.{_+_, _≤_, _<_, _^_};
-ghost use lib.ListN.{length};
+ghost use lib.ListN.{length, drop};
 ghost use lib.Seq.{sets};
 ghost use Rattle.tag.specs.Bytes.{overwrite};
 ghost use Rattle.tag.specs.Answers.{countOf, countAs};
 ghost use Rattle.ndef.specs.Record.{most};
-ghost use Rattle.ndef.specs.Places.{numbersOf, tableOf, placesOf, read};
+ghost use Rattle.ndef.specs.Places.{numbersOf, tableOf, placeOf, placesOf, read};
 ghost use Rattle.ndef.specs.Contracts.{ReadRecords};
 ghost use Rattle.ndef.specs.Views.Headers.{lengthFor, placeFor};
 ghost use Rattle.ndef.specs.Views.Reading.{Reads, Keeps, Filling};
@@ -135,4 +136,23 @@ pub fn read(message: &[u8], table: &mut [u64; TABLE]) -> CountAnswer
 {
     let mut kept = [0u64; MOST];
     read_with(message, &mut kept, table)
+}
+
+// ---- without a table
+
+// How many records a message has, or the refusal.
+pub fn count(message: &[u8]) -> CountAnswer
+    ensures { λ r. ⌜ countAs r ≡ countOf (read (now (message .entry))) ⌝ }
+{
+    let mut kept = [0u64; MOST];
+    keep_headers(message, &mut kept)
+}
+
+// The place of the record that follows `at` bytes of a message. The next record follows its payload.
+pub fn place_at(message: &[u8], at: usize) -> Place
+    requires { ⌜ at ≤ length (now message) ⌝ }
+    ensures { λ r. ⌜ r ≡ placeOf at (drop at (now (message .entry))) ⌝ }
+{
+    let h = headers::header_of(&message[at..]);
+    place_of(h, at)
 }

@@ -107,7 +107,7 @@ chosen (suc n) u h = go (begins (prefix n) u) (ltb (length (prefix (longestOf n 
 
 -- the choice among all of them
 module _ (u : List ℕ) where
-  abbrev all-chosen : Chosen codes u (longest u)
+  abbrev pub all-chosen : Chosen codes u (longest u)
   all-chosen = chosen codes u (omega arith)
 
   -- the rest of u follows the prefix

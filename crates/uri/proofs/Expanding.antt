@@ -1,21 +1,24 @@
 -- What a payload stands for, from the tests that the code makes.
 -- Assumes nothing.
 use mathlib.Core.Path.{_≡_, refl, sym, ap, _∙_}
+use mathlib.Core.Bool.{Bool, true, false, cond}
 use mathlib.Core.List.{List, [], _∷_, _++_}
 use Prim.Native.Nat.{ℕ, _-_, _≤_, _<_}
 use native.Mathlib.Omega.{arith}
+use lib.Dec.{ltb}
 use lib.ListN.{length, take, drop, length-drop}
 use lib.Seq.{take-all}
-use borrow.Author.Tests.{lt-ltb, le-ltb}
+use borrow.Author.Tests.{lt-ltb, le-ltb, ltb-true, ltb-false}
 use Rattle.tag.specs.declared.CountAnswer.{CountAnswer}
 use Rattle.tag.specs.declared.CountAnswer.the-variants as counted
 use Rattle.tag.specs.Bytes.{byte}
 use Rattle.tag.specs.TagType.{fitted, outputInto}
 use Rattle.tag.specs.Answers.{countOf}
 use Rattle.tag.specs.Contracts.{PutOut}
+use Rattle.tag.proofs.Logic.{true-false}
 use Rattle.uri.specs.declared.shorten.Choice.{Choice}
 use Rattle.uri.specs.Prefixes.{codes, prefix}
-use Rattle.uri.specs.Payload.{Expanded, uri, refused, uriOf, expandBy, expand, longest, payloadOf, shorten}
+use Rattle.uri.specs.Payload.{Expanded, uri, refused, uriOf, isUri, expandBy, expand, longest, payloadOf, shorten}
 use Rattle.uri.specs.Contracts.{ExpandedTo, ShortenedTo}
 use Rattle.uri.specs.Views.Choosing.{Best}
 
@@ -33,6 +36,24 @@ pub some-code : (payload : List ℕ) → (length payload ≡ 0 → ⊥) → byte
 unfolding uriOf
 some-code [] f h = absurd (f refl)
 some-code (code ∷ rest) f h = rw (lt-ltb code codes h)
+
+-- it stands for a URI exactly if its code is known
+pub is-uri-if : (payload : List ℕ) → (length payload ≡ 0 → ⊥) → isUri (uriOf payload) ≡ ltb (byte payload 0) codes
+is-uri-if payload f = go (ltb (byte payload 0) codes) refl
+  where
+    go : (b : Bool) → ltb (byte payload 0) codes ≡ b → isUri (uriOf payload) ≡ b
+    go true q = ap isUri (some-code payload f (ltb-true (byte payload 0) codes q))
+    go false q = ap isUri (no-code payload (ltb-false (byte payload 0) codes q))
+
+-- the only refusal is 34
+pub not-a-uri : (payload : List ℕ) → isUri (uriOf payload) ≡ false → uriOf payload ≡ refused 34
+unfolding uriOf
+not-a-uri [] e = refl
+not-a-uri (code ∷ rest) e = go (ltb code codes) e
+  where
+    go : (b : Bool) → isUri (cond b (uri (prefix code ++ rest)) (refused 34)) ≡ false → cond b (uri (prefix code ++ rest)) (refused 34) ≡ refused 34
+    go true e = absurd (true-false refl e)
+    go false e = refl
 
 -- ---- the answers
 

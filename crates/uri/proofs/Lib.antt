@@ -3,3 +3,6 @@ pub mod Rows
 pub mod Parts
 pub mod Choosing
 pub mod Expanding
+pub mod Distinct
+pub mod Theorems
+pub mod Specimens

@@ -23,6 +23,11 @@ unfoldable pub uriOf : List ℕ → Expanded
 uriOf [] = refused bad-uri
 uriOf (code ∷ rest) = cond (ltb code codes) (uri (prefix code ++ rest)) (refused bad-uri)
 
+-- does it stand for a URI
+abbrev pub isUri : Expanded → Bool
+isUri (uri u) = true
+isUri (refused r) = false
+
 -- for a buffer of `room` bytes; the number it gives is that of the bytes
 abbrev pub expandBy : ℕ → Expanded → Output
 expandBy room (uri u) = fitted room (length u) u

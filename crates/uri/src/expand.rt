@@ -4,8 +4,20 @@ use crate::laying;
 use crate::prefixes;
 use tag::CountAnswer;
 use tag::refusals;
+ghost use mathlib.Core.Path.{_≡_};
+ghost use Rattle.uri.specs.Payload.{uriOf, isUri};
 ghost use Rattle.uri.specs.Contracts.{ExpandedTo};
 ghost use Rattle.uri.specs.Views.Rows.{Coded};
+
+// Whether a payload stands for a URI: it has a code, and a known one.
+pub fn is_uri(payload: &[u8]) -> bool
+    ensures { λ r. ⌜ r ≡ isUri (uriOf (now (payload .entry))) ⌝ }
+{
+    if payload.len() == 0 {
+        return false;
+    }
+    (payload[0] as usize) < prefixes::CODES
+}
 
 // Expands a payload, given the row that has the prefix of its code.
 fn expand_by(row: &[u8], payload: &[u8], uri: &mut [u8]) -> CountAnswer
