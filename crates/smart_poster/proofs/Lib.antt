@@ -4,3 +4,4 @@ pub mod Folding
 pub mod Spots
 pub mod Walking
 pub mod Arms
+pub mod Answering
