@@ -14,6 +14,7 @@ use Rattle.tag.specs.TagType.{TagType, Output, outputInto}
 use Rattle.tag.specs.Model.{model, imageAfter}
 use Rattle.tag.specs.Answers.{Returned, refuses, gives, countOf, storingOf}
 use Rattle.tag.specs.Judge.{Verdict, accepted, refused}
+use Rattle.smart_poster.specs.First.{first, foundInto, Told, refuses as refuses-uri, tells-none, tells, toldOf}
 use Rattle.type2.specs.Codec as two
 use Rattle.type3.specs.Codec as three
 use Rattle.type6.specs.Codec as six
@@ -27,7 +28,7 @@ abbrev pub packedRefusal : Refusal → ℕ
 packedRefusal (plain r) = r
 packedRefusal (positioned r p) = r + above p
 
--- writing, encoding and reading records give a count
+-- writing, encoding, reading records, expanding and shortening give a count
 abbrev pub packedCount : Returned ℕ → ℕ
 packedCount (refuses f) = packedRefusal f
 packedCount (gives n) = above n
@@ -111,6 +112,19 @@ dataInto6 old (six.decoded b bytes) = overwrite bytes old
 abbrev pub packedSpan : List ℕ → ℕ
 packedSpan list = cond (leb (three.span list) (length list)) (above (three.span list)) (packedRefusal (positioned malformed-command 0))
 
+-- ---- looking for the first URI
+
+abbrev pub packedTold : Told → ℕ
+packedTold (refuses-uri r) = r
+packedTold tells-none = 0
+packedTold (tells n) = above n
+
+-- 1 if there is a URI, 0 if there is none; unchanged after a refusal
+abbrev pub flagInto : ℕ → Told → ℕ
+flagInto old (refuses-uri r) = old
+flagInto old tells-none = 0
+flagInto old (tells n) = 1
+
 -- ---- the contracts of the C functions as relations
 
 -- a call whose output, by the room it has, is o: given this buffer, it answers n and leaves the buffer as out
@@ -125,3 +139,10 @@ ReadToC v buffer report n gathered out =
 -- the model, given a tag and a command, answers n and leaves the tag as j
 abbrev pub TookToC : TagType → List ℕ → List ℕ → ℕ → List ℕ → Type 0
 TookToC T i command n j = (n ≡ packedStoring (storingOf (model T i command))) × (j ≡ imageAfter i (model T i command))
+
+-- looking for the first URI, given a message, a buffer and a number, answers n and leaves the buffer as out and the number as found
+abbrev pub FoundToC : List ℕ → List ℕ → ℕ → ℕ → List ℕ → ℕ → Type 0
+FoundToC s buffer flag n out found =
+    (n ≡ packedTold (toldOf (first (length buffer) s)))
+    × (out ≡ foundInto buffer (first (length buffer) s))
+    × (found ≡ flagInto flag (toldOf (first (length buffer) s)))

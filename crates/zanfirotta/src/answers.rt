@@ -1,5 +1,6 @@
 // The library's answers, each as one number: a refusal in the low byte, and a count or a position above it.
 
+use smart_poster::UriAnswer;
 use tag::Content;
 use tag::CountAnswer;
 use tag::JudgeAnswer;
@@ -10,7 +11,8 @@ ghost use mathlib.Core.Path.{_≡_};
 ghost use mathlib.Core.List.{[]};
 ghost use Rattle.tag.specs.Refusals.{refusalAt};
 ghost use Rattle.tag.specs.Answers.{contentOf, readAs, countAs, verdictAs, modelAs};
-ghost use Rattle.zanfirotta.specs.Packed.{above, packedRefusal, packedCount, packedVerdict, packedStoring, packedRead, contentNumber, flagOf, reportInto};
+ghost use Rattle.smart_poster.specs.First.{toldAs};
+ghost use Rattle.zanfirotta.specs.Packed.{above, packedRefusal, packedCount, packedVerdict, packedStoring, packedRead, contentNumber, flagOf, reportInto, packedTold, flagInto};
 
 // 2^56: a count below it fits above the low byte.
 const COUNTS: usize = 72057594037927936;
@@ -103,6 +105,24 @@ pub(crate) fn reading(answer: ReadAnswer, out: &mut [u64; 6]) -> u64
             let six = report(p);
             *out = six;
             0
+        }
+    }
+}
+
+// The answer of looking for the first URI; whether there is one goes to `found`.
+pub(crate) fn first_uri(answer: UriAnswer, found: &mut u64) -> u64
+    ensures { λ r. ⌜ r ≡ packedTold (toldAs answer) ⌝ }
+    ensures { λ _. ⌜ now (found .exit) ≡ flagInto (now (found .entry)) (toldAs answer) ⌝ }
+{
+    match answer {
+        UriAnswer::Refused(r) => r as u64,
+        UriAnswer::Nothing => {
+            *found = 0;
+            0
+        }
+        UriAnswer::Found(n) => {
+            *found = 1;
+            above(n)
         }
     }
 }

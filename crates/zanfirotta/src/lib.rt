@@ -5,3 +5,4 @@ pub mod ndef_calls;
 pub mod type2_calls;
 pub mod type3_calls;
 pub mod type6_calls;
+pub mod uri_calls;
