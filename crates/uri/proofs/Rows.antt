@@ -13,7 +13,7 @@ use Rattle.tag.specs.Bytes.{byte, run, same}
 use Rattle.tag.proofs.Logic.{and-l, and-r, and-three, same-eq}
 use Rattle.uri.specs.declared.prefixes.Place.{Place}
 use Rattle.uri.specs.Prefixes.{codes, prefixes, prefix}
-use Rattle.uri.specs.Views.Rows.{endToEnd, rowOf, Placed, Coded}
+use Rattle.uri.specs.Views.Rows.{endToEnd, rowOf, Placed, Known, Coded}
 
 -- where the prefix of a code starts in its row
 abbrev startOf : ℕ → ℕ
@@ -82,8 +82,8 @@ module _ (code : ℕ) (p : Place) (w : Placed code p) (row : List ℕ) (r : row 
   part-inside = rw (r, w .row-long) (w .inside)
 
 -- the row of a payload's code
-pub coded : (payload : List ℕ) (r : ℕ) → (length payload ≡ 0 → ⊥) → byte payload 0 < codes → byte payload 0 / 12 ≡ r → Coded (rowOf r) payload
-coded payload r f h e = record { some = f; code-small = h; row-is = ap rowOf (sym e) }
+pub coded : (payload : List ℕ) (p : Place) (r : ℕ) → Known p payload → byte payload 0 / 12 ≡ r → Coded (rowOf r) p payload
+coded payload p r w e = record { known = w; row-is = ap rowOf (sym e) }
 
 -- a row by its number
 pub numbered : (n r : ℕ) → n < 3 → n ≡ r → (n < 3) × (rowOf r ≡ rowOf n)

@@ -2,12 +2,18 @@
 
 use crate::laying;
 use crate::prefixes;
+use crate::prefixes::Place;
 use tag::CountAnswer;
 use tag::refusals;
 ghost use mathlib.Core.Path.{_≡_};
+ghost use mathlib.Core.List.{_++_};
+ghost use Prim.Native.Nat.{_+_, _≤_};
+ghost use lib.ListN.{length, drop};
+ghost use Rattle.tag.specs.Bytes.{byte, overwrite};
+ghost use Rattle.uri.specs.Prefixes.{prefix};
 ghost use Rattle.uri.specs.Payload.{uriOf, isUri};
 ghost use Rattle.uri.specs.Contracts.{ExpandedTo};
-ghost use Rattle.uri.specs.Views.Rows.{Coded};
+ghost use Rattle.uri.specs.Views.Rows.{Known, Coded};
 
 // Whether a payload stands for a URI: it has a code, and a known one.
 pub fn is_uri(payload: &[u8]) -> bool
@@ -19,15 +25,34 @@ pub fn is_uri(payload: &[u8]) -> bool
     (payload[0] as usize) < prefixes::CODES
 }
 
-// Expands a payload, given the row that has the prefix of its code.
-fn expand_by(row: &[u8], payload: &[u8], uri: &mut [u8]) -> CountAnswer
-    requires { ⌜ Coded (now row) (now payload) ⌝ }
-    ensures { λ r. ⌜ ExpandedTo (now (payload .entry)) (now (uri .entry)) r (now (uri .exit)) ⌝ }
+// Writes the URI of a payload to a buffer that is long enough, given the row that has the prefix of the payload's code.
+fn put_by(row: &[u8], place: Place, payload: &[u8], uri: &mut [u8])
+    requires { ⌜ Coded (now row) place (now payload) ⌝ }
+    requires { ⌜ place .len + length (now payload) ≤ length (now uri) + 1 ⌝ }
+    ensures { λ _. ⌜ now (uri .exit) ≡ overwrite (prefix (byte (now (payload .entry)) 0) ++ drop 1 (now (payload .entry))) (now (uri .entry)) ⌝ }
 {
-    let place = prefixes::place_of(payload[0] as usize);
     let start = place.at;
     let end = start + place.len;
     laying::put_both(&row[start..end], &payload[1..], uri)
+}
+
+// The same; the row is picked here.
+fn put_uri(place: Place, payload: &[u8], uri: &mut [u8])
+    requires { ⌜ Known place (now payload) ⌝ }
+    requires { ⌜ place .len + length (now payload) ≤ length (now uri) + 1 ⌝ }
+    ensures { λ _. ⌜ now (uri .exit) ≡ overwrite (prefix (byte (now (payload .entry)) 0) ++ drop 1 (now (payload .entry))) (now (uri .entry)) ⌝ }
+{
+    let code = payload[0] as usize;
+    if code < prefixes::SECOND {
+        let row = prefixes::TEXTS[0];
+        return put_by(&row, place, payload, uri);
+    }
+    if code < prefixes::THIRD {
+        let row = prefixes::TEXTS[1];
+        return put_by(&row, place, payload, uri);
+    }
+    let row = prefixes::TEXTS[2];
+    put_by(&row, place, payload, uri)
 }
 
 // Writes the URI that a payload stands for to the front of a buffer; the count is that of its bytes. The rest of the buffer keeps what it
@@ -35,21 +60,14 @@ fn expand_by(row: &[u8], payload: &[u8], uri: &mut [u8]) -> CountAnswer
 pub fn expand(payload: &[u8], uri: &mut [u8]) -> CountAnswer
     ensures { λ r. ⌜ ExpandedTo (now (payload .entry)) (now (uri .entry)) r (now (uri .exit)) ⌝ }
 {
-    if payload.len() == 0 {
+    if !is_uri(payload) {
         return CountAnswer::Refused(refusals::BAD_URI);
     }
-    let code = payload[0] as usize;
-    if code < prefixes::SECOND {
-        let row = prefixes::TEXTS[0];
-        return expand_by(&row, payload, uri);
+    let place = prefixes::place_of(payload[0] as usize);
+    let rest = payload.len() - 1;
+    if !laying::has_room(place.len, rest, uri.len()) {
+        return CountAnswer::Refused(refusals::SHORT_BUFFER);
     }
-    if code < prefixes::THIRD {
-        let row = prefixes::TEXTS[1];
-        return expand_by(&row, payload, uri);
-    }
-    if code < prefixes::CODES {
-        let row = prefixes::TEXTS[2];
-        return expand_by(&row, payload, uri);
-    }
-    CountAnswer::Refused(refusals::BAD_URI)
+    put_uri(place, payload, uri);
+    CountAnswer::Count(place.len + rest)
 }

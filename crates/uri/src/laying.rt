@@ -1,26 +1,29 @@
 // Two parts laid one behind the other into the caller's buffer.
 
-use tag::CountAnswer;
-use tag::refusals;
 use tag::slices;
+ghost use mathlib.Core.Path.{_≡_};
 ghost use mathlib.Core.List.{_++_};
+ghost use Prim.Native.Nat.{_+_, _≤_};
+ghost use lib.Dec.{leb};
 ghost use lib.ListN.{length};
-ghost use Rattle.tag.specs.TagType.{fitted};
-ghost use Rattle.tag.specs.Contracts.{PutOut};
+ghost use Rattle.tag.specs.Bytes.{overwrite};
 
-// Stores a front and a rest at the front of a buffer, and counts their bytes. 12 if they do not fit: their lengths together may be too
-// much for a number, so they are not added before that is known. The rest is stored first: the front may come from a table that has only
-// just been copied to the stack, and by then it is there.
-pub(crate) fn put_both(front: &[u8], rest: &[u8], out: &mut [u8]) -> CountAnswer
-    ensures { λ r. ⌜ PutOut (λ room. fitted room (length (now (front .entry) ++ now (rest .entry))) (now (front .entry) ++ now (rest .entry))) (now (out .entry)) r (now (out .exit)) ⌝ }
+// Whether there is room for parts of these lengths. The lengths together may be too much for a number, so they are not added.
+pub(crate) fn has_room(front: usize, rest: usize, room: usize) -> bool
+    ensures { λ r. ⌜ r ≡ leb (front + rest) room ⌝ }
 {
-    if out.len() < front.len() {
-        return CountAnswer::Refused(refusals::SHORT_BUFFER);
+    if room < front {
+        return false;
     }
-    if out.len() - front.len() < rest.len() {
-        return CountAnswer::Refused(refusals::SHORT_BUFFER);
-    }
+    rest <= room - front
+}
+
+// Stores a front and a rest at the front of a buffer. The rest is stored first: the front may come from a table that has only just been
+// copied to the stack, and by then it is there.
+pub(crate) fn put_both(front: &[u8], rest: &[u8], out: &mut [u8])
+    requires { ⌜ length (now front) + length (now rest) ≤ length (now out) ⌝ }
+    ensures { λ _. ⌜ now (out .exit) ≡ overwrite (now (front .entry) ++ now (rest .entry)) (now (out .entry)) ⌝ }
+{
     slices::store(rest, front.len(), out);
     slices::store(front, 0, out);
-    CountAnswer::Count(front.len() + rest.len())
 }

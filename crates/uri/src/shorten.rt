@@ -3,6 +3,7 @@
 use crate::laying;
 use crate::prefixes;
 use tag::CountAnswer;
+use tag::refusals;
 use tag::slices;
 ghost use mathlib.Core.Path.{_≡_};
 ghost use Prim.Native.Nat.{_+_, _*_, _/_, _<_};
@@ -97,7 +98,12 @@ pub fn shorten(uri: &[u8], payload: &mut [u8]) -> CountAnswer
     ensures { λ r. ⌜ ShortenedTo (now (uri .entry)) (now (payload .entry)) r (now (payload .exit)) ⌝ }
 {
     let best = longest(uri);
-    let code = [best.code as u8];
     let len = best.len;
-    laying::put_both(&code, &uri[len..], payload)
+    let rest = uri.len() - len;
+    if !laying::has_room(1, rest, payload.len()) {
+        return CountAnswer::Refused(refusals::SHORT_BUFFER);
+    }
+    let code = [best.code as u8];
+    laying::put_both(&code, &uri[len..], payload);
+    CountAnswer::Count(1 + rest)
 }

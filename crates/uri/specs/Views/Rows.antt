@@ -24,8 +24,13 @@ pub record Placed (code : ℕ) (p : Place) : Type 0 where
   pub inside : p .at + p .len ≤ 118
   pub row-long : length (rowOf (code / 12)) ≡ 118
 
--- a payload has a code, and this is the row of its prefix
-pub record Coded (row payload : List ℕ) : Type 0 where
+-- a payload has a code, and this is the place of its prefix
+pub record Known (p : Place) (payload : List ℕ) : Type 0 where
   pub some : length payload ≡ 0 → ⊥
   pub code-small : byte payload 0 < codes
+  pub placed : Placed (byte payload 0) p
+
+-- and this the row that the place is in
+pub record Coded (row : List ℕ) (p : Place) (payload : List ℕ) : Type 0 where
+  pub known : Known p payload
   pub row-is : row ≡ rowOf (byte payload 0 / 12)

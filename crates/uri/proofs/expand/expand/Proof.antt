@@ -1,68 +1,85 @@
--- `expand::expand` meets its contract. Each row of the code's table computes to that of the definitions' prefixes. Assumes nothing.
+-- `expand::expand` meets its contract. Assumes nothing.
+use mathlib.Core.Path.{_≡_, sym, _∙_}
+use mathlib.Core.Bool.{true, false}
+use Prim.Native.Nat.{_+_, _-_}
 use native.Mathlib.Omega.{arith}
+use lib.ListN.{length}
 use borrow.Author.Needs.{needs}
-use Rattle.uri.specs.Prefixes.{prefixes}
-use Rattle.uri.specs.Views.Rows.{rowOf}
-use Rattle.uri.proofs.Rows.{coded}
-use Rattle.uri.proofs.Expanding.{no-byte, no-code, expands-not}
+use borrow.Author.Tests.{not-true, not-false, leb-true}
+use Rattle.uri.specs.Payload.{uriOf, isUri}
+use Rattle.uri.proofs.Expanding.{has-byte, has-code, known, expands-not, expands-short, expands}
 use Rattle.uri.proofs.expand.expand.Statement.{statement}
 use Rattle.uri.proofs.expand.expand.Tie as tie
 
 returns : tie.Need-returns
 returns c =
-    let a = c .before .before .before .args in
-    expands-not (a .payload .now) (a .uri .now) 34 (no-byte (a .payload .now) (c .if1 .taken))
+    let at-is-uri = c .before in
+    let a = at-is-uri .before .before .before .args in
+    expands-not (a .payload .now) (a .uri .now) (sym (at-is-uri .is-uri .ensures) ∙ not-true _ (c .if1 .taken))
 
-cast-code : tie.Need-cast-code
-cast-code c = omega (arith, c .shared-slice-known2 .given 0)
+-- the payload stands for a URI
+stands : (c : tie.After-shared-slice-known2) → isUri (uriOf (c .before .before .before .before .before .args .payload .now)) ≡ true
+stands c = let at-if1 = c .before in sym (at-if1 .before .is-uri .ensures) ∙ not-false _ (at-if1 .if1 .left)
 
-expand-by-requires : tie.Need-expand-by-requires
-unfolding prefixes rowOf
-expand-by-requires c κs =
-    let at-if2 = c .before .before .before in
-    let at-if1 = at-if2 .before .before in
-    coded (at-if1 .before .before .before .args .payload .now) 0 (at-if1 .if1 .left) (omega arith) (omega arith)
+shared-slice-read-place-of : tie.Need-shared-slice-read-place-of
+shared-slice-read-place-of c =
+    let f = has-byte (c .before .before .before .before .before .args .payload .now) (stands c) in
+    omega (arith, f)
 
-expand-by-requires-2 : tie.Need-expand-by-requires-2
-unfolding prefixes rowOf
-expand-by-requires-2 c κs =
-    let at-if2 = c .before .before .before .before in
-    let at-if1 = at-if2 .before .before in
-    coded (at-if1 .before .before .before .args .payload .now) 1 (at-if1 .if1 .left) (omega arith) (omega arith)
+cast-place-of : tie.Need-cast-place-of
+cast-place-of c = omega (arith, c .shared-slice-known2 .given 0)
 
-expand-by-requires-3 : tie.Need-expand-by-requires-3
-unfolding prefixes rowOf
-expand-by-requires-3 c κs =
-    let at-if3 = c .before .before .before .before in
-    let at-if1 = at-if3 .before .before .before in
-    coded (at-if1 .before .before .before .args .payload .now) 2 (at-if1 .if1 .left) (omega arith) (omega arith)
+place-of-requires : tie.Need-place-of-requires
+place-of-requires c κs = has-code (c .before .before .before .before .before .args .payload .now) (stands c)
 
-returns-5 : tie.Need-returns-5
-returns-5 c =
-    let at-if1 = c .before .before .before .before in
-    let a = at-if1 .before .before .before .args in
-    expands-not (a .payload .now) (a .uri .now) 34 (no-code (a .payload .now) (c .if4 .left))
+sub-rest : tie.Need-sub-rest
+sub-rest c =
+    let at-slice = c .before in
+    let f = has-byte (at-slice .before .before .before .before .before .args .payload .now) (stands at-slice) in
+    omega (arith, f)
+
+returns-2 : tie.Need-returns-2
+returns-2 c =
+    let at-place = c .before .before in
+    let at-slice = at-place .before in
+    let a = at-slice .before .before .before .before .before .args in
+    let w = known (a .payload .now) (at-place .place-of .result) (stands at-slice) (at-place .place-of .ensures) in
+    expands-short (a .payload .now) (a .uri .now) (at-place .place-of .result) w (sym (c .before .has-room .ensures) ∙ not-true _ (c .if2 .taken))
+
+put-uri-requires : tie.Need-put-uri-requires
+put-uri-requires c κs =
+    let at-if2 = c .before in
+    let at-place = at-if2 .before .before in
+    let at-slice = at-place .before in
+    let a = at-slice .before .before .before .before .before .args in
+    let n = at-place .place-of .result .len in
+    let room = leb-true (n + (length (a .payload .now) - 1)) (length (a .uri .now)) (sym (at-if2 .before .has-room .ensures) ∙ not-false _ (at-if2 .if2 .left)) in
+    (known (a .payload .now) (at-place .place-of .result) (stands at-slice) (at-place .place-of .ensures), omega (arith, room))
+
+returns-3 : tie.Need-returns-3
+returns-3 c =
+    let at-put = c .before .before .before in
+    let at-if2 = at-put .before .before in
+    let at-place = at-if2 .before .before in
+    let at-slice = at-place .before in
+    let a = at-slice .before .before .before .before .before .args in
+    let p = at-place .place-of in
+    let w = known (a .payload .now) (p .result) (stands at-slice) (p .ensures) in
+    expands (a .payload .now) (a .uri .now) (p .result) w (sym (at-if2 .before .has-room .ensures) ∙ not-false _ (at-if2 .if2 .left)) _ (at-put .put-uri .ensures)
 
 pub expand-spec : {M : Type 1} → statement M
 expand-spec =
     tie.close
     (tie.spec
+    (λ c κs. search needs)
     returns
-    (λ c. search needs)
-    cast-code
-    (λ c. search needs)
-    (λ c. search needs)
-    expand-by-requires
-    (λ c. search needs)
-    (λ c. search needs)
-    (λ c. search needs)
-    (λ c. search needs)
-    expand-by-requires-2
+    shared-slice-read-place-of
+    cast-place-of
+    place-of-requires
+    sub-rest
+    (λ c κs. search needs)
+    returns-2
+    put-uri-requires
     (λ c. search needs)
     (λ c. search needs)
-    (λ c. search needs)
-    (λ c. search needs)
-    expand-by-requires-3
-    (λ c. search needs)
-    (λ c. search needs)
-    returns-5)
+    returns-3)
