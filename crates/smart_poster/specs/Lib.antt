@@ -4,4 +4,6 @@ pub mod Records
 pub mod Uris
 pub mod First
 pub mod Contracts
+pub mod Specimens
+pub mod Claims
 pub mod Views

@@ -13,7 +13,7 @@ use Rattle.tag.specs.Bytes.{byte, overwrite}
 use Rattle.tag.specs.TagType.{outputInto}
 use Rattle.tag.specs.Answers.{countOf}
 use Rattle.tag.proofs.Logic.{true-false}
-use Rattle.uri.specs.declared.prefixes.Place.{Place}
+use Rattle.uri.specs.declared.prefixes.RowPart.{RowPart}
 use Rattle.uri.specs.declared.shorten.Choice.{Choice}
 use Rattle.uri.specs.Prefixes.{codes, prefix}
 use Rattle.uri.specs.Payload.{Expanded, uri, refused, uriOf, isUri, expandBy, expand, longest, payloadOf, shorten}
@@ -70,7 +70,7 @@ module _ (payload buffer : List ℕ) where
       let e = not-a-uri payload q in
       (ap (λ x. countOf (expandBy (length buffer) x)) (sym e), ap (λ x. outputInto buffer (expandBy (length buffer) x)) (sym e))
 
-  module _ (p : Place) (w : Known p payload) where
+  module _ (p : RowPart) (w : Known p payload) where
     abbrev all : List ℕ
     all = prefix (byte payload 0) ++ drop 1 payload
 
@@ -87,8 +87,8 @@ module _ (payload buffer : List ℕ) where
         → ExpandedTo payload buffer (counted.Count (p .len + (length payload - 1))) out
     expands q out e = rw given (laid all buffer (p .len + (length payload - 1)) all-long q out e)
 
--- a payload with a code has a place
-pub known : (payload : List ℕ) (p : Place) → isUri (uriOf payload) ≡ true → Placed (byte payload 0) p → Known p payload
+-- a payload with a code has a prefix
+pub known : (payload : List ℕ) (p : RowPart) → isUri (uriOf payload) ≡ true → Placed (byte payload 0) p → Known p payload
 known payload p q w = record { some = has-byte payload q; code-small = has-code payload q; placed = w }
 
 module _ (u buffer : List ℕ) (best : Choice) (b : Best codes u best) where

@@ -11,7 +11,7 @@ use lib.ListN.{length, take, drop, getD}
 use borrow.Author.Tests.{eqb-true, eqb-false, leb-true}
 use Rattle.tag.specs.Bytes.{byte, run, same}
 use Rattle.tag.proofs.Logic.{and-l, and-r, and-three, same-eq}
-use Rattle.uri.specs.declared.prefixes.Place.{Place}
+use Rattle.uri.specs.declared.prefixes.RowPart.{RowPart}
 use Rattle.uri.specs.Prefixes.{codes, prefixes, prefix}
 use Rattle.uri.specs.Views.Rows.{endToEnd, rowOf, Placed, Known, Coded}
 
@@ -26,14 +26,14 @@ starts = map startOf (run 0 codes)
 abbrev pub lengths : List ℕ
 lengths = map length prefixes
 
-abbrev pub placeAt : ℕ → Place
-placeAt code = record { at = getD starts code 0; len = getD lengths code 0 }
+abbrev pub partAt : ℕ → RowPart
+partAt code = record { at = getD starts code 0; len = getD lengths code 0 }
 
 -- ---- the test
 
 abbrev right : ℕ → Bool
 right code =
-    let p = placeAt code in
+    let p = partAt code in
     let row = rowOf (code / 12) in
     same (take (p .len) (drop (p .at) row)) (prefix code) && eqb (p .len) (length (prefix code)) && leb (p .at + p .len) 118 && eqb (length row) 118
 
@@ -54,9 +54,9 @@ all-right : below codes ≡ true
 unfolding prefixes rowOf
 all-right = refl
 
-pub placed : (code : ℕ) → code < codes → Placed code (placeAt code)
+pub placed : (code : ℕ) → code < codes → Placed code (partAt code)
 placed code h =
-    let p = placeAt code in
+    let p = partAt code in
     let row = rowOf (code / 12) in
     let a = same (take (p .len) (drop (p .at) row)) (prefix code) in
     let b = eqb (p .len) (length (prefix code)) in
@@ -73,7 +73,7 @@ placed code h =
 
 -- ---- as the code has it
 
-module _ (code : ℕ) (p : Place) (w : Placed code p) (row : List ℕ) (r : row ≡ rowOf (code / 12)) where
+module _ (code : ℕ) (p : RowPart) (w : Placed code p) (row : List ℕ) (r : row ≡ rowOf (code / 12)) where
   -- a part of the row
   pub prefix-part : take (p .at + p .len - p .at) (drop (p .at) row) ≡ prefix code
   prefix-part = let n : p .at + p .len - p .at ≡ p .len = omega arith in rw (n, r) (w .shows)
@@ -82,7 +82,7 @@ module _ (code : ℕ) (p : Place) (w : Placed code p) (row : List ℕ) (r : row 
   part-inside = rw (r, w .row-long) (w .inside)
 
 -- the row of a payload's code
-pub coded : (payload : List ℕ) (p : Place) (r : ℕ) → Known p payload → byte payload 0 / 12 ≡ r → Coded (rowOf r) p payload
+pub coded : (payload : List ℕ) (p : RowPart) (r : ℕ) → Known p payload → byte payload 0 / 12 ≡ r → Coded (rowOf r) p payload
 coded payload p r w e = record { known = w; row-is = ap rowOf (sym e) }
 
 -- a row by its number

@@ -2,7 +2,7 @@
 
 use crate::laying;
 use crate::prefixes;
-use crate::prefixes::Place;
+use crate::prefixes::RowPart;
 use tag::CountAnswer;
 use tag::refusals;
 ghost use mathlib.Core.Path.{_≡_};
@@ -26,33 +26,33 @@ pub fn is_uri(payload: &[u8]) -> bool
 }
 
 // Writes the URI of a payload to a buffer that is long enough, given the row that has the prefix of the payload's code.
-fn put_by(row: &[u8], place: Place, payload: &[u8], uri: &mut [u8])
-    requires { ⌜ Coded (now row) place (now payload) ⌝ }
-    requires { ⌜ place .len + length (now payload) ≤ length (now uri) + 1 ⌝ }
+fn put_by(row: &[u8], part: RowPart, payload: &[u8], uri: &mut [u8])
+    requires { ⌜ Coded (now row) part (now payload) ⌝ }
+    requires { ⌜ part .len + length (now payload) ≤ length (now uri) + 1 ⌝ }
     ensures { λ _. ⌜ now (uri .exit) ≡ overwrite (prefix (byte (now (payload .entry)) 0) ++ drop 1 (now (payload .entry))) (now (uri .entry)) ⌝ }
 {
-    let start = place.at;
-    let end = start + place.len;
+    let start = part.at;
+    let end = start + part.len;
     laying::put_both(&row[start..end], &payload[1..], uri)
 }
 
 // The same; the row is picked here.
-fn put_uri(place: Place, payload: &[u8], uri: &mut [u8])
-    requires { ⌜ Known place (now payload) ⌝ }
-    requires { ⌜ place .len + length (now payload) ≤ length (now uri) + 1 ⌝ }
+fn put_uri(part: RowPart, payload: &[u8], uri: &mut [u8])
+    requires { ⌜ Known part (now payload) ⌝ }
+    requires { ⌜ part .len + length (now payload) ≤ length (now uri) + 1 ⌝ }
     ensures { λ _. ⌜ now (uri .exit) ≡ overwrite (prefix (byte (now (payload .entry)) 0) ++ drop 1 (now (payload .entry))) (now (uri .entry)) ⌝ }
 {
     let code = payload[0] as usize;
     if code < prefixes::SECOND {
         let row = prefixes::TEXTS[0];
-        return put_by(&row, place, payload, uri);
+        return put_by(&row, part, payload, uri);
     }
     if code < prefixes::THIRD {
         let row = prefixes::TEXTS[1];
-        return put_by(&row, place, payload, uri);
+        return put_by(&row, part, payload, uri);
     }
     let row = prefixes::TEXTS[2];
-    put_by(&row, place, payload, uri)
+    put_by(&row, part, payload, uri)
 }
 
 // Writes the URI that a payload stands for to the front of a buffer; the count is that of its bytes. The rest of the buffer keeps what it
@@ -63,11 +63,11 @@ pub fn expand(payload: &[u8], uri: &mut [u8]) -> CountAnswer
     if !is_uri(payload) {
         return CountAnswer::Refused(refusals::BAD_URI);
     }
-    let place = prefixes::place_of(payload[0] as usize);
+    let part = prefixes::part_of(payload[0] as usize);
     let rest = payload.len() - 1;
-    if !laying::has_room(place.len, rest, uri.len()) {
+    if !laying::has_room(part.len, rest, uri.len()) {
         return CountAnswer::Refused(refusals::SHORT_BUFFER);
     }
-    put_uri(place, payload, uri);
-    CountAnswer::Count(place.len + rest)
+    put_uri(part, payload, uri);
+    CountAnswer::Count(part.len + rest)
 }

@@ -105,17 +105,17 @@ const LENGTHS: [u8; CODES] = [
 ];
 
 // The part of a row that is a prefix.
-pub(crate) struct Place {
+pub(crate) struct RowPart {
     pub at: usize,
     pub len: usize,
 }
 
 // Where the prefix of a code lies in its row.
-pub(crate) fn place_of(code: usize) -> Place
+pub(crate) fn part_of(code: usize) -> RowPart
     requires { ⌜ code < codes ⌝ }
     ensures { λ r. ⌜ Placed code r ⌝ }
 {
     let at = numbers::wide(STARTS[code]);
     let len = numbers::wide(LENGTHS[code]);
-    Place { at, len }
+    RowPart { at, len }
 }

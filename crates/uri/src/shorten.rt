@@ -36,12 +36,12 @@ fn with_code(best: Choice, row: &[u8], code: usize, uri: &[u8]) -> Choice
     requires { ⌜ Best code (now uri) best ⌝ }
     ensures { λ r. ⌜ Best (code + 1) (now (uri .entry)) r ⌝ }
 {
-    let place = prefixes::place_of(code);
-    let len = place.len;
+    let part = prefixes::part_of(code);
+    let len = part.len;
     if len <= best.len {
         return best;
     }
-    let start = place.at;
+    let start = part.at;
     let end = start + len;
     if begins(&row[start..end], uri) {
         return Choice { code, len };

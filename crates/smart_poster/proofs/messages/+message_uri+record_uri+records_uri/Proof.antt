@@ -77,14 +77,14 @@ pub +message-uri+record-uri+records-uri-spec : {M : Type 1} → statement M
     (λ c. search needs)
     (λ c. search needs)
     (λ c κs.
-      let at-count = c .before .before in
-      let start = at-count .before .before in
-      (omega (arith, start .pre .0), readable (start .args .message .now) (at-count .count .result) (at-count .count .ensures) _ (c .enum-told .given .1)))
+    let at-count = c .before .before in
+    let start = at-count .before .before in
+    (omega (arith, start .pre .0), readable (start .args .message .now) (at-count .count .result) (at-count .count .ensures) _ (c .enum-told .given .1)))
     (λ c.
-      let at-counted = c .before in
-      let at-count = at-counted .before .before in
-      let a = at-count .before .before .args in
-      (unreadable (a .message .now) (at-count .count .result) (at-count .count .ensures) (ofPoster (a .posters)) _ (at-counted .counted .given .1), tt))
+    let at-counted = c .before in
+    let at-count = at-counted .before .before in
+    let a = at-count .before .before .args in
+    (unreadable (a .message .now) (at-count .count .result) (at-count .count .ensures) (ofPoster (a .posters)) _ (at-counted .counted .given .1), tt))
     (λ c. c .records-uri .ensures))
     -- record_uri
     (λ t. record-uri-lts.spec (kind-of-reads.Asked, kind-of-reads.Learnt, uri-record-reads.Asked, uri-record-reads.Learnt, message-uri-below t, message-uri.Post, moved-reads.Asked, moved-reads.Learnt) (record-uri-at t) record-uri.Post
@@ -94,47 +94,47 @@ pub +message-uri+record-uri+records-uri-spec : {M : Type 1} → statement M
     (λ c κs. c .before .before .before .before .before .pre .1 .payload-inside)
     (λ c. search needs)
     (λ c.
-      let at-told = c .before in
-      let at-kind = at-told .before .before .before in
-      let a = at-kind .before .before .args in
-      (too-deep (a .message .now) (a .p) (a .posters) (ap kindAs (sym (at-told .enum-told3 .given .1)) ∙ at-kind .kind-of .ensures) (c .if1 .taken), tt))
+    let at-told = c .before in
+    let at-kind = at-told .before .before .before in
+    let a = at-kind .before .before .args in
+    (too-deep (a .message .now) (a .p) (a .posters) (ap kindAs (sym (at-told .enum-told3 .given .1)) ∙ at-kind .kind-of .ensures) (c .if1 .taken), tt))
     (λ c. omega (arith, (let at-told = c .before .before in at-told .before .before .before .before .before .pre .1 .payload-inside)))
     (λ c. omega arith)
     (λ c. omega arith)
     (λ c. let at-told = c .before .before in at-told .before .before .before .before .before .pre .1 .payload-inside)
     (λ c. omega arith)
     (λ c κs.
-      let at-told = c .before .before .before in
-      let start = at-told .before .before .before .before .before in
-      let p = start .args .p .payload in
-      (omega (arith, start .pre .0, cut-long (start .args .message .now) (p .at) (p .len) (start .pre .1 .payload-inside)), tt))
+    let at-told = c .before .before .before in
+    let start = at-told .before .before .before .before .before in
+    let p = start .args .p .payload in
+    (omega (arith, start .pre .0, cut-long (start .args .message .now) (p .at) (p .len) (start .pre .1 .payload-inside)), tt))
     (λ c κs.
-      let at-told = c .before .before .before .before in
-      let start = at-told .before .before .before .before .before in
-      let a = start .args in
-      let stands = rw (cut (a .message .now) (a .p .payload .at) (a .p .payload .len)) at (c .message-uri .ensures .1) in
-      poster-movable (a .message .now) (a .p) (start .pre .1) (c .message-uri .result) stands (omega arith))
+    let at-told = c .before .before .before .before in
+    let start = at-told .before .before .before .before .before in
+    let a = start .args in
+    let stands = rw (cut (a .message .now) (a .p .payload .at) (a .p .payload .len)) at (c .message-uri .ensures .1) in
+    poster-movable (a .message .now) (a .p) (start .pre .1) (c .message-uri .result) stands (omega arith))
     (λ c.
-      let at-kind = c .before .before .before in
-      let a = at-kind .before .before .args in
-      (other-gives (a .message .now) (a .p) (ofPoster (a .posters)) (ap kindAs (sym (c .enum-told .given .1)) ∙ at-kind .kind-of .ensures), tt))
+    let at-kind = c .before .before .before in
+    let a = at-kind .before .before .args in
+    (other-gives (a .message .now) (a .p) (ofPoster (a .posters)) (ap kindAs (sym (c .enum-told .given .1)) ∙ at-kind .kind-of .ensures), tt))
     (λ c.
-      let at-told = c .before in
-      let at-kind = at-told .before .before .before in
-      let a = at-kind .before .before .args in
-      let gives = uri-gives (a .message .now) (a .p) (ofPoster (a .posters)) (ap kindAs (sym (at-told .enum-told2 .given .1)) ∙ at-kind .kind-of .ensures) _ (c .uri-record .ensures .0) in
-      (gives, c .uri-record .ensures .1))
+    let at-told = c .before in
+    let at-kind = at-told .before .before .before in
+    let a = at-kind .before .before .args in
+    let gives = uri-gives (a .message .now) (a .p) (ofPoster (a .posters)) (ap kindAs (sym (at-told .enum-told2 .given .1)) ∙ at-kind .kind-of .ensures) _ (c .uri-record .ensures .0) in
+    (gives, c .uri-record .ensures .1))
     (λ c.
-      let at-message = c .before in
-      let at-if1 = at-message .before .before .before in
-      let at-told = at-if1 .before in
-      let at-kind = at-told .before .before .before in
-      let start = at-kind .before .before in
-      let a = start .args in
-      let m = rw (cut (a .message .now) (a .p .payload .at) (a .p .payload .len)) at (at-message .message-uri .ensures) in
-      let kind = ap kindAs (sym (at-told .enum-told3 .given .1)) ∙ at-kind .kind-of .ensures in
-      let gives = poster-gives (a .message .now) (a .p) (a .posters) kind (start .pre .1) (at-message .message-uri .result) (m .1) (at-if1 .if1 .left) (m .0) in
-      rw (c .moved .ensures) (gives, poster-stands (a .message .now) (a .p) (start .pre .1) (at-message .message-uri .result) (m .1))))
+    let at-message = c .before in
+    let at-if1 = at-message .before .before .before in
+    let at-told = at-if1 .before in
+    let at-kind = at-told .before .before .before in
+    let start = at-kind .before .before in
+    let a = start .args in
+    let m = rw (cut (a .message .now) (a .p .payload .at) (a .p .payload .len)) at (at-message .message-uri .ensures) in
+    let kind = ap kindAs (sym (at-told .enum-told3 .given .1)) ∙ at-kind .kind-of .ensures in
+    let gives = poster-gives (a .message .now) (a .p) (a .posters) kind (start .pre .1) (at-message .message-uri .result) (m .1) (at-if1 .if1 .left) (m .0) in
+    rw (c .moved .ensures) (gives, poster-stands (a .message .now) (a .p) (start .pre .1) (at-message .message-uri .result) (m .1))))
     -- records_uri
     (λ t. records-uri-lts.spec (place-at-reads.Asked, place-at-reads.Learnt, record-uri-below t, record-uri.Post, is-refused-reads.Asked, is-refused-reads.Learnt, earlier-reads.Asked, earlier-reads.Learnt) (records-uri-at t) records-uri.Post
     Inv-loop
@@ -142,43 +142,43 @@ pub +message-uri+record-uri+records-uri-spec : {M : Type 1} → statement M
     (λ c. at-start (ofPoster (c .before .args .posters)) (c .before .args .message .now) (c .before .pre .1))
     (λ c κs. omega arith)
     (λ c κs.
-      let at-loop = c .before .before in
-      let start = at-loop .before .before in
-      let l = place-lies (ofPoster (start .args .posters)) (start .args .message .now) (at-loop .loop .inv) (c .before .loop-test .taken) (c .place-at .result) (c .place-at .ensures) in
-      (omega (arith, start .pre .0, l .payload-shorter), l))
+    let at-loop = c .before .before in
+    let start = at-loop .before .before in
+    let l = place-lies (ofPoster (start .args .posters)) (start .args .message .now) (at-loop .loop .inv) (c .before .loop-test .taken) (c .place-at .result) (c .place-at .ensures) in
+    (omega (arith, start .pre .0, l .payload-shorter), l))
     (λ c κs. search needs)
     (λ c.
-      let at-record = c .before .before in
-      let at-place = at-record .before in
-      let at-loop = at-place .before .before in
-      let a = at-loop .before .before .args in
-      let r = at-record .record-uri in
-      let refused = sym (c .before .is-refused .ensures) ∙ c .if1 .taken in
-      (stopped (ofPoster (a .posters)) (a .message .now) (at-loop .loop .inv) (at-place .before .loop-test .taken) (at-place .place-at .result) (at-place .place-at .ensures) (r .result) (r .ensures .0) refused, r .ensures .1))
+    let at-record = c .before .before in
+    let at-place = at-record .before in
+    let at-loop = at-place .before .before in
+    let a = at-loop .before .before .args in
+    let r = at-record .record-uri in
+    let refused = sym (c .before .is-refused .ensures) ∙ c .if1 .taken in
+    (stopped (ofPoster (a .posters)) (a .message .now) (at-loop .loop .inv) (at-place .before .loop-test .taken) (at-place .place-at .result) (at-place .place-at .ensures) (r .result) (r .ensures .0) refused, r .ensures .1))
     (λ c κs. search needs)
     (λ c.
-      let at-if1 = c .before .before .before in
-      let at-place = at-if1 .before .before .before in
-      let at-loop = at-place .before .before in
-      let a = at-loop .before .before .args in
-      omega (arith, place-lies (ofPoster (a .posters)) (a .message .now) (at-loop .loop .inv) (at-place .before .loop-test .taken) (at-place .place-at .result) (at-place .place-at .ensures) .payload-inside))
+    let at-if1 = c .before .before .before in
+    let at-place = at-if1 .before .before .before in
+    let at-loop = at-place .before .before in
+    let a = at-loop .before .before .args in
+    omega (arith, place-lies (ofPoster (a .posters)) (a .message .now) (at-loop .loop .inv) (at-place .before .loop-test .taken) (at-place .place-at .result) (at-place .place-at .ensures) .payload-inside))
     (λ c.
-      let at-if1 = c .before .before .before in
-      let at-place = at-if1 .before .before .before in
-      let at-loop = at-place .before .before in
-      let a = at-loop .before .before .args in
-      omega (arith, at-place .before .loop-test .taken, place-further (ofPoster (a .posters)) (a .message .now) (at-loop .loop .inv) (at-place .before .loop-test .taken) (at-place .place-at .result) (at-place .place-at .ensures)))
+    let at-if1 = c .before .before .before in
+    let at-place = at-if1 .before .before .before in
+    let at-loop = at-place .before .before in
+    let a = at-loop .before .before .args in
+    omega (arith, at-place .before .loop-test .taken, place-further (ofPoster (a .posters)) (a .message .now) (at-loop .loop .inv) (at-place .before .loop-test .taken) (at-place .place-at .result) (at-place .place-at .ensures)))
     (λ c.
-      let at-earlier = c .before .before in
-      let at-if1 = at-earlier .before in
-      let at-record = at-if1 .before .before in
-      let at-place = at-record .before in
-      let at-loop = at-place .before .before in
-      let a = at-loop .before .before .args in
-      let r = at-record .record-uri in
-      let fine = sym (at-if1 .before .is-refused .ensures) ∙ at-if1 .if1 .left in
-      rw (at-earlier .earlier .ensures) (gone-on (ofPoster (a .posters)) (a .message .now) (at-loop .loop .inv) (at-place .before .loop-test .taken) (at-place .place-at .result) (at-place .place-at .ensures) (r .result) (r .ensures .0) fine (r .ensures .1)))
+    let at-earlier = c .before .before in
+    let at-if1 = at-earlier .before in
+    let at-record = at-if1 .before .before in
+    let at-place = at-record .before in
+    let at-loop = at-place .before .before in
+    let a = at-loop .before .before .args in
+    let r = at-record .record-uri in
+    let fine = sym (at-if1 .before .is-refused .ensures) ∙ at-if1 .if1 .left in
+    rw (at-earlier .earlier .ensures) (gone-on (ofPoster (a .posters)) (a .message .now) (at-loop .loop .inv) (at-place .before .loop-test .taken) (at-place .place-at .result) (at-place .place-at .ensures) (r .result) (r .ensures .0) fine (r .ensures .1)))
     (λ c.
-      let at-loop = c .before in
-      let a = at-loop .before .before .args in
-      (at-end (ofPoster (a .posters)) (a .message .now) (at-loop .loop .inv) (omega arith), at-loop .loop .inv .walked .stands)))
+    let at-loop = c .before in
+    let a = at-loop .before .before .args in
+    (at-end (ofPoster (a .posters)) (a .message .now) (at-loop .loop .inv) (omega arith), at-loop .loop .inv .walked .stands)))

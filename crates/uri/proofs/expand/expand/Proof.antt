@@ -21,16 +21,16 @@ returns c =
 stands : (c : tie.After-shared-slice-known2) → isUri (uriOf (c .before .before .before .before .before .args .payload .now)) ≡ true
 stands c = let at-if1 = c .before in sym (at-if1 .before .is-uri .ensures) ∙ not-false _ (at-if1 .if1 .left)
 
-shared-slice-read-place-of : tie.Need-shared-slice-read-place-of
-shared-slice-read-place-of c =
+shared-slice-read-part-of : tie.Need-shared-slice-read-part-of
+shared-slice-read-part-of c =
     let f = has-byte (c .before .before .before .before .before .args .payload .now) (stands c) in
     omega (arith, f)
 
-cast-place-of : tie.Need-cast-place-of
-cast-place-of c = omega (arith, c .shared-slice-known2 .given 0)
+cast-part-of : tie.Need-cast-part-of
+cast-part-of c = omega (arith, c .shared-slice-known2 .given 0)
 
-place-of-requires : tie.Need-place-of-requires
-place-of-requires c κs = has-code (c .before .before .before .before .before .args .payload .now) (stands c)
+part-of-requires : tie.Need-part-of-requires
+part-of-requires c κs = has-code (c .before .before .before .before .before .args .payload .now) (stands c)
 
 sub-rest : tie.Need-sub-rest
 sub-rest c =
@@ -40,30 +40,30 @@ sub-rest c =
 
 returns-2 : tie.Need-returns-2
 returns-2 c =
-    let at-place = c .before .before in
-    let at-slice = at-place .before in
+    let at-part = c .before .before in
+    let at-slice = at-part .before in
     let a = at-slice .before .before .before .before .before .args in
-    let w = known (a .payload .now) (at-place .place-of .result) (stands at-slice) (at-place .place-of .ensures) in
-    expands-short (a .payload .now) (a .uri .now) (at-place .place-of .result) w (sym (c .before .has-room .ensures) ∙ not-true _ (c .if2 .taken))
+    let w = known (a .payload .now) (at-part .part-of .result) (stands at-slice) (at-part .part-of .ensures) in
+    expands-short (a .payload .now) (a .uri .now) (at-part .part-of .result) w (sym (c .before .has-room .ensures) ∙ not-true _ (c .if2 .taken))
 
 put-uri-requires : tie.Need-put-uri-requires
 put-uri-requires c κs =
     let at-if2 = c .before in
-    let at-place = at-if2 .before .before in
-    let at-slice = at-place .before in
+    let at-part = at-if2 .before .before in
+    let at-slice = at-part .before in
     let a = at-slice .before .before .before .before .before .args in
-    let n = at-place .place-of .result .len in
+    let n = at-part .part-of .result .len in
     let room = leb-true (n + (length (a .payload .now) - 1)) (length (a .uri .now)) (sym (at-if2 .before .has-room .ensures) ∙ not-false _ (at-if2 .if2 .left)) in
-    (known (a .payload .now) (at-place .place-of .result) (stands at-slice) (at-place .place-of .ensures), omega (arith, room))
+    (known (a .payload .now) (at-part .part-of .result) (stands at-slice) (at-part .part-of .ensures), omega (arith, room))
 
 returns-3 : tie.Need-returns-3
 returns-3 c =
     let at-put = c .before .before .before in
     let at-if2 = at-put .before .before in
-    let at-place = at-if2 .before .before in
-    let at-slice = at-place .before in
+    let at-part = at-if2 .before .before in
+    let at-slice = at-part .before in
     let a = at-slice .before .before .before .before .before .args in
-    let p = at-place .place-of in
+    let p = at-part .part-of in
     let w = known (a .payload .now) (p .result) (stands at-slice) (p .ensures) in
     expands (a .payload .now) (a .uri .now) (p .result) w (sym (at-if2 .before .has-room .ensures) ∙ not-false _ (at-if2 .if2 .left)) _ (at-put .put-uri .ensures)
 
@@ -73,9 +73,9 @@ expand-spec =
     (tie.spec
     (λ c κs. search needs)
     returns
-    shared-slice-read-place-of
-    cast-place-of
-    place-of-requires
+    shared-slice-read-part-of
+    cast-part-of
+    part-of-requires
     sub-rest
     (λ c κs. search needs)
     returns-2

@@ -10,7 +10,7 @@ part-put-both-end : tie.Need-part-put-both-end
 part-put-both-end c =
     let start = c .before .before .before .before in
     let w = start .pre .0 in
-    part-inside _ (start .args .place) (w .known .placed) (start .args .row .now) (w .row-is)
+    part-inside _ (start .args .part) (w .known .placed) (start .args .row .now) (w .row-is)
 
 returns : tie.Need-returns
 returns c =
@@ -19,7 +19,7 @@ returns c =
     let start = at-struct .before .before .before .before in
     let a = start .args in
     let w = start .pre .0 in
-    let front = prefix-part _ (a .place) (w .known .placed) (a .row .now) (w .row-is) in
+    let front = prefix-part _ (a .part) (w .known .placed) (a .row .now) (w .row-is) in
     at-put .put-both .ensures ∙ rw (front, tail-is (a .payload .now) 1)
 
 pub put-by-spec : {M : Type 1} → statement M

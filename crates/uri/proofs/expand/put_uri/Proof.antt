@@ -12,21 +12,21 @@ unfolding prefixes rowOf
 put-by-requires c κs =
     let at-if1 = c .before .before .before in
     let start = at-if1 .before .before .before .before in
-    (coded (start .args .payload .now) (start .args .place) 0 (start .pre .0) (omega arith), start .pre .1)
+    (coded (start .args .payload .now) (start .args .part) 0 (start .pre .0) (omega arith), start .pre .1)
 
 put-by-requires-2 : tie.Need-put-by-requires-2
 unfolding prefixes rowOf
 put-by-requires-2 c κs =
     let at-if1 = c .before .before .before .before in
     let start = at-if1 .before .before .before .before in
-    (coded (start .args .payload .now) (start .args .place) 1 (start .pre .0) (omega arith), start .pre .1)
+    (coded (start .args .payload .now) (start .args .part) 1 (start .pre .0) (omega arith), start .pre .1)
 
 put-by-requires-3 : tie.Need-put-by-requires-3
 unfolding prefixes rowOf
 put-by-requires-3 c κs =
     let at-if1 = c .before .before .before .before in
     let start = at-if1 .before .before .before .before in
-    (coded (start .args .payload .now) (start .args .place) 2 (start .pre .0) (omega (arith, start .pre .0 .code-small)), start .pre .1)
+    (coded (start .args .payload .now) (start .args .part) 2 (start .pre .0) (omega (arith, start .pre .0 .code-small)), start .pre .1)
 
 pub put-uri-spec : {M : Type 1} → statement M
 put-uri-spec =

@@ -1,10 +1,10 @@
--- `prefixes::place_of` meets its contract. Assumes nothing.
+-- `prefixes::part_of` meets its contract. Assumes nothing.
 use mathlib.Core.Path.{sym}
 use borrow.Author.Needs.{needs}
 use Rattle.uri.specs.Prefixes.{prefixes}
 use Rattle.uri.proofs.Rows.{placed}
-use Rattle.uri.proofs.prefixes.place_of.Statement.{statement}
-use Rattle.uri.proofs.prefixes.place_of.Tie as tie
+use Rattle.uri.proofs.prefixes.part_of.Statement.{statement}
+use Rattle.uri.proofs.prefixes.part_of.Tie as tie
 
 -- the code's two columns compute to the starts and the lengths of the definitions' prefixes
 returns : tie.Need-returns
@@ -14,8 +14,8 @@ returns c =
     let start = at-wide .before in
     rw (c .wide2 .ensures .0, at-wide .wide .ensures .0) (placed (start .args .code) (start .pre))
 
-pub place-of-spec : {M : Type 1} → statement M
-place-of-spec =
+pub part-of-spec : {M : Type 1} → statement M
+part-of-spec =
     tie.close
     (tie.spec
     (λ c. search needs)
