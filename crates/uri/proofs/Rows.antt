@@ -20,14 +20,14 @@ abbrev startOf : ℕ → ℕ
 startOf code = length (endToEnd (take (code % 12) (drop (12 * (code / 12)) prefixes)))
 
 -- the numbers of the code's table
-abbrev pub starts : List ℕ
-starts = map startOf (run 0 codes)
+abbrev numberOf : ℕ → ℕ
+numberOf code = 256 * length (prefix code) + startOf code
 
-abbrev pub lengths : List ℕ
-lengths = map length prefixes
+abbrev pub numbers : List ℕ
+numbers = map numberOf (run 0 codes)
 
 abbrev pub partAt : ℕ → RowPart
-partAt code = record { at = getD starts code 0; len = getD lengths code 0 }
+partAt code = record { at = getD numbers code 0 % 256; len = getD numbers code 0 / 256 % 256 }
 
 -- ---- the test
 

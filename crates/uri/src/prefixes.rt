@@ -3,7 +3,6 @@
 // The prefixes are laid end to end, twelve to a row. The compiler copies a constant table to the stack wherever the place in it is not a
 // constant, and so the code picks a row by a test and not by an index: one row is a third of the table.
 
-use tag::numbers;
 ghost use Prim.Native.Nat.{_<_};
 ghost use Rattle.uri.specs.Prefixes.{codes};
 ghost use Rattle.uri.specs.Views.Rows.{Placed};
@@ -25,83 +24,45 @@ pub(crate) const TEXTS: [[u8; 118]; 3] = [
     *b"btspp://btl2cap://btgoep://tcpobex://irdaobex://file://urn:epc:id:urn:epc:tag:urn:epc:pat:urn:epc:raw:urn:epc:urn:nfc:",
 ];
 
-// Where in its row the prefix of each code starts, and how long it is.
-const STARTS: [u8; CODES] = [
-    0,
-    0,
-    11,
-    23,
-    30,
-    38,
-    42,
-    49,
-    75,
-    85,
-    92,
-    99,
-    0,
-    6,
-    12,
-    18,
-    23,
-    32,
-    37,
-    44,
-    48,
-    52,
-    56,
-    61,
-    0,
-    8,
-    18,
-    27,
-    37,
-    48,
-    55,
-    66,
-    78,
-    90,
-    102,
-    110,
-];
-
-const LENGTHS: [u8; CODES] = [
-    0,
-    11,
-    12,
-    7,
-    8,
-    4,
-    7,
-    26,
-    10,
-    7,
-    7,
-    6,
-    6,
-    6,
-    6,
-    5,
-    9,
-    5,
-    7,
-    4,
-    4,
-    4,
-    5,
-    5,
-    8,
-    10,
-    9,
-    10,
-    11,
-    7,
-    11,
-    12,
-    12,
-    12,
-    8,
-    8,
+// The length of each code's prefix, in the high byte, and where in its row the prefix starts, in the low byte. In one table the two take
+// fewer stores than in two.
+const PARTS: [u16; CODES] = [
+    0x0000,
+    0x0B00,
+    0x0C0B,
+    0x0717,
+    0x081E,
+    0x0426,
+    0x072A,
+    0x1A31,
+    0x0A4B,
+    0x0755,
+    0x075C,
+    0x0663,
+    0x0600,
+    0x0606,
+    0x060C,
+    0x0512,
+    0x0917,
+    0x0520,
+    0x0725,
+    0x042C,
+    0x0430,
+    0x0434,
+    0x0538,
+    0x053D,
+    0x0800,
+    0x0A08,
+    0x0912,
+    0x0A1B,
+    0x0B25,
+    0x0730,
+    0x0B37,
+    0x0C42,
+    0x0C4E,
+    0x0C5A,
+    0x0866,
+    0x086E,
 ];
 
 // The part of a row that is a prefix.
@@ -115,7 +76,9 @@ pub(crate) fn part_of(code: usize) -> RowPart
     requires { ⌜ code < codes ⌝ }
     ensures { λ r. ⌜ Placed code r ⌝ }
 {
-    let at = numbers::wide(STARTS[code]);
-    let len = numbers::wide(LENGTHS[code]);
-    RowPart { at, len }
+    let part = PARTS[code];
+    RowPart {
+        at: (part % 256) as usize,
+        len: (part / 256 % 256) as usize,
+    }
 }
