@@ -1,5 +1,5 @@
 // Reading a message: how many records it has, and a table of their places. Whoever walks through a message record by record needs no
-// table: `count`, then `place_at`.
+// table, only the headers: `keep_headers`, then `place_by`.
 //
 // One loop tests the records and keeps each header, packed in a number. A second fills in the table from these, when nothing can be
 // refused any more. So a refusal leaves the table as it was, and no table of sixteen records is made and copied for a message of one.
@@ -16,18 +16,18 @@ use tag::CountAnswer;
 use tag::refusals;
 ghost use mathlib.Core.Path.{_≡_};
 ghost use Prim.Native.Nat.{_+_, _≤_, _<_, _^_};
-ghost use lib.ListN.{length, drop};
+ghost use lib.ListN.{length};
 ghost use lib.Seq.{sets};
 ghost use Rattle.tag.specs.Bytes.{overwrite};
 ghost use Rattle.tag.specs.Answers.{countOf, countAs};
 ghost use Rattle.ndef.specs.Record.{most};
-ghost use Rattle.ndef.specs.Places.{numbersOf, tableOf, placeOf, placesOf, read};
+ghost use Rattle.ndef.specs.Places.{numbersOf, tableOf, placesOf, read};
 ghost use Rattle.ndef.specs.Contracts.{ReadRecords};
-ghost use Rattle.ndef.specs.Views.Headers.{lengthFor, placeFor};
+ghost use Rattle.ndef.specs.Views.Headers.{lengthFor, headerFrom, placeFor};
 ghost use Rattle.ndef.specs.Views.Reading.{Reads, Keeps, Filling};
 
 // How many records the message has, or the refusal. The headers of the records are put in `kept`.
-fn keep_headers(message: &[u8], kept: &mut [u64]) -> CountAnswer
+pub fn keep_headers(message: &[u8], kept: &mut [u64]) -> CountAnswer
     requires { ⌜ length (now kept) ≡ most ⌝ }
     ensures is { λ r. ⌜ countAs r ≡ countOf (read (now (message .entry))) ⌝ }
     ensures keeps { λ r. ⌜ Keeps (now (message .entry)) (now (kept .entry)) r (now (kept .exit)) ⌝ }
@@ -138,21 +138,13 @@ pub fn read(message: &[u8], table: &mut [u64; TABLE]) -> CountAnswer
     read_with(message, &mut kept, table)
 }
 
-// ---- without a table
+// ---- record by record
 
-// How many records a message has, or the refusal.
-pub fn count(message: &[u8]) -> CountAnswer
-    ensures { λ r. ⌜ countAs r ≡ countOf (read (now (message .entry))) ⌝ }
+// The place of the record whose header was kept as this number, and which follows `at` bytes of the message.
+pub fn place_by(number: u64, at: usize) -> Place
+    requires { ⌜ at + lengthFor (headerFrom number) < 2 ^ 64 ⌝ }
+    ensures { λ r. ⌜ r ≡ placeFor (headerFrom number) at ⌝ }
 {
-    let mut kept = [0u64; MOST];
-    keep_headers(message, &mut kept)
-}
-
-// The place of the record that follows `at` bytes of a message. The next record follows its payload.
-pub fn place_at(message: &[u8], at: usize) -> Place
-    requires { ⌜ at ≤ length (now message) ⌝ }
-    ensures { λ r. ⌜ r ≡ placeOf at (drop at (now (message .entry))) ⌝ }
-{
-    let h = headers::header_of(&message[at..]);
+    let h = headers::unpacked(number);
     place_of(h, at)
 }

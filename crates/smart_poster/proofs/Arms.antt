@@ -1,6 +1,6 @@
 -- What a record gives by its kind, and what a message gives, from what the code found in it.
 -- Assumes nothing.
-use mathlib.Core.Path.{_≡_, refl, sym, ap, _∙_}
+use mathlib.Core.Path.{_≡_, refl, sym, ap, subst, _∙_}
 use mathlib.Core.Bool.{true, false}
 use mathlib.Core.List.{List}
 use Prim.Native.Nat.{ℕ, zero, suc, _+_, _-_, _≤_, _<_, _^_}
@@ -9,6 +9,7 @@ use native.Mathlib.Numerals.{sub-one}
 use lib.ListN.{length, take, drop}
 use Rattle.tag.specs.declared.CountAnswer.{CountAnswer}
 use Rattle.tag.specs.declared.CountAnswer.the-variants as counted
+use Rattle.tag.specs.Bytes.{Octets}
 use Rattle.tag.specs.TagType.{Output, refused-output, output}
 use Rattle.tag.specs.Answers.{gives, countOf, countAs}
 use Rattle.tag.proofs.Logic.{nope}
@@ -16,6 +17,7 @@ use Rattle.tag.proofs.Outputs.{refused-exactly}
 use Rattle.ndef.specs.declared.Place.{Place}
 use Rattle.ndef.specs.Message.{part, messageOf}
 use Rattle.ndef.specs.Places.{partAt, recordAt, read}
+use Rattle.ndef.specs.Views.Reading.{Keeps}
 use Rattle.ndef.proofs.Tables.{given, refused-reads}
 use Rattle.uri.specs.Payload.{uriOf, isUri}
 use Rattle.uri.proofs.Expanding.{not-a-uri}
@@ -89,12 +91,14 @@ module _ (s : List ℕ) (r : CountAnswer) (e : countAs r ≡ countOf (read s)) w
   unfolding shown ofParsed firstIn
   unreadable inner k q = rw (refused-reads s k (refused-exactly (read s) r k e .0 q))
 
-  pub readable : (k : ℕ) → r ≡ counted.Count k → Readable s
-  readable k q = go (read s) refl (sym (ap countAs q) ∙ e)
+  pub readable : Octets s → (k : ℕ) (before kept : List ℕ) → r ≡ counted.Count k → Keeps s before r kept → Readable s kept
+  readable o k before kept q w = go (read s) refl (sym (ap countAs q) ∙ e)
     where
-      go : (o : Output) → read s ≡ o → gives k ≡ countOf o → Readable s
+      go : (o : Output) → read s ≡ o → gives k ≡ countOf o → Readable s kept
       go (refused-output j) z f = absurd (nope (cc))
-      go (output n t) z f = let g = given s n t z in record { list = g .list; reads = g .reads }
+      go (output n t) z f =
+          let g = given s n t z in
+          record { octets = o; list = g .list; reads = g .reads; before = before; all-kept = subst (λ x. Keeps s before x kept) q w }
 
 -- ---- a URI record
 

@@ -5,3 +5,7 @@ pub mod Spots
 pub mod Walking
 pub mod Arms
 pub mod Answering
+pub mod Standing
+pub mod Lengths
+pub mod Theorems
+pub mod Specimens

@@ -13,6 +13,7 @@ use tag::refusals;
 ghost use mathlib.Core.Path.{_≡_};
 ghost use Prim.Native.Nat.{_+_, _≤_};
 ghost use lib.ListN.{length};
+ghost use Rattle.ndef.specs.Record.{most};
 ghost use Rattle.ndef.specs.Places.{partAt, recordAt};
 ghost use Rattle.uri.specs.Payload.{uriOf};
 ghost use Rattle.smart_poster.specs.Uris.{ofPayload, ofRecord, ofPoster, ofMessage};
@@ -56,16 +57,17 @@ fn record_uri(message: &[u8], p: Place, posters: usize) -> Spot
     }
 }
 
-// What the records of a message that reads give.
-fn records_uri(message: &[u8], posters: usize) -> Spot
-    requires { ⌜ Readable (now message) ⌝ }
+// What the records of a message that reads give, from the headers that were kept.
+fn records_uri(message: &[u8], kept: &[u64], posters: usize) -> Spot
+    requires { ⌜ Readable (now message) (now kept) ⌝ }
     ensures is { λ r. ⌜ shown (now (message .entry)) r ≡ firstIn (ofMessage posters (now (message .entry))) ⌝ }
     ensures stands { λ r. ⌜ Stands (now (message .entry)) r ⌝ }
 {
     let mut first = Spot::Nothing;
     let mut at = 0usize;
+    let mut i = 0usize;
     while at < message.len() {
-        let p = ndef::read::place_at(message, at);
+        let p = ndef::read::place_by(kept[i], at);
         let found = record_uri(message, p, posters);
         if places::is_refused(found) {
             return found;
@@ -73,18 +75,29 @@ fn records_uri(message: &[u8], posters: usize) -> Spot
         first = places::earlier(first, found);
         let payload = p.payload;
         at = payload.at + payload.len;
+        i += 1;
     }
     first
 }
 
-// What a message gives, where `posters` may stand inside each other. The message is read whole before its records are looked at.
+// What a message gives, with room for its headers. The message is read whole before its records are looked at.
+fn message_with(message: &[u8], kept: &mut [u64], posters: usize) -> Spot
+    requires { ⌜ length (now kept) ≡ most ⌝ }
+    ensures is { λ r. ⌜ shown (now (message .entry)) r ≡ firstIn (ofMessage posters (now (message .entry))) ⌝ }
+    ensures stands { λ r. ⌜ Stands (now (message .entry)) r ⌝ }
+{
+    let counted = ndef::read::keep_headers(message, kept);
+    match counted {
+        CountAnswer::Refused(r) => Spot::Refused(r),
+        CountAnswer::Count(_) => records_uri(message, kept, posters),
+    }
+}
+
+// What a message gives, where `posters` may stand inside each other.
 pub(crate) fn message_uri(message: &[u8], posters: usize) -> Spot
     ensures is { λ r. ⌜ shown (now (message .entry)) r ≡ firstIn (ofMessage posters (now (message .entry))) ⌝ }
     ensures stands { λ r. ⌜ Stands (now (message .entry)) r ⌝ }
 {
-    let counted = ndef::read::count(message);
-    match counted {
-        CountAnswer::Refused(r) => Spot::Refused(r),
-        CountAnswer::Count(_) => records_uri(message, posters),
-    }
+    let mut kept = [0u64; ndef::MOST];
+    message_with(message, &mut kept, posters)
 }

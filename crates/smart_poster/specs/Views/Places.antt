@@ -6,8 +6,10 @@ use mathlib.Core.List.{List}
 use Prim.Native.Nat.{ℕ, _+_, _<_, _≤_, _^_}
 use lib.ListN.{length}
 use Rattle.ndef.specs.declared.Place as ndef
-use Rattle.ndef.specs.Record.{Record}
+use Rattle.tag.specs.Bytes.{Octets, overwrite}
+use Rattle.ndef.specs.Record.{Record, most}
 use Rattle.ndef.specs.Message.{part, records, messageOf}
+use Rattle.ndef.specs.Views.Reading.{packedHeaders}
 use Rattle.uri.specs.Payload.{uriOf, isUri}
 use Rattle.smart_poster.specs.declared.records.RecordKind.{RecordKind}
 use Rattle.smart_poster.specs.declared.records.RecordKind.the-variants as kind
@@ -58,10 +60,13 @@ earlierOf (spot.Refused r) later = spot.Refused r
 earlierOf spot.Nothing later = later
 earlierOf (spot.At at len) later = spot.At at len
 
--- a message that reads
-pub record Readable (s : List ℕ) : Type 0 where
+-- a message of octets that reads, and the headers that were kept of it
+pub record Readable (s kept : List ℕ) : Type 0 where
+  pub octets : Octets s
   pub list : List Record
   pub reads : messageOf s ≡ records list
+  pub before : List ℕ
+  pub all-kept : kept ≡ overwrite (packedHeaders most s) before
 
 -- a record's place lies in a message of so many bytes, and its payload is shorter than that
 pub record Lies (size : ℕ) (p : ndef.Place) : Type 0 where
