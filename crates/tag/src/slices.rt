@@ -7,7 +7,7 @@ ghost use mathlib.Core.Path.{_≡_};
 ghost use mathlib.Core.Bool.{cond};
 ghost use Prim.Native.Nat.{_+_, _≤_};
 ghost use lib.Dec.{eqb};
-ghost use lib.ListN.{length};
+ghost use lib.ListN.{length, take, drop};
 ghost use lib.Seq.{sets};
 ghost use Rattle.tag.specs.Bytes.{byte, same};
 ghost use Rattle.tag.specs.Views.Flags.{flagTo};
@@ -104,4 +104,15 @@ pub fn store(from: &[u8], at: usize, to: &mut [u8])
         to[at + i] = from[i];
         i += 1;
     }
+}
+
+// Stores sixteen bytes of `from` in `to`. They go through a local array, which the compiler knows to lie apart from both slices; so
+// it copies them with one load and one store.
+pub fn store_sixteen(from: &[u8], f: usize, to: &mut [u8], at: usize)
+    requires { ⌜ (f + 16 ≤ length (now from)) × (at + 16 ≤ length (now to)) ⌝ }
+    ensures { λ _. ⌜ now (to .exit) ≡ sets (now (to .entry)) at (take 16 (drop f (now (from .entry)))) ⌝ }
+{
+    let mut sixteen = [0u8; 16];
+    store(&from[f..f + 16], 0, &mut sixteen);
+    store(&sixteen, at, to);
 }

@@ -15,17 +15,6 @@ ghost use Rattle.tag.specs.Bytes.{byte};
 ghost use Rattle.tag.specs.Stores.{puts};
 ghost use Rattle.type3_model.specs.Views.Model.{Storable, storesFrom};
 
-// Stores sixteen bytes of `from` in `to`. They go through a local array, which the compiler knows to lie apart from both slices; so
-// it copies them with one load and one store.
-fn store_sixteen(from: &[u8], f: usize, to: &mut [u8], at: usize)
-    requires { ⌜ (f + 16 ≤ length (now from)) × (at + 16 ≤ length (now to)) ⌝ }
-    ensures { λ _. ⌜ now (to .exit) ≡ sets (now (to .entry)) at (take 16 (drop f (now (from .entry)))) ⌝ }
-{
-    let mut sixteen = [0u8; read::BLOCK_SIZE];
-    slices::store(&from[f..f + read::BLOCK_SIZE], 0, &mut sixteen);
-    slices::store(&sixteen, at, to);
-}
-
 // Stores block `k` of the `count` blocks that the command lists.
 fn store_block(command: &[u8], count: usize, k: usize, image: &mut [u8])
     requires { ⌜ (count ≤ 8) × (k < count) × (13 + 18 * count ≤ length (now command)) × (16 * byte (now command) (14 + 2 * k) + 16 ≤ length (now image)) ⌝ }
@@ -35,7 +24,7 @@ fn store_block(command: &[u8], count: usize, k: usize, image: &mut [u8])
     let at = Block(block).address(read::BLOCK_SIZE);
     let start = at.0;
     let from = commands::FRONT + block_list::ELEMENT * count + read::BLOCK_SIZE * k;
-    store_sixteen(command, from, image, start);
+    slices::store_sixteen(command, from, image, start);
 }
 
 // Stores every block that the command lists, protected or not.

@@ -6,3 +6,4 @@ pub mod Expanding
 pub mod Distinct
 pub mod Theorems
 pub mod Specimens
+pub mod Sixteens

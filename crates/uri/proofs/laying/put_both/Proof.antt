@@ -12,7 +12,7 @@ returns c =
     let at-store = at-store2 .before .before .before .before in
     let start = at-store .before .before .before .before .before in
     let a = start .args in
-    at-store2 .store2 .ensures ∙ ap (λ out. sets out 0 (a .front .now)) (at-store .store .ensures) ∙ stored (a .front .now) (a .rest .now) (a .out .now) (start .pre)
+    at-store2 .store .ensures ∙ ap (λ out. sets out 0 (a .front .now)) (at-store .store-quick .ensures) ∙ stored (a .front .now) (a .rest .now) (a .out .now) (start .pre)
 
 pub put-both-spec : {M : Type 1} → statement M
 put-both-spec = tie.close (tie.spec (λ c κs. search needs) (λ c κs. search needs) (λ c. search needs) returns)

@@ -1,13 +1,13 @@
--- `stores::store_sixteen` meets its contract. Assumes nothing.
+-- `slices::store_sixteen` meets its contract. Assumes nothing.
 use mathlib.Core.Path.{_≡_, sym, ap, _∙_}
 use Prim.Native.Nat.{_+_, _-_}
 use native.Mathlib.Omega.{arith}
 use borrow.Author.Needs.{needs}
 use lib.ListN.{length, take, drop, length-drop, replicate}
 use lib.Seq.{sets, length-take-le}
 use Rattle.tag.proofs.Storing.{copied}
-use Rattle.type3_model.proofs.stores.store_sixteen.Statement.{statement}
-use Rattle.type3_model.proofs.stores.store_sixteen.Tie as tie
+use Rattle.tag.proofs.slices.store_sixteen.Statement.{statement}
+use Rattle.tag.proofs.slices.store_sixteen.Tie as tie
 
 returns : tie.Need-returns
 returns c =
