@@ -1,8 +1,8 @@
 /*
  * The C interface of Zanfirotta, which reads and writes NFC Type 2, Type 3 and Type 6 tag images so
  * that a write that breaks off leaves the old message, none, or the new one. It also reads and
- * writes the records of a message. The rules are in docs/01-scope.md and
- * docs/02-change-requests.md.
+ * writes the records of a message, and finds the first web address in it. The rules are in
+ * docs/01-scope.md and docs/02-change-requests.md.
  *
  * No function allocates or keeps a pointer. Each returns a uint64_t:
  *
@@ -64,8 +64,9 @@ enum zan_refusal {
     ZAN_REFUSED_EMPTY_MESSAGE = 9,          /* message to write has length 0 */
     ZAN_REFUSED_NOT_WRITABLE = 10,          /* tag is not writable */
     ZAN_REFUSED_MESSAGE_TOO_LONG = 11,      /* message does not fit on the tag */
-    ZAN_REFUSED_SHORT_BUFFER = 12,          /* buffer too short for the list, for the command, or
-                                               for the message of the records */
+    ZAN_REFUSED_SHORT_BUFFER = 12,          /* buffer too short for the list, for the command, for
+                                               the message of the records, for the address or for
+                                               the payload */
     ZAN_REFUSED_SHORT_GATHERING_BUFFER = 13, /* gathering buffer too short for an interrupted
                                                message */
     ZAN_REFUSED_BLOCK_TOO_SMALL = 14,       /* Type 6, writing and judging: block size 1 */
@@ -82,7 +83,10 @@ enum zan_refusal {
                                                or TNF 0 with a length not 0; MB is not exactly on
                                                the first record, or ME not exactly on the one that
                                                ends the message; the message is empty */
-    ZAN_REFUSED_UNWRITABLE_RECORDS = 33     /* no message reads as these records */
+    ZAN_REFUSED_UNWRITABLE_RECORDS = 33,    /* no message reads as these records */
+    ZAN_REFUSED_BAD_URI = 34,               /* payload of a URI record is empty, or begins with a
+                                               code over 23h */
+    ZAN_REFUSED_NESTED_TOO_DEEP = 35        /* Smart Poster record inside four others */
 };
 
 /* What a tag holds. */
@@ -132,6 +136,9 @@ typedef struct zan_report {
 #define ZAN_NDEF_RECORDS_MAX 16
 #define ZAN_NDEF_RECORD 7
 #define ZAN_NDEF_TABLE (ZAN_NDEF_RECORDS_MAX * ZAN_NDEF_RECORD)
+
+/* The length of the longest abbreviation of a URI record, for which a payload has one byte. */
+#define ZAN_URI_PREFIX_MAX 26
 
 /* The numbers of a record, in order: the TNF, then start and length of each part. */
 enum zan_ndef_number {
@@ -318,6 +325,36 @@ uint64_t zan_ndef_read(const uint8_t *message, size_t message_len,
  */
 uint64_t zan_ndef_write(const uint64_t *records, size_t records_len, const uint8_t *bytes,
                         size_t bytes_len, uint8_t *message, size_t message_len);
+
+/*
+ * Writes the address that the payload of a URI record stands for to the front of address: the
+ * abbreviation of its first byte, a code from 00h to 23h, then the rest of the payload. An address
+ * is bytes, with no 0 at its end, and need not be UTF-8. Returns the number of bytes as its count,
+ * or refusal 34 or 12; they are tested in this order. An address has at most ZAN_URI_PREFIX_MAX - 1
+ * bytes more than the payload.
+ */
+uint64_t zan_uri_expand(const uint8_t *payload, size_t payload_len, uint8_t *address,
+                        size_t address_len);
+
+/*
+ * Writes the payload of the URI record for an address to the front of payload: the code of the
+ * longest abbreviation that the address begins with, then the rest of the address. Upper and lower
+ * case are different bytes. Returns the number of bytes as its count, at most address_len + 1, or
+ * refusal 12.
+ */
+uint64_t zan_uri_shorten(const uint8_t *address, size_t address_len, uint8_t *payload,
+                         size_t payload_len);
+
+/*
+ * Writes the first address of a message to the front of address. It looks at the URI records of
+ * the message and, where a Smart Poster record stands, at those of the message in it. Any fault in
+ * the message, in front of the first address or behind it, is refused. Sets *found to 1 and returns
+ * the number of bytes as its count; without an address, sets *found to 0 and returns 0. Or it
+ * returns refusal 30 to 32, 34 or 35, whichever it meets first, or else 12. A buffer of message_len
+ * + ZAN_URI_PREFIX_MAX bytes is always long enough.
+ */
+uint64_t zan_uri_first(const uint8_t *message, size_t message_len, uint8_t *address,
+                       size_t address_len, uint64_t *found);
 
 #ifdef __cplusplus
 }

@@ -15,6 +15,8 @@ mod records;
 mod reference;
 #[path = "speed/timing.rs"]
 mod timing;
+#[path = "speed/uris.rs"]
+mod uris;
 
 use std::env;
 use std::hint::black_box;
@@ -210,8 +212,8 @@ fn main() {
     if env::args().any(|argument| argument == "lists") {
         return print_lists(&cases);
     }
-    println!("| tag                          | call   | library ns   | reference ns |  ratio |");
-    println!("|------------------------------|--------|--------------|--------------|--------|");
+    println!("| tag                          | call    | library ns   | reference ns |  ratio |");
+    println!("|------------------------------|---------|--------------|--------------|--------|");
     for case in &cases {
         match case.kind {
             Kind::Type2 => type2(case),
@@ -220,4 +222,5 @@ fn main() {
         }
     }
     records::all();
+    uris::all();
 }

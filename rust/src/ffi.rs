@@ -6,11 +6,13 @@ mod ndef;
 mod type2;
 mod type3;
 mod type6;
+mod uri;
 
 pub use ndef::*;
 pub use type2::*;
 pub use type3::*;
 pub use type6::*;
+pub use uri::*;
 
 /// The numbers that a call has just written, each loaded separately. Left to itself, the compiler
 /// loads address and length together. A load of what two stores wrote waits until both have reached

@@ -1,5 +1,6 @@
 //! Reading and writing NFC Type 2, Type 3 and Type 6 tag images so that a write that breaks off
-//! leaves the old message, none, or the new one; and the records of a message ([`ndef`]).
+//! leaves the old message, none, or the new one; the records of a message ([`ndef`]), and the web
+//! addresses in them ([`uri`]).
 //!
 //! These are safe wrappers over the verified library (`libzanfirotta.a`); the rules are in
 //! `docs/01-scope.md` and `docs/02-change-requests.md`. Nothing here allocates: an image, a message
@@ -41,6 +42,7 @@ pub mod ndef;
 pub mod type2;
 pub mod type3;
 pub mod type6;
+pub mod uri;
 
 /// The calls in the shape of the C interface, with its answers as numbers. For the tests.
 #[doc(hidden)]
@@ -49,7 +51,7 @@ pub mod raw {
         ndef_read, ndef_write, type2_decode, type2_encode, type2_judge, type2_model, type2_read,
         type2_write, type3_command_len, type3_decode, type3_encode, type3_judge, type3_model,
         type3_read, type3_write, type6_decode, type6_encode, type6_judge, type6_model, type6_read,
-        type6_write,
+        type6_write, uri_expand, uri_first, uri_shorten,
     };
 }
 
@@ -117,8 +119,9 @@ pub enum RefusalNumber {
     NotWritable = 10,
     /// The message is longer than the tag's capacity.
     MessageTooLong = 11,
-    /// The buffer is shorter than the list, than the bytes of the command, or than the message of
-    /// the records; for [`ndef::Builder::push`], than the parts of the records.
+    /// The buffer is shorter than the list, than the bytes of the command, than the message of the
+    /// records, or than the URI or its payload; for [`ndef::Builder::push`], than the parts of the
+    /// records.
     ShortBuffer = 12,
     /// The gathering buffer is shorter than an interrupted message.
     ShortGatheringBuffer = 13,
@@ -143,6 +146,10 @@ pub enum RefusalNumber {
     MalformedRecord = 32,
     /// No message reads as these records.
     UnwritableRecords = 33,
+    /// The payload of a URI record is empty, or its code is over 23h.
+    BadUri = 34,
+    /// A poster is inside four others.
+    NestedTooDeep = 35,
 }
 
 /// A number that no refusal has.
@@ -193,6 +200,8 @@ impl TryFrom<u8> for RefusalNumber {
             31 => ChunkedRecord,
             32 => MalformedRecord,
             33 => UnwritableRecords,
+            34 => BadUri,
+            35 => NestedTooDeep,
             _ => return Err(UnknownRefusal(number)),
         })
     }
@@ -224,6 +233,8 @@ impl RefusalNumber {
             ChunkedRecord => "chunked record",
             MalformedRecord => "malformed record, or an empty message",
             UnwritableRecords => "no message reads as these records",
+            BadUri => "URI record without a known code",
+            NestedTooDeep => "poster inside four others",
         }
     }
 

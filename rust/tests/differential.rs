@@ -1,8 +1,8 @@
 //! The verified library against the reference, on the same seeded cases.
 //!
 //! Every buffer passed to a call lies between guard bytes and is compared whole, also after a
-//! refusal; a table of records lies between guard numbers. Each test prints how often each answer
-//! came and fails if an expected one is rare.
+//! refusal; a table of records, or a single number, lies between guard numbers. Each test prints how
+//! often each answer came and fails if an expected one is rare.
 
 #[cfg(not(zanfirotta_archive))]
 compile_error!("libzanfirotta.a is missing: run `rt staticlib zanfirotta` at the repository's top");
@@ -23,6 +23,12 @@ mod type2;
 mod type3;
 #[path = "differential/type6.rs"]
 mod type6;
+#[path = "differential/uri.rs"]
+mod uri;
+#[path = "differential/uri_limits.rs"]
+mod uri_limits;
+#[path = "differential/uri_posters.rs"]
+mod uri_posters;
 
 use std::fmt::Debug;
 
@@ -34,7 +40,7 @@ use zanfirotta::{Refusal, Report};
 const SUBSET: u64 = 20_000;
 const WHOLE: u64 = 200_000;
 
-/// Two tests for each operation of a type, for the tags that are rewritten, and for records.
+/// Two tests for each operation of a type, for the tags that are rewritten, for records and for URIs.
 macro_rules! operations {
     ($($tests:ident: $type:ident::$operation:ident,)*) => {$(
         mod $tests {
@@ -77,6 +83,9 @@ operations! {
     ndef_read: ndef::read,
     ndef_write: ndef::write,
     ndef_builder: ndef::builder,
+    uri_expand: uri::expand,
+    uri_shorten: uri::shorten,
+    uri_first: uri::first,
 }
 
 #[test]

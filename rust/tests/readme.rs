@@ -11,13 +11,13 @@ fn top() -> PathBuf {
     Path::new(env!("CARGO_MANIFEST_DIR")).join("..")
 }
 
-/// The lines of README.md between a fence with this label and the next fence.
-fn shown(label: &str) -> String {
+/// The lines of README.md between fences with this label and the next fences, block by block.
+fn blocks(label: &str) -> Vec<String> {
     let readme = fs::read_to_string(top().join("README.md")).unwrap();
     let start = format!("```{label}\n");
-    let (_, rest) = readme.split_once(&start).expect("a block with this label");
-    let (block, _) = rest.split_once("```").expect("its end");
-    block.to_string()
+    let behind = readme.split(&start).skip(1);
+    let block = |rest: &str| rest.split_once("```").expect("its end").0.to_string();
+    behind.map(block).collect()
 }
 
 /// A C program in which `lines` are the body of a function that takes a tag. Its `main` passes an
@@ -88,13 +88,13 @@ fn run_c(name: &str, source: &Path) -> String {
 #[test]
 fn rattle_lines_are_the_crate() {
     let source = fs::read_to_string(top().join("crates/first_use/src/lib.rt")).unwrap();
-    assert_eq!(shown("rattle"), source);
+    assert_eq!(blocks("rattle"), [source]);
 }
 
 /// `send` prints, and the message is that of the specimen.
 #[test]
 fn c_lines_of_the_readme_write_the_sample() {
-    let lines = shown("c");
+    let lines = blocks("c").remove(0);
     let lines = lines
         .strip_prefix("#include \"zanfirotta.h\"\n")
         .expect("the header");
@@ -104,6 +104,24 @@ fn c_lines_of_the_readme_write_the_sample() {
     assert_eq!(
         run_text("readme", &program(&before, lines, 64, 12, front)),
         "A20500FE0000\nA2040303D000\n"
+    );
+}
+
+/// `show` prints text. The tag has the poster that the Rust lines show.
+#[test]
+fn c_lines_of_the_readme_show_an_address() {
+    let lines = blocks("c").remove(1);
+    let show = "static void show(const uint8_t *bytes, uint64_t len)
+{
+    printf(\"%.*s\\n\", (int)len, (const char *)bytes);
+}
+";
+    let front = "0xE1, 0x10, 0x06, 0x00, 0x03, 0x20, 0xD1, 2, 0x1B, 'S', 'p', \
+        0x91, 1, 5, 'T', 2, 'e', 'n', 'H', 'i', \
+        0x51, 1, 0x0E, 'U', 4, 'e', 'x', 'a', 'm', 'p', 'l', 'e', '.', 'o', 'r', 'g', '/', '7', 0xFE";
+    assert_eq!(
+        run_text("address", &program(show, &lines, 64, 12, front)),
+        "https://example.org/7\n"
     );
 }
 
@@ -188,7 +206,7 @@ fn every_function_is_called_from_c() {
         .filter_map(|line| line.strip_prefix("uint64_t zan_"))
         .filter_map(|line| line.split_once('(').map(|(name, _)| name))
         .collect();
-    assert_eq!(declared.len(), 21);
+    assert_eq!(declared.len(), 24);
     for name in declared {
         assert!(text.contains(&format!("zan_{name}(")), "zan_{name}");
     }

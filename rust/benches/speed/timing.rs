@@ -89,7 +89,7 @@ pub fn compare_on(
     }
     let (library, reference) = (median(library_times), median(reference_times));
     println!(
-        "| {name:<28} | {operation:<6} | {library:>12.1} | {reference:>12.1} | {:>6.2} |",
+        "| {name:<28} | {operation:<7} | {library:>12.1} | {reference:>12.1} | {:>6.2} |",
         library / reference
     );
 }

@@ -213,6 +213,33 @@ static int many(void)
     return 0;
 }
 
+/* A poster around a link, with a second link behind it; and five posters, one in the other. */
+static int uri(void)
+{
+    uint8_t links[18] = {0x91, 2, 8, 'S', 'p', 0xD1, 1, 4, 'U', 4, 'a', '.', 'b', 0x51, 1, 1, 'U', 0x23};
+    uint8_t posters[25] = {0xD1, 2, 20, 'S', 'p', 0xD1, 2, 15, 'S', 'p', 0xD1, 2, 10, 'S', 'p',
+                           0xD1, 2, 5,  'S', 'p', 0xD1, 2, 0,  'S', 'p'};
+    uint8_t bytes[12];
+    uint64_t found = 9;
+
+    memset(bytes, 0xAA, sizeof bytes);
+    HOLDS(zan_uri_first(links, 18, bytes, 10, &found) == ZAN_REFUSED_SHORT_BUFFER && bytes[0] == 0xAA && found == 9);
+    HOLDS(zan_uri_first(links, 18, bytes, sizeof bytes, &found) == 11 * 256 && found == 1);
+    HOLDS(memcmp(bytes, "https://a.b\xAA", 12) == 0);
+    HOLDS(zan_uri_first(message, 3, bytes, 0, &found) == 0 && found == 0);
+    links[17] = 0x24;
+    HOLDS(zan_uri_first(links, 18, bytes, 0, &found) == ZAN_REFUSED_BAD_URI);
+    HOLDS(zan_uri_first(posters, 25, bytes, 0, &found) == ZAN_REFUSED_NESTED_TOO_DEEP);
+    HOLDS(zan_uri_first(posters + 5, 20, bytes, 0, &found) == ZAN_REFUSED_MALFORMED_RECORD && found == 0);
+
+    HOLDS(zan_uri_expand(links + 17, 1, bytes, 0) == ZAN_REFUSED_BAD_URI);
+    HOLDS(zan_uri_expand(links + 9, 4, bytes, 10) == ZAN_REFUSED_SHORT_BUFFER);
+    HOLDS(zan_uri_expand(links + 9, 4, bytes, 11) == 11 * 256);
+    HOLDS(zan_uri_shorten(bytes, 11, posters, 3) == ZAN_REFUSED_SHORT_BUFFER && posters[0] == 0xD1);
+    HOLDS(zan_uri_shorten(bytes, 11, posters, sizeof posters) == 4 * 256 && memcmp(posters, "\004a.bp", 5) == 0);
+    return 0;
+}
+
 int main(void)
 {
     int line = type2();
@@ -220,5 +247,6 @@ int main(void)
     line = line ? line : type3();
     line = line ? line : type6();
     line = line ? line : ndef();
-    return line ? line : many();
+    line = line ? line : many();
+    return line ? line : uri();
 }

@@ -1,5 +1,5 @@
-//! Seeded random cases for the tests: tags, messages, foreign command lists, records; and small
-//! helpers.
+//! Seeded random cases for the tests: tags, messages, foreign command lists, records, URIs; and
+//! small helpers.
 
 #![allow(dead_code, unused_imports)]
 
@@ -16,6 +16,7 @@ pub mod tables;
 pub mod tags2;
 pub mod tags3;
 pub mod tags6;
+pub mod uris;
 
 pub use guarded::Guarded;
 

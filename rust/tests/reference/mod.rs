@@ -1,9 +1,10 @@
 //! The rules of `docs/01-scope.md` in ordinary Rust, with what `docs/02-change-requests.md` has
-//! changed and added: E1, E2, E3, E4, E5.
+//! changed and added: E1, E2, E3, E4, E5, E6.
 //!
 //! This reference was written from these pages alone (Type 6 also from source document 003, records
-//! from the NFC Forum's NDEF 1.0), without a look at the verified code, so the two can be tested
-//! against each other. It is also the baseline of the speed measurements.
+//! from the NFC Forum's NDEF 1.0, the prefixes of URIs from its record type document), without a
+//! look at the verified code, so the two can be tested against each other. It is also the baseline
+//! of the speed measurements.
 //!
 //! Every function takes what the verified one takes: slices in, an answer out, and `&mut [u8]` for
 //! the caller's buffer (`&mut [u64]` for a table of records). A refusal changes nothing in it.
@@ -14,6 +15,7 @@ pub mod ndef;
 pub mod type2;
 pub mod type3;
 pub mod type6;
+pub mod uri;
 
 /// Why an operation was refused: a number of the page's table and, for 20 to 23, the position of
 /// the command at fault (0 for all other numbers).

@@ -13,12 +13,15 @@ mod naive2;
 mod naive3;
 mod naive6;
 mod naive_ndef;
+mod naive_uri;
 mod reading;
 mod records;
 mod specimens;
 mod specimens6;
 mod specimens_left_out;
 mod specimens_ndef;
+mod specimens_uri;
+mod uris;
 mod writing;
 
 /// Random cases of each kind.

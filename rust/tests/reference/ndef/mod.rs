@@ -10,7 +10,7 @@ pub use write::write;
 /// The most records that a message has.
 const MOST: usize = 16;
 /// The numbers of a record: TNF, then place and length of type, ID and payload.
-const NUMBERS: usize = 7;
+pub const NUMBERS: usize = 7;
 /// The numbers of as many records as a message has at most.
 pub const TABLE: usize = MOST * NUMBERS;
 
