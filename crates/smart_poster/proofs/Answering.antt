@@ -8,7 +8,7 @@ use lib.Dec.{leb}
 use lib.ListN.{length}
 use Rattle.tag.specs.declared.CountAnswer.{CountAnswer}
 use Rattle.tag.specs.declared.CountAnswer.the-variants as counted
-use Rattle.tag.specs.TagType.{Output, refused-output, output, outputInto}
+use Rattle.tag.specs.TagType.{refused-output, output, outputInto}
 use Rattle.tag.specs.Answers.{gives, refusesOne, countOf, countAs}
 use Rattle.tag.proofs.Logic.{nope}
 use Rattle.tag.proofs.Outputs.{same-refusal}
@@ -21,7 +21,7 @@ use Rattle.smart_poster.specs.declared.UriAnswer.the-variants as code
 use Rattle.smart_poster.specs.declared.places.Spot.{Spot}
 use Rattle.smart_poster.specs.declared.places.Spot.the-variants as spot
 use Rattle.smart_poster.specs.Uris.{ofPayload, urisOf}
-use Rattle.smart_poster.specs.First.{Found, refused, none, found, firstIn, inRoom, foundInto, toldOf, toldAs}
+use Rattle.smart_poster.specs.First.{Found, refused, found, firstIn, inRoom, foundInto, toldOf, toldAs}
 use Rattle.smart_poster.specs.Contracts.{FoundFirst}
 use Rattle.smart_poster.specs.Views.Places.{shown, Stands}
 

@@ -1,7 +1,7 @@
 -- The first URI of two things in order: the first fault, else the first URI.
 -- Assumes nothing.
 use mathlib.Core.Path.{_≡_, refl}
-use mathlib.Core.List.{List, [], _∷_}
+use mathlib.Core.List.{[], _∷_}
 use Rattle.smart_poster.specs.Uris.{Uris, uris, onto, andThen}
 use Rattle.smart_poster.specs.Uris as all
 use Rattle.smart_poster.specs.First.{Found, refused, none, found, firstIn}

@@ -1,7 +1,7 @@
 -- Spots: in a part and in the bytes around it, and the first of two.
 -- Assumes nothing.
 use mathlib.Core.Path.{_≡_, refl, sym, ap, _∙_}
-use mathlib.Core.Bool.{Bool, true, false}
+use mathlib.Core.Bool.{true, false}
 use mathlib.Core.List.{List, [], _∷_}
 use Prim.Native.Nat.{ℕ, zero, suc, _+_, _≤_, _<_, _^_}
 use native.Mathlib.Omega.{arith}
@@ -14,7 +14,7 @@ use Rattle.uri.specs.Payload as payload
 use Rattle.smart_poster.specs.declared.places.Spot.{Spot}
 use Rattle.smart_poster.specs.declared.places.Spot.the-variants as spot
 use Rattle.smart_poster.specs.Uris.{ofPayload}
-use Rattle.smart_poster.specs.First.{Found, refused, none, found, firstIn}
+use Rattle.smart_poster.specs.First.{refused, found, firstIn}
 use Rattle.smart_poster.specs.Views.Places.{shown, Stands, isRefused, Movable, movedBy, earlierOf}
 use Rattle.smart_poster.proofs.Folding.{joined}
 

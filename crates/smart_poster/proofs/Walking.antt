@@ -2,7 +2,7 @@
 -- Assumes nothing.
 use mathlib.Core.Path.{_≡_, refl, sym, ap, _∙_}
 use mathlib.Core.Bool.{true, false}
-use mathlib.Core.List.{List, [], _∷_}
+use mathlib.Core.List.{List, []}
 use Prim.Native.Nat.{ℕ, zero, suc, _+_, _-_, _≤_, _<_}
 use native.Mathlib.Omega.{arith}
 use lib.ListN.{length, drop, length-drop}
@@ -13,7 +13,7 @@ use Rattle.tag.proofs.Octets.{octets-drop}
 use Rattle.ndef.specs.declared.Place.{Place}
 use Rattle.ndef.specs.declared.headers.Header.{Header}
 use Rattle.ndef.specs.Record.{Record}
-use Rattle.ndef.specs.Header.{headerLength, idLength, payloadLength, recordLength}
+use Rattle.ndef.specs.Header.{recordLength}
 use Rattle.ndef.specs.Message.{records, recordOf, recordsOf, messageOf}
 use Rattle.ndef.specs.Places.{recordAt, placeOf}
 use Rattle.ndef.specs.Views.Headers.{Says, lengthFor, headerFrom, placeFor}
@@ -26,7 +26,7 @@ use Rattle.ndef.proofs.Tables.{record-at, from-start}
 use Rattle.smart_poster.specs.declared.places.Spot.{Spot}
 use Rattle.smart_poster.specs.declared.places.Spot.the-variants as spot
 use Rattle.smart_poster.specs.Uris.{Uris, ofRecord, ofRecords, ofParsed}
-use Rattle.smart_poster.specs.First.{Found, refused, firstIn}
+use Rattle.smart_poster.specs.First.{Found, firstIn}
 use Rattle.smart_poster.specs.Views.Places.{shown, Stands, isRefused, earlierOf, Readable, Lies}
 use Rattle.smart_poster.proofs.Folding.{joined, joined-none, joined-joined, first-then}
 use Rattle.smart_poster.proofs.Spots.{joined-refused, shown-earlier, stands-earlier, earlier-fine, refusal-is}

@@ -2,7 +2,7 @@
 -- Assumes nothing.
 use mathlib.Core.Path.{_≡_, refl, sym, ap, _∙_}
 use mathlib.Core.Bool.{Bool, true, false, _&&_, cond}
-use mathlib.Core.List.{List, [], _∷_, _++_}
+use mathlib.Core.List.{List, [], _++_}
 use Prim.Native.Nat.{ℕ, zero, suc, _+_, _≤_, _<_}
 use native.Mathlib.Omega.{arith}
 use native.Mathlib.Numerals.{add-one}
@@ -10,8 +10,7 @@ use lib.Dec.{ltb, eqb}
 use lib.ListN.{length, take, drop, take-append-drop}
 use lib.Seq.{take-all}
 use borrow.Author.Tests.{ltb-true, ltb-false, lt-ltb, le-ltb, eqb-true, eqb-false}
-use Rattle.tag.specs.Bytes.{same}
-use Rattle.tag.proofs.Logic.{and-l, and-r, same-eq, same-refl, true-false}
+use Rattle.tag.proofs.Logic.{same-eq, true-false}
 use Rattle.tag.proofs.Same.{same-lengths}
 use Rattle.uri.specs.declared.shorten.Choice.{Choice}
 use Rattle.uri.specs.Prefixes.{codes, prefixes, prefix}

@@ -16,7 +16,7 @@ use Rattle.tag.proofs.Logic.{true-false}
 use Rattle.uri.specs.declared.prefixes.RowPart.{RowPart}
 use Rattle.uri.specs.declared.shorten.Choice.{Choice}
 use Rattle.uri.specs.Prefixes.{codes, prefix}
-use Rattle.uri.specs.Payload.{Expanded, uri, refused, uriOf, isUri, expandBy, expand, longest, payloadOf, shorten}
+use Rattle.uri.specs.Payload.{uri, refused, uriOf, isUri, expandBy, payloadOf}
 use Rattle.uri.specs.Contracts.{ExpandedTo, ShortenedTo}
 use Rattle.uri.specs.Views.Rows.{Placed, Known}
 use Rattle.uri.specs.Views.Choosing.{Best}

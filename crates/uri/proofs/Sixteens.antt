@@ -1,10 +1,10 @@
 -- Bytes stored sixteen at a time, the last sixteen over some that are stored already.
 -- Assumes nothing.
 use mathlib.Core.Path.{_≡_, refl, sym, ap, _∙_}
-use mathlib.Core.List.{List, [], _∷_, _++_}
+use mathlib.Core.List.{List, [], _∷_}
 use Prim.Native.Nat.{ℕ, suc, _+_, _-_, _≤_, _<_}
 use native.Mathlib.Omega.{arith}
-use lib.ListN.{length, take, drop, set, take-append-drop, length-drop}
+use lib.ListN.{length, take, drop, set, length-drop}
 use lib.Seq.{sets, set-set, set-comm, take-add, take-all, length-take-le}
 use Rattle.tag.proofs.Storing.{sets-append}
 

@@ -4,7 +4,6 @@
 use mathlib.Core.Path.{_≡_}
 use mathlib.Core.List.{List, [], _∷_, map}
 use Prim.Native.Nat.{ℕ}
-use Prim.Native.String.{String}
 use Rattle.uri.specs.Prefixes.{bytesOf}
 use Rattle.uri.specs.Payload.{Expanded, uri, refused, uriOf, payloadOf}
 

@@ -1,7 +1,7 @@
 -- The proof of the cycle of calls {message_uri, message_with, record_uri, records_uri}. The measure is four times the length of what is
 -- still to be read: of the message, and for a record of its payload, which is shorter than the message.
 -- Assumes nothing.
-use mathlib.Core.Path.{_≡_, refl, sym, ap, subst, _∙_}
+use mathlib.Core.Path.{refl, sym, ap, _∙_}
 use Prim.Native.Nat.{ℕ, _+_, _-_, _*_, _<_}
 use native.Mathlib.Omega.{arith}
 use borrow.Author.Needs.{needs}
@@ -12,7 +12,7 @@ use Rattle.tag.proofs.Octets.{octets-of}
 use Rattle.ndef.proofs.read.keep_headers.Reads as keep-headers-reads
 use Rattle.ndef.proofs.read.place_by.Reads as place-by-reads
 use Rattle.smart_poster.specs.Uris.{ofPoster}
-use Rattle.smart_poster.specs.Views.Places.{kindAs, shown, Stands}
+use Rattle.smart_poster.specs.Views.Places.{kindAs}
 use Rattle.smart_poster.proofs.Walking.{Reached, at-start, at-end, number-there, number-fits, place-lies, place-further, stopped, gone-on}
 use Rattle.smart_poster.proofs.Arms.{cut, cut-long, other-gives, uri-gives, too-deep, poster-gives, poster-movable, poster-stands, unreadable, readable}
 use Rattle.smart_poster.proofs.messages.message_uri.Reads as message-uri

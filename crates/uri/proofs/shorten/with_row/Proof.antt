@@ -1,6 +1,6 @@
 -- `shorten::with_row` meets its contract. Assumes nothing.
 use mathlib.Core.Path.{_≡_, sym, subst, ap, _∙_}
-use Prim.Native.Nat.{ℕ, _+_, _*_, _-_, _/_, _≤_}
+use Prim.Native.Nat.{_+_, _*_, _-_, _/_, _≤_}
 use native.Mathlib.Omega.{arith}
 use Rattle.uri.specs.Views.Rows.{rowOf}
 use Rattle.uri.specs.Views.Choosing.{Best}
