@@ -18,12 +18,12 @@ use Rattle.uri.specs.Payload as payload
 use Rattle.uri.specs.Contracts.{ExpandedTo}
 use Rattle.smart_poster.specs.declared.UriAnswer.{UriAnswer}
 use Rattle.smart_poster.specs.declared.UriAnswer.the-variants as code
-use Rattle.smart_poster.specs.declared.places.Spot.{Spot}
-use Rattle.smart_poster.specs.declared.places.Spot.the-variants as spot
+use Rattle.smart_poster.specs.declared.spots.Spot.{Spot}
+use Rattle.smart_poster.specs.declared.spots.Spot.the-variants as spot
 use Rattle.smart_poster.specs.Uris.{ofPayload, urisOf}
 use Rattle.smart_poster.specs.First.{Found, refused, found, firstIn, inRoom, foundInto, toldOf, toldAs}
 use Rattle.smart_poster.specs.Contracts.{FoundFirst}
-use Rattle.smart_poster.specs.Views.Places.{shown, Stands}
+use Rattle.smart_poster.specs.Views.Spots.{foundAt, Stands}
 
 -- an answer for what was found
 abbrev Answers : List ℕ → Found → UriAnswer → List ℕ → Type 0
@@ -56,21 +56,21 @@ module _ (buffer : List ℕ) where
       go false (a, b) = (refuses-as r 12 a, b)
 
 module _ (s buffer : List ℕ) where
-  pub answers-refused : (k : ℕ) → shown s (spot.Refused k) ≡ firstIn (urisOf s) → FoundFirst s buffer (code.Refused k) buffer
-  unfolding shown
+  pub answers-refused : (k : ℕ) → foundAt s (spot.Refused k) ≡ firstIn (urisOf s) → FoundFirst s buffer (code.Refused k) buffer
+  unfolding foundAt
   answers-refused k e = rw (← e) (refl, refl)
 
-  pub answers-none : shown s spot.Nothing ≡ firstIn (urisOf s) → FoundFirst s buffer code.Nothing buffer
-  unfolding shown
+  pub answers-none : foundAt s spot.Nothing ≡ firstIn (urisOf s) → FoundFirst s buffer code.Nothing buffer
+  unfolding foundAt
   answers-none e = rw (← e) (refl, refl)
 
   module _ (x : Spot) (at len : ℕ) (q : x ≡ spot.At at len) where
     pub spot-inside : Stands s x → at + len ≤ length s
     spot-inside w = subst (Stands s) q w .0
 
-    pub answers-uri : shown s x ≡ firstIn (urisOf s) → (r c : CountAnswer) (out : List ℕ) → ExpandedTo (part at len s) buffer r out → r ≡ c
+    pub answers-uri : foundAt s x ≡ firstIn (urisOf s) → (r c : CountAnswer) (out : List ℕ) → ExpandedTo (part at len s) buffer r out → r ≡ c
         → FoundFirst s buffer (answerFor c) out
-    unfolding shown
+    unfolding foundAt
     answers-uri e r c out w z =
-        let here : firstIn (ofPayload (uriOf (part at len s))) ≡ firstIn (urisOf s) = sym (ap (shown s) q) ∙ e in
+        let here : firstIn (ofPayload (uriOf (part at len s))) ≡ firstIn (urisOf s) = sym (ap (foundAt s) q) ∙ e in
         rw (← z, ← here) (expands-as buffer (uriOf (part at len s)) r out w)

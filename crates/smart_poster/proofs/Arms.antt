@@ -21,13 +21,13 @@ use Rattle.ndef.specs.Views.Reading.{Keeps}
 use Rattle.ndef.proofs.Tables.{given, refused-reads}
 use Rattle.uri.specs.Payload.{uriOf, isUri}
 use Rattle.uri.proofs.Expanding.{not-a-uri}
-use Rattle.smart_poster.specs.declared.places.Spot.{Spot}
-use Rattle.smart_poster.specs.declared.places.Spot.the-variants as spot
+use Rattle.smart_poster.specs.declared.spots.Spot.{Spot}
+use Rattle.smart_poster.specs.declared.spots.Spot.the-variants as spot
 use Rattle.smart_poster.specs.Records.{Kind, uri-record, poster-record, other-record, kindOf}
 use Rattle.smart_poster.specs.Uris.{Uris, ofPayload, ofKind, ofRecord, ofParsed, ofPoster, ofMessage}
 use Rattle.smart_poster.specs.First.{firstIn}
-use Rattle.smart_poster.specs.Views.Places.{shown, Stands, Movable, movedBy, Readable, Lies}
-use Rattle.smart_poster.proofs.Spots.{part-long, movable, shown-moved, stands-moved}
+use Rattle.smart_poster.specs.Views.Spots.{foundAt, Stands, Movable, movedBy, Readable, Lies}
+use Rattle.smart_poster.proofs.Moving.{part-long, movable, found-moved, stands-moved}
 
 -- ---- a record
 
@@ -47,18 +47,18 @@ module _ (s : List ℕ) (p : Place) where
   unfolding ofRecord recordAt
   by-kind inner k e = ap (λ x. firstIn (ofKind inner x (partAt s (p .payload)))) e
 
-  pub other-gives : (inner : List ℕ → Uris) → other-record ≡ kind → shown s spot.Nothing ≡ firstIn (ofRecord inner (recordAt s p))
-  unfolding shown ofKind firstIn
+  pub other-gives : (inner : List ℕ → Uris) → other-record ≡ kind → foundAt s spot.Nothing ≡ firstIn (ofRecord inner (recordAt s p))
+  unfolding foundAt ofKind firstIn
   other-gives inner e = by-kind inner other-record e
 
-  pub uri-gives : (inner : List ℕ → Uris) → uri-record ≡ kind → (x : Spot) → shown s x ≡ firstIn (ofPayload (uriOf (partAt s (p .payload))))
-      → shown s x ≡ firstIn (ofRecord inner (recordAt s p))
+  pub uri-gives : (inner : List ℕ → Uris) → uri-record ≡ kind → (x : Spot) → foundAt s x ≡ firstIn (ofPayload (uriOf (partAt s (p .payload))))
+      → foundAt s x ≡ firstIn (ofRecord inner (recordAt s p))
   unfolding ofKind
   uri-gives inner e x q = q ∙ by-kind inner uri-record e
 
   module _ (posters : ℕ) (e : poster-record ≡ kind) where
-    pub too-deep : posters ≡ 0 → shown s (spot.Refused 35) ≡ firstIn (ofRecord (ofPoster posters) (recordAt s p))
-    unfolding shown ofKind ofPoster firstIn
+    pub too-deep : posters ≡ 0 → foundAt s (spot.Refused 35) ≡ firstIn (ofRecord (ofPoster posters) (recordAt s p))
+    unfolding foundAt ofKind ofPoster firstIn
     too-deep z = rw z (by-kind (ofPoster 0) poster-record e)
 
     -- the poster's message, one poster less being allowed inside it
@@ -71,11 +71,11 @@ module _ (s : List ℕ) (p : Place) where
         go (suc n) f = rw sub-one refl
 
     module _ (l : Lies (length s) p) (x : Spot) (w : Stands (partAt s (p .payload)) x) where
-      pub poster-gives : (posters ≡ 0 → ⊥) → shown (partAt s (p .payload)) x ≡ firstIn (ofMessage (posters - 1) (partAt s (p .payload)))
-          → shown s (movedBy (p .payload .at) x) ≡ firstIn (ofRecord (ofPoster posters) (recordAt s p))
+      pub poster-gives : (posters ≡ 0 → ⊥) → foundAt (partAt s (p .payload)) x ≡ firstIn (ofMessage (posters - 1) (partAt s (p .payload)))
+          → foundAt s (movedBy (p .payload .at) x) ≡ firstIn (ofRecord (ofPoster posters) (recordAt s p))
       unfolding ofKind
       poster-gives f q =
-          shown-moved s (p .payload .at) (p .payload .len) (l .payload-inside) x w ∙ q ∙ ap firstIn (inside-it f) ∙ by-kind (ofPoster posters) poster-record e
+          found-moved s (p .payload .at) (p .payload .len) (l .payload-inside) x w ∙ q ∙ ap firstIn (inside-it f) ∙ by-kind (ofPoster posters) poster-record e
 
   module _ (l : Lies (length s) p) (x : Spot) (w : Stands (partAt s (p .payload)) x) where
     pub poster-movable : length s < 2 ^ 64 → Movable (p .payload .at) x
@@ -87,8 +87,8 @@ module _ (s : List ℕ) (p : Place) where
 -- ---- a message
 
 module _ (s : List ℕ) (r : CountAnswer) (e : countAs r ≡ countOf (read s)) where
-  pub unreadable : (inner : List ℕ → Uris) (k : ℕ) → r ≡ counted.Refused k → shown s (spot.Refused k) ≡ firstIn (ofParsed inner (messageOf s))
-  unfolding shown ofParsed firstIn
+  pub unreadable : (inner : List ℕ → Uris) (k : ℕ) → r ≡ counted.Refused k → foundAt s (spot.Refused k) ≡ firstIn (ofParsed inner (messageOf s))
+  unfolding foundAt ofParsed firstIn
   unreadable inner k q = rw (refused-reads s k (refused-exactly (read s) r k e .0 q))
 
   pub readable : Octets s → (k : ℕ) (before kept : List ℕ) → r ≡ counted.Count k → Keeps s before r kept → Readable s kept
@@ -106,10 +106,10 @@ module _ (s : List ℕ) (at len : ℕ) where
   abbrev here : List ℕ
   here = part at len s
 
-  pub no-uri : isUri (uriOf here) ≡ false → shown s (spot.Refused 34) ≡ firstIn (ofPayload (uriOf here))
-  unfolding shown ofPayload firstIn
+  pub no-uri : isUri (uriOf here) ≡ false → foundAt s (spot.Refused 34) ≡ firstIn (ofPayload (uriOf here))
+  unfolding foundAt ofPayload firstIn
   no-uri q = rw (not-a-uri here q)
 
-  pub some-uri : at + len ≤ length s → isUri (uriOf here) ≡ true → (shown s (spot.At at len) ≡ firstIn (ofPayload (uriOf here))) × Stands s (spot.At at len)
-  unfolding shown
+  pub some-uri : at + len ≤ length s → isUri (uriOf here) ≡ true → (foundAt s (spot.At at len) ≡ firstIn (ofPayload (uriOf here))) × Stands s (spot.At at len)
+  unfolding foundAt
   some-uri h q = (refl, (h, q))

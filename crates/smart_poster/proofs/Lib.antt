@@ -1,7 +1,7 @@
 -- Laws about URIs in messages, and what the code needs of them. Nothing here states a rule.
 pub mod RecordKinds
 pub mod Folding
-pub mod Spots
+pub mod Moving
 pub mod Walking
 pub mod Arms
 pub mod Answering

@@ -160,7 +160,7 @@ at-top s = refl
 
 -- A record that stands inside n posters, in a message that gives URIs: n posters are fewer than are allowed, and the record gives some of
 -- the URIs.
-pub record Reached (d n : ℕ) (r : Record) (us : List (List ℕ)) : Type 0 where
+pub record Within (d n : ℕ) (r : Record) (us : List (List ℕ)) : Type 0 where
   pub left : ℕ
   pub deep : d ≡ n + suc left
   pub own : List (List ℕ)
@@ -168,17 +168,17 @@ pub record Reached (d n : ℕ) (r : Record) (us : List (List ℕ)) : Type 0 wher
   pub among : (u : List ℕ) → OneOf u own → OneOf u us
 
 -- one of the message's own
-reached-own : (d : ℕ) (r : Record) (s : List ℕ) (us : List (List ℕ)) → ofPoster d s ≡ uris us → RecordOf r s → Reached d 0 r us
-reached-own zero r s us e w = absurd (omega (arith, gives-reads 0 s us e .0))
-reached-own (suc d) r s us e (rs, q, w) =
+within-own : (d : ℕ) (r : Record) (s : List ℕ) (us : List (List ℕ)) → ofPoster d s ≡ uris us → RecordOf r s → Within d 0 r us
+within-own zero r s us e w = absurd (omega (arith, gives-reads 0 s us e .0))
+within-own (suc d) r s us e (rs, q, w) =
     let g = each-gives (ofPoster d) rs us r (sym (of-records d s rs q) ∙ e) w in
     record { left = d; deep = omega arith; own = g .0; gives = g .1; among = g .2 }
 
-pub reached : (n d : ℕ) (r : Record) (s : List ℕ) (us : List (List ℕ)) → ofPoster d s ≡ uris us → StandsIn n r s → Reached d n r us
-reached zero d r s us e w = reached-own d r s us e w
-reached (suc n) d r s us e (p, w, k, v) =
-    let a = reached-own d p s us e w in
-    let b = reached n (a .left) r (payloadOfRecord p) (a .own) (sym (as-poster (ofPoster (a .left)) p k) ∙ a .gives) v in
+pub within : (n d : ℕ) (r : Record) (s : List ℕ) (us : List (List ℕ)) → ofPoster d s ≡ uris us → StandsIn n r s → Within d n r us
+within zero d r s us e w = within-own d r s us e w
+within (suc n) d r s us e (p, w, k, v) =
+    let a = within-own d p s us e w in
+    let b = within n (a .left) r (payloadOfRecord p) (a .own) (sym (as-poster (ofPoster (a .left)) p k) ∙ a .gives) v in
     record { left = b .left; deep = omega (arith, a .deep, b .deep); own = b .own; gives = b .gives; among = λ u x. a .among u (b .among u x) }
 
 -- ---- from a URI to its record

@@ -22,7 +22,7 @@ use Rattle.smart_poster.specs.First.{Found, none, found, firstIn, inRoom
 use Rattle.smart_poster.specs.First as looked
 use Rattle.smart_poster.specs.Contracts.{FoundFirst}
 use Rattle.smart_poster.specs.Claims.{OneOf, kindOfRecord, payloadOfRecord, Reads, StandsIn, EachIsExpansion, FaultsExactly, FirstOfAll, Calls}
-use Rattle.smart_poster.proofs.Standing.{of-payload, as-uri, as-poster, first-fault, gives-reads, at-top, Reached, reached, comes, all-given}
+use Rattle.smart_poster.proofs.Standing.{of-payload, as-uri, as-poster, first-fault, gives-reads, at-top, Within, within, comes, all-given}
 use Rattle.smart_poster.proofs.Lengths.{payload-short, uri-short}
 
 -- ---- the claims about the definitions
@@ -32,8 +32,8 @@ module _ (s : List ℕ) (us : List (List ℕ)) (e : urisOf s ≡ uris us) where
   in-poster = sym (at-top s) ∙ e
 
   module _ (n : ℕ) (r : Record) (w : StandsIn n r s) where
-    abbrev its : Reached (suc deepest) n r us
-    its = reached n (suc deepest) r s us in-poster w
+    abbrev its : Within (suc deepest) n r us
+    its = within n (suc deepest) r s us in-poster w
 
     its-uri : kindOfRecord r ≡ uri-record → (u : List ℕ) × OneOf u us × (uriOf (payloadOfRecord r) ≡ uri u)
     its-uri k =

@@ -23,13 +23,13 @@ use Rattle.ndef.proofs.Turns.{too-many, whole, Step, step, none-read, length-is
 use Rattle.ndef.proofs.Packing.{Split, split-start, split-turn, kept-packed, kept-within, says-unpacked}
 use Rattle.ndef.proofs.Filling.{place-is}
 use Rattle.ndef.proofs.Tables.{record-at, from-start}
-use Rattle.smart_poster.specs.declared.places.Spot.{Spot}
-use Rattle.smart_poster.specs.declared.places.Spot.the-variants as spot
+use Rattle.smart_poster.specs.declared.spots.Spot.{Spot}
+use Rattle.smart_poster.specs.declared.spots.Spot.the-variants as spot
 use Rattle.smart_poster.specs.Uris.{Uris, ofRecord, ofRecords, ofParsed}
 use Rattle.smart_poster.specs.First.{Found, firstIn}
-use Rattle.smart_poster.specs.Views.Places.{shown, Stands, isRefused, earlierOf, Readable, Lies}
+use Rattle.smart_poster.specs.Views.Spots.{foundAt, Stands, isRefused, earlierOf, Readable, Lies}
 use Rattle.smart_poster.proofs.Folding.{joined, joined-none, joined-joined, first-then}
-use Rattle.smart_poster.proofs.Spots.{joined-refused, shown-earlier, stands-earlier, earlier-fine, refusal-is}
+use Rattle.smart_poster.proofs.Moving.{joined-refused, found-earlier, stands-earlier, earlier-fine, refusal-is}
 
 -- the place of a record ends where the next record starts
 pub ends-at : (at : ℕ) (s : List ℕ) → placeOf at s .payload .at + placeOf at s .payload .len ≡ at + recordLength s
@@ -45,12 +45,12 @@ module _ (inner : List ℕ → Uris) (s : List ℕ) (list : List Record) where
     pub inside : at ≤ length s
     pub headers : Split s count at
     pub left : recordsOf first (16 - count) (drop at s) ≡ records rest
-    pub same : firstIn (ofRecords inner list) ≡ joined (shown s x) (firstIn (ofRecords inner rest))
+    pub same : firstIn (ofRecords inner list) ≡ joined (foundAt s x) (firstIn (ofRecords inner rest))
     pub stands : Stands s x
     pub fine : isRefused x ≡ false
 
   pub started : recordsOf 1 16 s ≡ records list → Walked 0 0 spot.Nothing
-  unfolding shown
+  unfolding foundAt
   started e = record {
     first = 1;
     rest = list;
@@ -64,12 +64,12 @@ module _ (inner : List ℕ → Uris) (s : List ℕ) (list : List Record) where
   }
 
   module _ {at count : ℕ} {x : Spot} (w : Walked at count x) where
-    pub ended : length s ≤ at → shown s x ≡ firstIn (ofRecords inner list)
+    pub ended : length s ≤ at → foundAt s x ≡ firstIn (ofRecords inner list)
     unfolding ofRecords firstIn
     ended l =
         let none : length (drop at s) ≡ 0 = rw length-drop (omega arith) in
         let all : w .rest ≡ [] = none-read (w .first) (16 - count) (drop at s) (w .rest) none (w .left) in
-        sym (w .same ∙ ap (λ rs. joined (shown s x) (firstIn (ofRecords inner rs))) all ∙ joined-none (shown s x))
+        sym (w .same ∙ ap (λ rs. joined (foundAt s x) (firstIn (ofRecords inner rs))) all ∙ joined-none (foundAt s x))
 
     module _ (l : at < length s) where
       abbrev d : List ℕ
@@ -123,16 +123,16 @@ module _ (inner : List ℕ → Uris) (s : List ℕ) (list : List Record) where
         pub kept-there : count < length (overwrite (packedHeaders 16 s) before)
         kept-there = kept-within s (w .headers) room some-left before
 
-      module _ (y : Spot) (e : shown s y ≡ firstIn (ofRecord inner (recordAt s (placeOf at d)))) where
+      module _ (y : Spot) (e : foundAt s y ≡ firstIn (ofRecord inner (recordAt s (placeOf at d)))) where
         -- what the records from `at` on give
-        onward : firstIn (ofRecords inner (w .rest)) ≡ joined (shown s y) (firstIn (ofRecords inner (taken .more)))
+        onward : firstIn (ofRecords inner (w .rest)) ≡ joined (foundAt s y) (firstIn (ofRecords inner (taken .more)))
         unfolding ofRecords
         onward =
             ap (λ rs. firstIn (ofRecords inner rs)) (taken .list-is)
             ∙ first-then (ofRecord inner (recordOf d)) (ofRecords inner (taken .more))
             ∙ ap (λ f. joined f (firstIn (ofRecords inner (taken .more)))) (ap (λ r. firstIn (ofRecord inner r)) (sym (record-at s at)) ∙ sym e)
 
-        pub failed : isRefused y ≡ true → shown s y ≡ firstIn (ofRecords inner list)
+        pub failed : isRefused y ≡ true → foundAt s y ≡ firstIn (ofRecords inner list)
         failed q =
             let (r, f) = refusal-is s y q in
             sym (w .same ∙ rw (onward, f, joined-refused s x r (w .fine) (w .stands)))
@@ -146,9 +146,9 @@ module _ (inner : List ℕ → Uris) (s : List ℕ) (list : List Record) where
           headers = rw (ends-at at d) (split-turn s (w .headers) room some-left);
           left = rw (ends-at at d, ← drop-drop (recordLength d) at s) (taken .reads-more);
           same = w .same
-              ∙ ap (joined (shown s x)) onward
-              ∙ sym (joined-joined (shown s x) (shown s y) (firstIn (ofRecords inner (taken .more))))
-              ∙ ap (λ f. joined f (firstIn (ofRecords inner (taken .more)))) (sym (shown-earlier s x y (w .fine) q (w .stands) v));
+              ∙ ap (joined (foundAt s x)) onward
+              ∙ sym (joined-joined (foundAt s x) (foundAt s y) (firstIn (ofRecords inner (taken .more))))
+              ∙ ap (λ f. joined f (firstIn (ofRecords inner (taken .more)))) (sym (found-earlier s x y (w .fine) q (w .stands) v));
           stands = stands-earlier s x y (w .stands) v;
           fine = earlier-fine x y (w .fine) q;
         }
@@ -175,7 +175,7 @@ module _ (inner : List ℕ → Uris) (s kept : List ℕ) where
     abbrev r : Readable s kept
     r = w .readable
 
-    pub at-end : length s ≤ at → shown s x ≡ all
+    pub at-end : length s ≤ at → foundAt s x ≡ all
     at-end l = ended inner s (r .list) (w .walked) l ∙ sym (all-is (r .list) (r .reads))
 
     module _ (l : at < length s) where
@@ -195,11 +195,11 @@ module _ (inner : List ℕ → Uris) (s kept : List ℕ) where
         pub place-further : at < p .payload .at + p .payload .len
         place-further = rw e (further inner s (r .list) (w .walked) l)
 
-        module _ (y : Spot) (q : shown s y ≡ firstIn (ofRecord inner (recordAt s p))) where
-          abbrev there : shown s y ≡ firstIn (ofRecord inner (recordAt s (placeOf at (drop at s))))
+        module _ (y : Spot) (q : foundAt s y ≡ firstIn (ofRecord inner (recordAt s p))) where
+          abbrev there : foundAt s y ≡ firstIn (ofRecord inner (recordAt s (placeOf at (drop at s))))
           there = rw e at q
 
-          pub stopped : isRefused y ≡ true → shown s y ≡ all
+          pub stopped : isRefused y ≡ true → foundAt s y ≡ all
           stopped z = failed inner s (r .list) (w .walked) l y there z ∙ sym (all-is (r .list) (r .reads))
 
           pub gone-on : isRefused y ≡ false → Stands s y → Reached inner s kept (p .payload .at + p .payload .len) (count + 1) (earlierOf x y)

@@ -2,7 +2,7 @@
 
 use crate::UriAnswer;
 use crate::messages;
-use crate::places::Spot;
+use crate::spots::Spot;
 use tag::CountAnswer;
 ghost use Rattle.smart_poster.specs.Contracts.{FoundFirst};
 

@@ -2,8 +2,8 @@
 
 pub mod first;
 mod messages;
-mod places;
 mod records;
+mod spots;
 
 // The answer of looking for the first URI: a refusal, none, or how many bytes the URI has.
 pub enum UriAnswer {

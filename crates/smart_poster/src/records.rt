@@ -7,7 +7,7 @@ ghost use Prim.Native.Nat.{_+_, _≤_};
 ghost use lib.ListN.{length};
 ghost use Rattle.ndef.specs.Places.{partAt};
 ghost use Rattle.smart_poster.specs.Records.{kindOf};
-ghost use Rattle.smart_poster.specs.Views.Places.{kindAs};
+ghost use Rattle.smart_poster.specs.Views.Spots.{kindAs};
 
 // TNF 1: the type is one of the NFC Forum's own.
 const WELL_KNOWN: usize = 1;

@@ -3,7 +3,7 @@ use mathlib.Core.Path.{sym, ap, _∙_}
 use native.Mathlib.Omega.{arith}
 use borrow.Author.Needs.{needs}
 use Rattle.tag.specs.declared.CountAnswer.the-variants as counted
-use Rattle.smart_poster.specs.Views.Places.{shown}
+use Rattle.smart_poster.specs.Views.Spots.{foundAt}
 use Rattle.smart_poster.proofs.Arms.{cut}
 use Rattle.smart_poster.proofs.Answering.{answers-refused, answers-none, spot-inside, answers-uri}
 use Rattle.smart_poster.proofs.first.first.Statement.{statement}
@@ -28,13 +28,13 @@ returns c =
     let at-spot = c .before in
     let m = at-spot .before .before in
     let a = m .before .before .before .args in
-    answers-refused (a .message .now) (a .buffer .now) _ (ap (shown (a .message .now)) (sym (at-spot .spot .given .1)) ∙ m .message-uri .ensures .0)
+    answers-refused (a .message .now) (a .buffer .now) _ (ap (foundAt (a .message .now)) (sym (at-spot .spot .given .1)) ∙ m .message-uri .ensures .0)
 
 returns-2 : tie.Need-returns-2
 returns-2 c =
     let m = c .before .before in
     let a = m .before .before .before .args in
-    answers-none (a .message .now) (a .buffer .now) (ap (shown (a .message .now)) (sym (c .enum-told .given .1)) ∙ m .message-uri .ensures .0)
+    answers-none (a .message .now) (a .buffer .now) (ap (foundAt (a .message .now)) (sym (c .enum-told .given .1)) ∙ m .message-uri .ensures .0)
 
 returns-3 : tie.Need-returns-3
 returns-3 c =

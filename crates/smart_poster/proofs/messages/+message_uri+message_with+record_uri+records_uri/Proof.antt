@@ -12,7 +12,7 @@ use Rattle.tag.proofs.Octets.{octets-of}
 use Rattle.ndef.proofs.read.keep_headers.Reads as keep-headers-reads
 use Rattle.ndef.proofs.read.place_by.Reads as place-by-reads
 use Rattle.smart_poster.specs.Uris.{ofPoster}
-use Rattle.smart_poster.specs.Views.Places.{kindAs}
+use Rattle.smart_poster.specs.Views.Spots.{kindAs}
 use Rattle.smart_poster.proofs.Walking.{Reached, at-start, at-end, number-there, number-fits, place-lies, place-further, stopped, gone-on}
 use Rattle.smart_poster.proofs.Arms.{cut, cut-long, other-gives, uri-gives, too-deep, poster-gives, poster-movable, poster-stands, unreadable, readable}
 use Rattle.smart_poster.proofs.messages.message_uri.Reads as message-uri
@@ -28,9 +28,9 @@ use Rattle.smart_poster.proofs.messages.records_uri.Reads as records-ur
 use Rattle.smart_poster.proofs.messages.records_uri.Kinds as records-uri-kinds
 use Rattle.smart_poster.proofs.messages.+message_uri+message_with+record_uri+records_uri.Lts-records_uri as records-uri-lts
 use Rattle.smart_poster.proofs.messages.uri_record.Reads as uri-record-reads
-use Rattle.smart_poster.proofs.places.earlier.Reads as earlier-reads
-use Rattle.smart_poster.proofs.places.is_refused.Reads as is-refused-reads
-use Rattle.smart_poster.proofs.places.moved.Reads as moved-reads
+use Rattle.smart_poster.proofs.spots.earlier.Reads as earlier-reads
+use Rattle.smart_poster.proofs.spots.is_refused.Reads as is-refused-reads
+use Rattle.smart_poster.proofs.spots.moved.Reads as moved-reads
 use Rattle.smart_poster.proofs.records.kind_of.Reads as kind-of-reads
 use Rattle.smart_poster.proofs.messages.+message_uri+message_with+record_uri+records_uri.{statement}
 use Rattle.smart_poster.proofs.messages.+message_uri+message_with+record_uri+records_uri.Tie.{close}

@@ -1,10 +1,10 @@
--- `places::moved` meets its contract. Assumes nothing.
+-- `spots::moved` meets its contract. Assumes nothing.
 use mathlib.Core.Path.{sym, ap, subst}
 use native.Mathlib.Omega.{arith}
 use borrow.Author.Needs.{needs}
-use Rattle.smart_poster.specs.Views.Places.{Movable, movedBy}
-use Rattle.smart_poster.proofs.places.moved.Statement.{statement}
-use Rattle.smart_poster.proofs.places.moved.Tie as tie
+use Rattle.smart_poster.specs.Views.Spots.{Movable, movedBy}
+use Rattle.smart_poster.proofs.spots.moved.Statement.{statement}
+use Rattle.smart_poster.proofs.spots.moved.Tie as tie
 
 add-t7 : tie.Need-add-t7
 add-t7 c =

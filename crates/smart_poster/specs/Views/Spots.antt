@@ -13,8 +13,8 @@ use Rattle.ndef.specs.Views.Reading.{packedHeaders}
 use Rattle.uri.specs.Payload.{uriOf, isUri}
 use Rattle.smart_poster.specs.declared.records.RecordKind.{RecordKind}
 use Rattle.smart_poster.specs.declared.records.RecordKind.the-variants as kind
-use Rattle.smart_poster.specs.declared.places.Spot.{Spot}
-use Rattle.smart_poster.specs.declared.places.Spot.the-variants as spot
+use Rattle.smart_poster.specs.declared.spots.Spot.{Spot}
+use Rattle.smart_poster.specs.declared.spots.Spot.the-variants as spot
 use Rattle.smart_poster.specs.Records.{Kind, uri-record, poster-record, other-record}
 use Rattle.smart_poster.specs.Uris.{ofPayload}
 use Rattle.smart_poster.specs.First.{Found, refused, none, firstIn}
@@ -26,10 +26,10 @@ kindAs kind.Poster = poster-record
 kindAs kind.Other = other-record
 
 -- what a spot in s stands for
-unfoldable pub shown : List ℕ → Spot → Found
-shown s (spot.Refused r) = refused r
-shown s spot.Nothing = none
-shown s (spot.At at len) = firstIn (ofPayload (uriOf (part at len s)))
+unfoldable pub foundAt : List ℕ → Spot → Found
+foundAt s (spot.Refused r) = refused r
+foundAt s spot.Nothing = none
+foundAt s (spot.At at len) = firstIn (ofPayload (uriOf (part at len s)))
 
 -- the spot lies in s, and what lies there stands for a URI
 abbrev pub Stands : List ℕ → Spot → Type 0

@@ -1,9 +1,9 @@
--- `places::earlier` meets its contract. Assumes nothing.
+-- `spots::earlier` meets its contract. Assumes nothing.
 use mathlib.Core.Path.{sym, ap}
 use borrow.Author.Needs.{needs}
-use Rattle.smart_poster.specs.Views.Places.{earlierOf}
-use Rattle.smart_poster.proofs.places.earlier.Statement.{statement}
-use Rattle.smart_poster.proofs.places.earlier.Tie as tie
+use Rattle.smart_poster.specs.Views.Spots.{earlierOf}
+use Rattle.smart_poster.proofs.spots.earlier.Statement.{statement}
+use Rattle.smart_poster.proofs.spots.earlier.Tie as tie
 
 returns : tie.Need-returns
 returns c =

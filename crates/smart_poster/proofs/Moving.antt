@@ -11,11 +11,11 @@ use Rattle.tag.proofs.Logic.{nope}
 use Rattle.ndef.specs.Message.{part}
 use Rattle.uri.specs.Payload.{Expanded, uri, uriOf, isUri}
 use Rattle.uri.specs.Payload as payload
-use Rattle.smart_poster.specs.declared.places.Spot.{Spot}
-use Rattle.smart_poster.specs.declared.places.Spot.the-variants as spot
+use Rattle.smart_poster.specs.declared.spots.Spot.{Spot}
+use Rattle.smart_poster.specs.declared.spots.Spot.the-variants as spot
 use Rattle.smart_poster.specs.Uris.{ofPayload}
 use Rattle.smart_poster.specs.First.{refused, found, firstIn}
-use Rattle.smart_poster.specs.Views.Places.{shown, Stands, isRefused, Movable, movedBy, earlierOf}
+use Rattle.smart_poster.specs.Views.Spots.{foundAt, Stands, isRefused, Movable, movedBy, earlierOf}
 use Rattle.smart_poster.proofs.Folding.{joined}
 
 -- ---- a part of a part
@@ -45,11 +45,11 @@ module _ (s : List ℕ) (start len : ℕ) (h : start + len ≤ length s) where
   movable spot.Nothing l w = tt
   movable (spot.At at n) l w = omega (arith, w .0, part-long s start len h)
 
-  pub shown-moved : (x : Spot) → Stands t x → shown s (movedBy start x) ≡ shown t x
-  unfolding shown
-  shown-moved (spot.Refused r) w = refl
-  shown-moved spot.Nothing w = refl
-  shown-moved (spot.At at n) w = ap (λ p. firstIn (ofPayload (uriOf p))) (part-part s start len at n (omega (arith, w .0, part-long s start len h)))
+  pub found-moved : (x : Spot) → Stands t x → foundAt s (movedBy start x) ≡ foundAt t x
+  unfolding foundAt
+  found-moved (spot.Refused r) w = refl
+  found-moved spot.Nothing w = refl
+  found-moved (spot.At at n) w = ap (λ p. firstIn (ofPayload (uriOf p))) (part-part s start len at n (omega (arith, w .0, part-long s start len h)))
 
   pub stands-moved : (x : Spot) → Stands t x → Stands s (movedBy start x)
   stands-moved (spot.Refused r) w = tt
@@ -67,20 +67,20 @@ module _ (s : List ℕ) where
   uri-found (uri u) q = (u, refl)
   uri-found (payload.refused r) q = absurd (nope (cc))
 
-  pub joined-refused : (x : Spot) (r : ℕ) → isRefused x ≡ false → Stands s x → joined (shown s x) (refused r) ≡ refused r
-  unfolding shown
+  pub joined-refused : (x : Spot) (r : ℕ) → isRefused x ≡ false → Stands s x → joined (foundAt s x) (refused r) ≡ refused r
+  unfolding foundAt
   joined-refused (spot.Refused k) r q w = absurd (nope (cc))
   joined-refused spot.Nothing r q w = refl
   joined-refused (spot.At at n) r q w = let (u, e) = uri-found (uriOf (part at n s)) (w .1) in rw e
 
-  pub shown-earlier : (x y : Spot) → isRefused x ≡ false → isRefused y ≡ false → Stands s x → Stands s y
-      → shown s (earlierOf x y) ≡ joined (shown s x) (shown s y)
-  unfolding shown
-  shown-earlier (spot.Refused k) y p q v w = absurd (nope (cc))
-  shown-earlier spot.Nothing y p q v w = refl
-  shown-earlier (spot.At at n) (spot.Refused k) p q v w = absurd (nope (cc))
-  shown-earlier (spot.At at n) spot.Nothing p q v w = let (u, e) = uri-found (uriOf (part at n s)) (v .1) in rw e
-  shown-earlier (spot.At at n) (spot.At i m) p q v w =
+  pub found-earlier : (x y : Spot) → isRefused x ≡ false → isRefused y ≡ false → Stands s x → Stands s y
+      → foundAt s (earlierOf x y) ≡ joined (foundAt s x) (foundAt s y)
+  unfolding foundAt
+  found-earlier (spot.Refused k) y p q v w = absurd (nope (cc))
+  found-earlier spot.Nothing y p q v w = refl
+  found-earlier (spot.At at n) (spot.Refused k) p q v w = absurd (nope (cc))
+  found-earlier (spot.At at n) spot.Nothing p q v w = let (u, e) = uri-found (uriOf (part at n s)) (v .1) in rw e
+  found-earlier (spot.At at n) (spot.At i m) p q v w =
       let (u, e) = uri-found (uriOf (part at n s)) (v .1) in
       let (u′, e′) = uri-found (uriOf (part i m s)) (w .1) in
       rw (e, e′)
@@ -96,8 +96,8 @@ earlier-fine spot.Nothing y p q = q
 earlier-fine (spot.At at n) y p q = refl
 
 -- a refusal is the same wherever it is met
-pub refusal-is : (s : List ℕ) (x : Spot) → isRefused x ≡ true → (r : ℕ) × (shown s x ≡ refused r)
-unfolding shown
+pub refusal-is : (s : List ℕ) (x : Spot) → isRefused x ≡ true → (r : ℕ) × (foundAt s x ≡ refused r)
+unfolding foundAt
 refusal-is s (spot.Refused r) q = (r, refl)
 refusal-is s spot.Nothing q = absurd (nope (cc))
 refusal-is s (spot.At at n) q = absurd (nope (cc))

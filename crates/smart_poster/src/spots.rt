@@ -1,7 +1,7 @@
 // Where the payload of a URI record lies.
 
 ghost use mathlib.Core.Path.{_≡_};
-ghost use Rattle.smart_poster.specs.Views.Places.{Movable, isRefused, movedBy, earlierOf};
+ghost use Rattle.smart_poster.specs.Views.Spots.{Movable, isRefused, movedBy, earlierOf};
 
 // What was found in some bytes: a refusal, no URI record, or the start and the length of the first one's payload.
 pub(crate) enum Spot {
