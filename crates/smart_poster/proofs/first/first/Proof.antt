@@ -12,15 +12,17 @@ use Rattle.smart_poster.proofs.first.first.Tie as tie
 add-expand : tie.Need-add-expand
 add-expand c =
     let at-spot = c .before in
-    let m = at-spot .before .before .message-uri in
-    let a = at-spot .before .before .before .before .before .args in
+    let at-message = at-spot .before .before in
+    let m = at-message .message-uri in
+    let a = at-message .before .before .before .args in
     omega (arith, spot-inside (a .message .now) (a .buffer .now) (m .result) _ _ (at-spot .spot2 .given .1) (m .ensures .1))
 
 part-expand-end : tie.Need-part-expand-end
 part-expand-end c =
     let at-spot = c .before in
-    let m = at-spot .before .before .message-uri in
-    let a = at-spot .before .before .before .before .before .args in
+    let at-message = at-spot .before .before in
+    let m = at-message .message-uri in
+    let a = at-message .before .before .before .args in
     spot-inside (a .message .now) (a .buffer .now) (m .result) _ _ (at-spot .spot2 .given .1) (m .ensures .1)
 
 returns : tie.Need-returns
@@ -38,7 +40,8 @@ returns-2 c =
 
 returns-3 : tie.Need-returns-3
 returns-3 c =
-    let at-expand = c .before .before .before .before .before in
+    let at-match = c .before .before in
+    let at-expand = at-match .before .before .before in
     let at-spot = at-expand .before .before .before .before in
     let m = at-spot .before .before in
     let a = m .before .before .before .args in
@@ -48,7 +51,8 @@ returns-3 c =
 
 returns-4 : tie.Need-returns-4
 returns-4 c =
-    let at-expand = c .before .before .before .before .before in
+    let at-match = c .before .before in
+    let at-expand = at-match .before .before .before in
     let at-spot = at-expand .before .before .before .before in
     let m = at-spot .before .before in
     let a = m .before .before .before .args in

@@ -116,26 +116,28 @@ pub +message-uri+message-with+record-uri+records-uri-spec : {M : Type 1} → sta
     (λ c κs. c .before .pre .1 .type-inside)
     (λ c. search needs)
     (λ c. search needs)
-    (λ c κs. c .before .before .before .before .before .pre .1 .payload-inside)
+    (λ c κs. let at-kind = c .before .before .before in at-kind .before .before .pre .1 .payload-inside)
     (λ c. search needs)
     (λ c.
     let at-told = c .before in
     let at-kind = at-told .before .before .before in
     let a = at-kind .before .before .args in
     (too-deep (a .message .now) (a .p) (a .posters) (ap kindAs (sym (at-told .enum-told3 .given .1)) ∙ at-kind .kind-of .ensures) (c .if1 .taken), tt))
-    (λ c. omega (arith, (let at-told = c .before .before in at-told .before .before .before .before .before .pre .1 .payload-inside)))
+    (λ c. omega (arith, (let at-told = c .before .before in let at-kind = at-told .before .before .before in at-kind .before .before .pre .1 .payload-inside)))
     (λ c. omega arith)
     (λ c. omega arith)
-    (λ c. let at-told = c .before .before in at-told .before .before .before .before .before .pre .1 .payload-inside)
+    (λ c. let at-told = c .before .before in let at-kind = at-told .before .before .before in at-kind .before .before .pre .1 .payload-inside)
     (λ c. omega arith)
     (λ c κs.
     let at-told = c .before .before .before in
-    let start = at-told .before .before .before .before .before in
+    let at-kind = at-told .before .before .before in
+    let start = at-kind .before .before in
     let p = start .args .p .payload in
     (omega (arith, start .pre .0, cut-long (start .args .message .now) (p .at) (p .len) (start .pre .1 .payload-inside)), tt))
     (λ c κs.
     let at-told = c .before .before .before .before in
-    let start = at-told .before .before .before .before .before in
+    let at-kind = at-told .before .before .before in
+    let start = at-kind .before .before in
     let a = start .args in
     let stands = rw (cut (a .message .now) (a .p .payload .at) (a .p .payload .len)) at (c .message-uri .ensures .1) in
     poster-movable (a .message .now) (a .p) (start .pre .1) (c .message-uri .result) stands (omega arith))
@@ -205,7 +207,8 @@ pub +message-uri+message-with+record-uri+records-uri-spec : {M : Type 1} → sta
     omega (arith, place-lies (ofPoster (a .posters)) (a .message .now) (a .kept .now) (at-loop .loop .inv) (at-test .loop-test .taken) (p .result) (p .ensures) .payload-inside))
     (λ c.
     let at-if1 = c .before .before .before in
-    let at-test = at-if1 .before .before .before .before .before in
+    let at-place = at-if1 .before .before .before in
+    let at-test = at-place .before .before in
     omega (arith, at-test .before .loop .inv .walked .few))
     (λ c.
     let at-if1 = c .before .before .before in

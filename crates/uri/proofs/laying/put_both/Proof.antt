@@ -10,7 +10,8 @@ returns : tie.Need-returns
 returns c =
     let at-store2 = c .before .before in
     let at-store = at-store2 .before .before .before .before in
-    let start = at-store .before .before .before .before .before in
+    let at-arg = at-store .before in
+    let start = at-arg .before .before .before .before in
     let a = start .args in
     at-store2 .store .ensures ∙ ap (λ out. sets out 0 (a .front .now)) (at-store .store-quick .ensures) ∙ stored (a .front .now) (a .rest .now) (a .out .now) (start .pre)
 

@@ -50,7 +50,7 @@ store-long-spec =
     μ-loop
     (λ c. omega (arith, c .before .before .pre .0))
     (λ c. (refl, omega arith, refl))
-    (λ c. omega (arith, c .before .before .before .before .before .pre .1))
+    (λ c. let at-loop = c .before .before in omega (arith, at-loop .before .before .before .pre .1))
     (λ c κs.
     let at-loop = c .before .before in
     let p = at-loop .before .before .before .pre in
@@ -58,7 +58,7 @@ store-long-spec =
     (λ c. omega arith)
     (λ c. omega arith)
     loop-again
-    (λ c. omega (arith, c .before .before .before .before .before .pre .1))
+    (λ c. let at-loop = c .before .before in omega (arith, at-loop .before .before .before .pre .1))
     (λ c κs.
     let at-loop = c .before .before in
     let p = at-loop .before .before .before .pre in

@@ -39,7 +39,7 @@ with-row-spec =
     (λ c. omega (arith, c .before .before .pre .0 .0))
     (λ c. (omega arith, omega arith, c .before .before .pre .1))
     with-code-requires
-    (λ c. omega (arith, c .before .before .before .before .before .pre .0 .0))
+    (λ c. let at-loop = c .before .before in omega (arith, at-loop .before .before .before .pre .0 .0))
     (λ c. omega arith)
     (λ c. (omega (arith, c .before .before .loop .inv .0), omega arith, c .with-code .ensures))
     returns)
