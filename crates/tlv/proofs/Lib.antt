@@ -4,6 +4,8 @@ pub mod Sizes
 pub mod Fuel
 pub mod Skipping
 pub mod Counted
+pub mod Ends
+pub mod Tests
 pub mod Usable
 pub mod Rising
 pub mod PassedValues
@@ -11,3 +13,5 @@ pub mod Turns
 pub mod Steps
 pub mod SkipTable
 pub mod Finding
+pub mod Specimens
+pub mod Nested

@@ -2,6 +2,8 @@
 pub mod Table
 pub mod Areas
 pub mod Counted
+pub mod Search
+pub mod Specimens
 pub mod Walks
 pub mod Passing
 pub mod Finding

@@ -26,3 +26,7 @@ Declared first end t u = (n : ℕ) × Added first end n t u
 -- the table of n areas, which was all zeros before the first
 abbrev pub TableOf : ℕ → ℕ → List ℕ → Type 0
 TableOf end n table = Added 0 end n (replicate (length table) 0) table
+
+-- a table that areas made, however many
+abbrev pub TableOfAreas : ℕ → List ℕ → Type 0
+TableOfAreas end table = (n : ℕ) × TableOf end n table
