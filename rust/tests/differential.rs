@@ -7,6 +7,8 @@
 #[cfg(not(zanfirotta_archive))]
 compile_error!("libzanfirotta.a is missing: run `rt staticlib zanfirotta` at the repository's top");
 
+#[path = "differential/areas.rs"]
+mod areas;
 #[path = "differential/capacity.rs"]
 mod capacity;
 mod common;
@@ -116,6 +118,16 @@ fn type3_every_capacity() {
 #[test]
 fn type6_every_capacity() {
     capacity::every_type6();
+}
+
+#[test]
+fn type2_every_two_areas() {
+    areas::every_two();
+}
+
+#[test]
+fn type2_every_stack_of_areas() {
+    areas::every_stack();
 }
 
 #[test]

@@ -77,6 +77,16 @@ fn image2_with(before: &[u8], message: &[u8]) -> Vec<u8> {
     image2(1024, &[&start, message, &[0xFE]].concat())
 }
 
+/// A Type 2 image of 1,024 bytes with memory areas of these sizes, each from 512 on, where 0 stands for
+/// 256. The message of 240 bytes begins before them and goes on behind them.
+fn image2_across(sizes: impl Iterator<Item = u8>) -> Vec<u8> {
+    let controls = sizes.flat_map(|size| [0x02, 0x03, 0x80, size, 0x06]);
+    let data: Vec<u8> = controls.chain([0x03, 240]).collect();
+    let mut image = image2(1024, &data);
+    image[16 + data.len()..].fill(OLD);
+    image
+}
+
 /// A Type 3 image with this message, which fills all blocks after block 0.
 fn image3_with(nbw: u8, message: &[u8]) -> Vec<u8> {
     let [high, low] = ((message.len() / 16) as u16).to_be_bytes();
@@ -122,6 +132,8 @@ fn whole() -> Vec<Case> {
     }
     areas.extend([0x03, 0x04, 0xD0, 0x00, 0x00, 0x00, 0xFE]);
     let areas = image2(1024, &areas);
+    // 256 bytes, 255, and so on down to 161.
+    let shrinking = image2_across((0..96).map(|i: u8| i.wrapping_neg()));
 
     let plain = image2_with(&[], &[OLD; 1000]);
     // An area of 16 bytes at 960, behind the message.
@@ -138,6 +150,13 @@ fn whole() -> Vec<Case> {
         case("2: 64 bytes, full", Type2, small, &[NEW; 46]),
         case("2: 1,024 bytes of NULL TLVs", Type2, nulls, &[NEW; 20]),
         case("2: 1,024 bytes, 190 areas", Type2, areas, &[NEW; 40]),
+        case(
+            "2: 60 areas of 256 bytes",
+            Type2,
+            image2_across([0; 60].into_iter()),
+            &[NEW; 240],
+        ),
+        case("2: 96 shrinking areas", Type2, shrinking, &[NEW; 240]),
         case("2: 1,000 bytes of message", Type2, plain, &[NEW; 1000]),
         case(
             "2: 930 bytes, an area behind",

@@ -6,7 +6,7 @@
 pub mod codec;
 mod guarded;
 pub mod kinds;
-mod layout2;
+pub mod layout2;
 pub mod lists2;
 pub mod lists3;
 pub mod lists6;
