@@ -10,15 +10,15 @@ ghost use Rattle.tlv.specs.Views.Areas.{SkipsSet};
 ghost use Rattle.tlv.specs.Views.Counted.{TableOf, TableOfAreas};
 ghost use Rattle.tlv.specs.Views.Search.{tests};
 
-// Where a search for a usable address ended, and how many addresses it tested. Testing an address is looking at its table entry; the
-// address found was tested too.
+// Where a search for a usable address ended, and how many addresses it tested. To test an address is to look at its entry; the address
+// found is one of those tested.
 pub struct Searched {
     pub address: Address,
     pub tested: usize,
 }
 
-// The first usable address from `at` on, or `end`. From a skipped address the search goes to the end in its entry, past an area at
-// once. The ends that it meets rise, so no area serves twice: it tests at most one address more than areas were declared.
+// The first usable address from `at` on, or `end`. From a skipped address the search goes to the end in its entry, so it passes a
+// whole area at once. The ends that it meets rise, so no area serves twice: it tests at most one address more than areas were declared.
 pub fn search(table: &[u16], at: Address, end: Address) -> Searched
     requires { ⌜ (at .0 ≤ end .0) × (end .0 ≤ length (now table)) × TableOfAreas (end .0) (now table) ⌝ }
     ensures within { λ r. ⌜ (at .0 ≤ r .address .0) × (r .address .0 ≤ end .0) ⌝ }
@@ -47,7 +47,7 @@ pub fn search(table: &[u16], at: Address, end: Address) -> Searched
     }
 }
 
-// The first usable address from `at` on, or `end`, without the count.
+// The same without the count, for callers that need the address alone.
 pub fn next_usable(table: &[u16], at: Address, end: Address) -> Address
     requires { ⌜ (at .0 ≤ end .0) × (end .0 ≤ length (now table)) × TableOfAreas (end .0) (now table) ⌝ }
     ensures within { λ r. ⌜ (at .0 ≤ r .0) × (r .0 ≤ end .0) ⌝ }
