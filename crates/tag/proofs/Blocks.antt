@@ -4,7 +4,7 @@
 use mathlib.Core.Path.{◌≡◌, refl, sym, ◌∙◌}
 use mathlib.Core.Bool.{Bool, true, false, ◌&&◌, true≢false}
 use mathlib.Core.Logic.{◌⊎◌, inl, inr, ◌↔◌, ⊎_elim}
-use mathlib.Core.List.{List, ◌∷◌}
+use mathlib.Core.List.{List, [], ◌∷◌}
 use Prim.Native.Nat.{ℕ, zero, suc, ◌+◌, ◌-◌, ◌*◌, ◌/◌, ◌%◌, ◌<◌, ◌≤◌}
 use native.Mathlib.Nat.{div-add-mod, mod-lt, mul-le-mul_left, div-lt_iff_lt-mul}
 use native.Mathlib.Omega.{arith}
@@ -38,10 +38,12 @@ chunk-each P w (suc c) ss h = (each_take P w ss h, chunk-each P w c (drop w ss) 
 
 some-split : (a n : ℕ) (ss : List Store) → Some a ss → Some a (take n ss) ⊎ Some a (drop n ss)
 some-split a zero ss h = inr h
+some-split a (suc n) [] h = elim h [ ]
 some-split a (suc n) (s ∷ ss) (inl h) = inl (inl h)
 some-split a (suc n) (s ∷ ss) (inr h) = ⊎_elim (λ x. inl (inr x)) inr (some-split a n ss h)
 
 chunk-some : (a w c : ℕ) (ss : List Store) → length ss ≤ w * c → Some a ss → Somes a (chunk w c ss)
+chunk-some a w zero [] l h = elim h [ ]
 chunk-some a w zero (s ∷ ss) l h = absurd (omega arith)
 chunk-some a w (suc c) ss l h =
     let k : length (drop w ss) ≤ w * c = rw length-drop (omega arith) in

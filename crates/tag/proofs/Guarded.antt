@@ -59,6 +59,7 @@ Some a [] = ⊥
 Some a (s ∷ ss) = In s a ⊎ Some a ss
 
 pub new-puts : (n : List ℕ) (ss : List Store) (j : List ℕ) (a : ℕ) → a < length j → Each (PartOf n) ss → (Some a ss) ⊎ (byte j a ≡ byte n a) → byte (puts j ss) a ≡ byte n a
+new-puts n [] j a l p (inl x) = elim x [ ]
 new-puts n [] j a l p (inr e) = e
 new-puts n (s ∷ ss) j a l p h = new-puts n ss (put j s) a (omega (arith, length-sets j s.at s.bytes)) p.1 (go h)
   where
@@ -130,6 +131,7 @@ module _ (t : Task) (g : Guard t) where
       go (fresh x y) = y ∙ g.new-kept a l q
 
   new-runs : (sss : List (List Store)) (j : List ℕ) (a : ℕ) → a < length j → Eaches Beside sss → (Somes a sss) ⊎ (byte j a ≡ byte g.new a) → byte (runs j sss) a ≡ byte g.new a
+  new-runs [] j a l p (inl x) = elim x [ ]
   new-runs [] j a l p (inr e) = e
   new-runs (ss ∷ sss) j a l p h = new-runs sss (puts j ss) a (omega (arith, length-puts ss j)) p.1 (go h)
     where

@@ -169,7 +169,7 @@ accept-clean t n j (c ∷ cs) v e = go (fault t j c) refl (accept-clean t (suc n
     go zero q ih =
         let r : (v ≡ suc n + length cs) × Clean t (tag_after j c) cs = ih (rw (q, judge) at e) in
         let nf : (k : ℕ) → k < length (c ∷ cs) → fault t (cut k j (c ∷ cs)) (get_or (c ∷ cs) k malformed) ≡ 0
-        = λ k. elim k [ zero ↦ λ h. q | suc k ↦ λ h. r.1.no_fault k (le_of_suc-le-suc h) ] in
+        = λ k. elim k as (λ k. k < length (c ∷ cs) → fault t (cut k j (c ∷ cs)) (get_or (c ∷ cs) k malformed) ≡ 0) [ zero ↦ λ h. q | suc k ↦ λ h. r.1.no_fault k (le_of_suc-le-suc h) ] in
         (omega (arith, r.0), record { no_fault = nf; ends = r.1.ends })
     go (suc f) q ih = let e' : refused (suc f) n ≡ accepted v = rw (q, judge) at e in absurd (nope (cc))
 
@@ -199,11 +199,15 @@ refuse-first t n j [] r p e = go (holds_as (t.held j) t.wanted) refl
     go true q = let e' : accepted n ≡ refused r p = rw (q, judge) at e in absurd (nope (cc))
 refuse-first t n j (c ∷ cs) r p e = go (fault t j c) refl (refuse-first t (suc n) (tag_after j c) cs r p)
   where
+    earlier : (k : ℕ) → fault t j c ≡ 0 → ((l : ℕ) → l < k → fault t (cut l (tag_after j c) cs) (get_or cs l malformed) ≡ 0) → (l : ℕ) → l < suc k → fault t (cut l j (c ∷ cs)) (get_or (c ∷ cs) l malformed) ≡ 0
+    earlier k q nf zero h = q
+    earlier k q nf (suc l) h = nf l (le_of_suc-le-suc h)
+
     shift : fault t j c ≡ 0 → FirstFrom t (suc n) (tag_after j c) cs r p → FirstFrom t n j (c ∷ cs) r p
     shift q (at-command k b pe nf fe nz) =
-        at-command (suc k) (suc-le-suc b) (omega arith) (λ l. elim l [ zero ↦ λ h. q | suc l ↦ λ h. nf l (le_of_suc-le-suc h) ]) fe nz
+        at-command (suc k) (suc-le-suc b) (omega arith) (earlier k q nf) fe nz
     shift q (at-end pe re nf w) =
-        at-end (omega arith) re (λ l. elim l [ zero ↦ λ h. q | suc l ↦ λ h. nf l (le_of_suc-le-suc h) ]) w
+        at-end (omega arith) re (earlier (length cs) q nf) w
 
     go : (f : ℕ) → fault t j c ≡ f → (judge t (suc n) (tag_after j c) cs ≡ refused r p → FirstFrom t (suc n) (tag_after j c) cs r p) → FirstFrom t n j (c ∷ cs) r p
     go zero q ih = shift q (ih (rw (q, judge) at e))
@@ -249,8 +253,8 @@ accepts-exactly t ok cs n = (to, from)
           omega (arith, r.0),
           record {
             formed = λ k h. (accepted-fine t cs n e k h).formed;
-            safe = λ k. elim k [ zero ↦ λ h. start-safe t ok | suc k ↦ λ h. rw (cut-after k t.start cs) ((accepted-fine t cs n e k h).safe (tag_after (cut k t.start cs) (get_or cs k malformed)) (left_after (cut k t.start cs) (get_or cs k malformed))) ];
-            kept = λ k. elim k [ zero ↦ λ h a l q. refl | suc k ↦ λ h. rw (cut-after k t.start cs) ((accepted-fine t cs n e k h).kept (tag_after (cut k t.start cs) (get_or cs k malformed)) (left_after (cut k t.start cs) (get_or cs k malformed))) ];
+            safe = λ k. elim k as (λ k. k ≤ length cs → Safe t (cut k t.start cs)) [ zero ↦ λ h. start-safe t ok | suc k ↦ λ h. rw (cut-after k t.start cs) ((accepted-fine t cs n e k h).safe (tag_after (cut k t.start cs) (get_or cs k malformed)) (left_after (cut k t.start cs) (get_or cs k malformed))) ];
+            kept = λ k. elim k as (λ k. k ≤ length cs → Kept t (cut k t.start cs)) [ zero ↦ λ h a l q. refl | suc k ↦ λ h. rw (cut-after k t.start cs) ((accepted-fine t cs n e k h).kept (tag_after (cut k t.start cs) (get_or cs k malformed)) (left_after (cut k t.start cs) (get_or cs k malformed))) ];
             ends = holds_as-true _ _ r.1.ends;
           },
         )

@@ -12,7 +12,7 @@ use lib.ListN.{length, length-append, length-map}
 use Rattle.tag.specs.Bytes.{byte}
 use Rattle.tag.specs.Reading.{broken, nothing, holds}
 use Rattle.tag.specs.Stores.{Command, stores, cut}
-use Rattle.tag.specs.Plan.{Plan, new_image, block_of, is_there, between, picks, last_store, middle, list}
+use Rattle.tag.specs.Plan.{Plan, new_image, block_of, is_there, between, last_store, middle, list}
 use Rattle.tag.specs.TagType.{TagType, held}
 use Rattle.tag.specs.Judge.{task_of, accepted, judge}
 use Rattle.tag.specs.Cuts.{Kept}

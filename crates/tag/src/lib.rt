@@ -16,11 +16,11 @@ ghost use Rattle.std.specs.Prelude.{◌≡◌, ◌*◌, ◌/◌, ◌^◌, ◌<�
 // Byte addresses and block numbers are two kinds of number. The two methods below are the only conversions between them.
 
 // The address of a byte in a tag's memory.
-#[derive(Drop)]
+#[derive(Clone, Copy)]
 pub struct Address(pub usize);
 
 // The number of a block of a tag's memory.
-#[derive(Drop)]
+#[derive(Clone, Copy)]
 pub struct Block(pub usize);
 
 impl Address {
@@ -44,7 +44,7 @@ impl Block {
 }
 
 // What a tag that reads holds: a message, an empty one, or one being written.
-#[derive(Drop)]
+#[derive(Clone, Copy)]
 pub enum Content {
     Message,
     Empty,
@@ -52,7 +52,7 @@ pub enum Content {
 }
 
 // What a tag that reads says of itself. Without a message, address and length are 0.
-#[derive(Drop)]
+#[derive(Clone, Copy)]
 pub struct Report {
     pub content: Content,
     pub address: Address,
@@ -64,28 +64,28 @@ pub struct Report {
 }
 
 // The answer of reading.
-#[derive(Drop)]
+#[derive(Clone, Copy)]
 pub enum ReadAnswer {
     Refused(u8),
     Reads(Report),
 }
 
 // The answer of writing or of encoding. The count is the number of commands for writing, the number of bytes for encoding.
-#[derive(Drop)]
+#[derive(Clone, Copy)]
 pub enum CountAnswer {
     Refused(u8),
     Count(usize),
 }
 
 // The answer of judging: a refusal and the position of the command, or the number of commands.
-#[derive(Drop)]
+#[derive(Clone, Copy)]
 pub enum JudgeAnswer {
     Refused(u8, usize),
     Accepted(usize),
 }
 
 // The answer of the model of a tag.
-#[derive(Drop)]
+#[derive(Clone, Copy)]
 pub enum ModelAnswer {
     Refused(u8),
     Stored,
