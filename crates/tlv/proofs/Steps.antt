@@ -15,7 +15,7 @@ use Rattle.tlv.specs.declared.length.Field.TheVariants as field
 use Rattle.tlv.specs.declared.length.Passed as code-passed
 use Rattle.tlv.specs.declared.length.Passed.TheVariants as passed
 use Rattle.tlv.specs.Views.Passing.{FieldPlaced, Moved, PassedWithin, PassedPlaced, Skipped}
-use Rattle.tlv.specs.Walk.{Taken, take_byte, on_byte}
+use Rattle.tlv.specs.Walk.{take_byte, on_byte}
 use Rattle.tlv.specs.Views.Walks.{ahead, taken_as, Placed, Onward, Along, TakenPlaced}
 use Rattle.tlv.proofs.Counted.{none-added, one-added, one_from, added-from, added_more}
 

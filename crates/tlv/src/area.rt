@@ -7,14 +7,14 @@ ghost use Rattle.tlv.specs.Views.Areas.{control_as, area_as, SmallArea};
 use tag::Address;
 
 // Which control TLV: 01h lock control, 02h memory control.
-#[derive(Drop)]
+#[derive(Clone, Copy)]
 pub enum Control {
     Lock,
     Memory,
 }
 
 // An area: its first address, which may lie far outside the image, and its size in bytes.
-#[derive(Drop)]
+#[derive(Clone, Copy)]
 pub struct Area {
     pub start: Address,
     pub size: usize,

@@ -11,7 +11,7 @@ use crate::walk::{Taken, Walk};
 use tag::{Address, refusals};
 
 // A step of the walk: a refusal, a TLV passed, or the message TLV, by its type byte's address and the walk past that byte.
-#[derive(Drop)]
+#[derive(Clone, Copy)]
 pub enum Stepped {
     Refused(u8),
     On(Walk),
@@ -19,7 +19,7 @@ pub enum Stepped {
 }
 
 // The message TLV, by its type byte's address and the walk past that byte; or a refusal.
-#[derive(Drop)]
+#[derive(Clone, Copy)]
 pub enum Found {
     Refused(u8),
     At(Address, Walk),

@@ -10,14 +10,14 @@ use crate::walk::{Taken, Walk};
 use tag::{Address, refusals};
 
 // A length field: bad, or its number and the walk past it.
-#[derive(Drop)]
+#[derive(Clone, Copy)]
 pub enum Field {
     Bad,
     Is(usize, Walk),
 }
 
 // A TLV passed: the walk past it, or a refusal.
-#[derive(Drop)]
+#[derive(Clone, Copy)]
 pub enum Passed {
     Refused(u8),
     More(Walk),

@@ -11,7 +11,7 @@ use tag::Address;
 
 // Where a search for a usable address ended, and how many addresses it tested. To test an address is to look at its entry; the address
 // found is one of those tested.
-#[derive(Drop)]
+#[derive(Clone, Copy)]
 pub struct Searched {
     pub address: Address,
     pub tested: usize,

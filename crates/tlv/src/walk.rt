@@ -8,7 +8,7 @@ use crate::table;
 use tag::Address;
 
 // The place reached: the next address to look at, the data area's end, and how many areas were declared on the way.
-#[derive(Drop)]
+#[derive(Clone, Copy)]
 pub struct Walk {
     pub at: Address,
     pub end: Address,
@@ -16,7 +16,7 @@ pub struct Walk {
 }
 
 // A byte taken: its value, its address, and the walk past it; or none is left.
-#[derive(Drop)]
+#[derive(Clone, Copy)]
 pub enum Taken {
     Nothing,
     Byte(u8, Address, Walk),

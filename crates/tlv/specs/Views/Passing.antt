@@ -1,7 +1,7 @@
 -- The answers of the walk's steps as the definitions have them, and what callers rely on: how far the walk is, and how the skip
 -- table has changed.
 -- Assumes nothing.
-use Rattle.std.specs.Prelude.{◌≡◌, Bool, List, ℕ, suc, ◌≤◌, length}
+use Rattle.std.specs.Prelude.{◌≡◌, Bool, List, ℕ, suc, ◌≤◌}
 use Rattle.tlv.specs.declared.walk.Walk.{Walk}
 use Rattle.tlv.specs.declared.length.Field as code-field
 use Rattle.tlv.specs.declared.length.Field.TheVariants as field
