@@ -14,7 +14,7 @@ use tlv::{table, walk};
 
 // A value of a given length: `Short` if too few usable bytes are left, else the address of its first byte and whether it is
 // interrupted.
-#[derive(Drop)]
+#[derive(Clone, Copy)]
 pub enum Value {
     Short,
     At(Address, bool),
