@@ -27,7 +27,7 @@ use Rattle.tlv.specs.Walk.{Length, bad, len, length_of, Passed, more, stop, pass
 use Rattle.tlv.specs.Views.Walks.{ahead}
 use Rattle.tlv.specs.Views.Finding.{found_as}
 use Rattle.tlv_value.specs.Views.Values.{at, measured}
-use Rattle.tlv_tag.specs.Message.{TlvTag, Located, refuse, located, locate_by, locate_from, locate, capacity_in, report_of, reading_of, reading}
+use Rattle.tlv_tag.specs.Message.{TlvTag, Located, refuse, located, locate_by, locate_from, locate, capacity_in, report_of, reading_of}
 use Rattle.tlv_tag.specs.Views.BlankArea.{BlankArea}
 use Rattle.tlv_tag.specs.Views.Reading.{area_located, tlv_located, counted_reading, value_reading, refusal_of, report_as}
 use Rattle.tlv_tag.proofs.Fitting.{Begins, found_all}

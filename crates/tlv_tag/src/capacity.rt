@@ -8,6 +8,7 @@ use tlv::walk::Walk;
 use tlv_value::value;
 
 // The greatest length that fits, with its length field, in `u` usable bytes. A length up to 254 takes one byte, any other three.
+#[tactic(auto, unfolding(crate::specs::Message::capacity_in))]
 fn capacity_in(u: usize) -> usize
     requires { 0 < u }
     ensures { result ≡ capacity_in u }

@@ -14,7 +14,7 @@ use tlv::walk::Walk;
 use tlv::{table, walk};
 
 // The bytes to set lie at the usable addresses from `first` up to `stop`.
-#[derive(Drop)]
+#[derive(Clone, Copy)]
 pub struct Extent {
     pub first: Address,
     pub stop: Address,

@@ -16,7 +16,7 @@ use tlv::table;
 use tlv::walk::Walk;
 
 // A refusal; or the address of the first length byte.
-#[derive(Drop)]
+#[derive(Clone, Copy)]
 pub enum Preparation {
     Refused(u8),
     At(Address),
@@ -27,7 +27,7 @@ fn copy_image(image: &[u8], new: &mut [u8])
     requires { length new.old ≡ length image.now }
     ensures { new.new ≡ image.now }
 {
-    bytes::copy(image, new);
+    new.copy_from_slice(image);
 }
 
 // Prepares the list for the space found: makes the new image, and returns the address of the first length byte.

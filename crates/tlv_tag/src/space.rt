@@ -14,7 +14,7 @@ use tlv::find::Found;
 use tlv::walk::Walk;
 
 // A refusal; or the walk past the message TLV's type byte, where the message with its length has room.
-#[derive(Drop)]
+#[derive(Clone, Copy)]
 pub enum Space {
     Refused(u8),
     At(Walk),
