@@ -18,7 +18,7 @@ pub const LENGTH: usize = DATA + container::BLOCK_SIZE;
 const FIRST_BLOCK: usize = container::FIRST / container::BLOCK_SIZE;
 
 // The answer of `decode`: a refusal with a command of zeros, or 0 and the command.
-#[derive(Drop)]
+#[derive(Clone, Copy)]
 pub struct Decoded {
     pub refusal: u8,
     pub command: Command,

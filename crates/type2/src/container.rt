@@ -29,7 +29,7 @@ const ACCESS: usize = 15;
 pub const FIRST: usize = 16;
 
 // A refusal; or the end of the data area, and whether the tag is writable.
-#[derive(Drop)]
+#[derive(Clone, Copy)]
 pub enum DataArea {
     Refused(u8),
     Inside(Address, bool),
