@@ -7,8 +7,8 @@ use native.Mathlib.Nat.{mul-le-mul_left, mul-div_cancel_left}
 use native.Mathlib.Numerals.{add-one}
 use native.Mathlib.Omega.{arith}
 use borrow.Rule.Slice.PartMut.{put_mid}
-use lib.ListN.{length, get_or, set, take, drop, length-append, length-drop}
-use lib.Seq.{take-length, drop-cons, drop_at, set_at, length-take-le, take-suc, get_or-take}
+use lib.ListN.{length, get_or, set, take, drop, length-append, length-take, length-drop, drop_of_length-le}
+use lib.Seq.{drop-cons, drop_at, set_at, length-take-le, take-suc, get_or-take}
 use Rattle.tag.specs.Bytes.{byte}
 use Rattle.tag.specs.Plan.{block_of}
 use Rattle.tag.proofs.Runs.{bytes_of}
@@ -40,23 +40,24 @@ module _ (front : List ℕ) where
   length-command b bytes = length-append front (b ∷ bytes) ∙ omega arith
 
   -- laid in three steps: the bytes, in a borrowed part; the front; and the block's number between them
-  pub command-laid : (out part laid bytes : List ℕ) (b : ℕ) → command_length front (length bytes) ≤ length out
-      → part ≡ take (length bytes) bytes ++ drop (length bytes) (take (length out - (length front + 1)) (drop (length front + 1) out))
-      → laid ≡ take (length front) front ++ drop (length front) (put_mid (length front + 1) (length out - (length front + 1)) out part)
-      → set laid (length front) b ≡ command_bytes front b bytes ++ drop (command_length front (length bytes)) out
-  command-laid out part laid bytes b l p q =
+  pub command-laid : (out bytes : List ℕ) (b : ℕ) → command_length front (length bytes) ≤ length out
+      → set (front ++ drop (length front) (put_mid (length front + 1) (length front + 1 + length bytes - (length front + 1)) out bytes)) (length front) b
+      ≡ command_bytes front b bytes ++ drop (command_length front (length bytes)) out
+  command-laid out bytes b l =
       let n = length front in
       let a = length front + 1 in
       let k = length bytes in
-      let x = put_mid a (length out - a) out part in
+      let x = put_mid a (a + k - a) out bytes in
       let rest = drop (a + k) out in
+      let none : length (take (a + k - a) (drop a out)) ≤ k = rw (length-take, length-drop) (omega arith) in
       let first : length (take a out) ≡ a = length-take-le a out (omega arith) in
       let is : x ≡ take a out ++ (bytes ++ rest)
-      = lent out bytes part a (length out) k (omega arith) (omega arith) (p ∙ ap (λ bs. bs ++ drop k (take (length out - a) (drop a out))) (take-length bytes)) in
+      = lent out bytes bytes a (a + k) k (omega arith) (omega arith)
+      (sym (ap (λ ys. bytes ++ ys) (drop_of_length-le (take (a + k - a) (drop a out)) none) ∙ append-nil bytes)) in
       let long : n < length x = omega (arith, ap length is, length-append (take a out) (bytes ++ rest), first) in
       let tail : drop (suc n) x ≡ bytes ++ rest
       = ap (λ d. drop d x) (sym (add-one n)) ∙ ap (drop a) is ∙ drop_at (take a out) (bytes ++ rest) a first in
-      ap (λ ys. set ys n b) (q ∙ ap (λ ys. ys ++ drop n x) (take-length front) ∙ ap (λ ys. front ++ ys) (drop-cons x n 0 long))
+      ap (λ ys. set (front ++ ys) n b) (drop-cons x n 0 long)
       ∙ set_at front (get_or x n 0) (drop (suc n) x) b n refl
       ∙ ap (λ ys. front ++ b ∷ ys) tail
       ∙ sym (append_assoc front (b ∷ bytes) rest)

@@ -20,7 +20,7 @@ fn put_six(front: &[u8], block: Block, held: &[u8], out: &mut [u8])
     ensures { out.new ≡ command_bytes front.now block.0 held.now ++ drop 6 out.old }
 {
     let six = [front[0], block.0 as u8, held[0], held[1], held[2], held[3]];
-    bytes::copy(&six, out);
+    out[..6].copy_from_slice(&six);
 }
 
 // Writes a command to the front of `out`: the block, and the bytes that it is to hold. Type 2's commands are written without a
@@ -36,8 +36,8 @@ fn put_command(front: &[u8], block: Block, held: &[u8], out: &mut [u8])
         }
     }
     let at = front.len();
-    bytes::copy(held, &mut out[at + 1..]);
-    bytes::copy(front, out);
+    out[at + 1..at + 1 + held.len()].copy_from_slice(held);
+    out[..at].copy_from_slice(front);
     out[at] = block.0 as u8;
 }
 
