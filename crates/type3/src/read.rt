@@ -41,7 +41,7 @@ const LN_LOW: usize = LN + 1;
 const CHECKSUM: usize = 14;
 
 // The attribute information that the code uses.
-#[derive(Drop)]
+#[derive(Clone, Copy)]
 pub struct AttributeInformation {
     pub nbw: usize,
     pub nmaxb: usize,
@@ -53,7 +53,7 @@ pub struct AttributeInformation {
 }
 
 // The answer of the tests: the first that fails gives its refusal.
-#[derive(Drop)]
+#[derive(Clone, Copy)]
 pub enum Checked {
     Refused(u8),
     Fine(AttributeInformation),
