@@ -30,7 +30,7 @@ pub const PER_BLOCK: usize = block_list::ELEMENT + read::BLOCK_SIZE;
 pub const MOST_BYTES: usize = MOST_BLOCKS * read::BLOCK_SIZE;
 
 // The answer of `decode`: a refusal with an empty command, or 0 and the command.
-#[derive(Drop)]
+#[derive(Clone, Copy)]
 pub struct Decoded {
     pub refusal: u8,
     pub command: Command,

@@ -8,7 +8,7 @@ pub mod commands;
 use tag::Block;
 
 // A write command. Its first `count` blocks are used, with sixteen bytes for each.
-#[derive(Drop)]
+#[derive(Clone, Copy)]
 pub struct Command {
     pub count: usize,
     pub blocks: [Block; commands::MOST_BLOCKS],
