@@ -25,7 +25,7 @@ fn put_opening(idm: [u8; 8], count: usize, out: &mut [u8])
     ensures { out.new ≡ (opening idm ++ (count ∷ [])) ++ drop 13 out.old }
 {
     let front = commands::opening(idm, count as u8);
-    bytes::copy(&front, out);
+    out[..commands::FRONT].copy_from_slice(&front);
 }
 
 // The block list.
@@ -74,7 +74,7 @@ fn put_attribute_information_block(image: &[u8], flag: u8, ln: usize, out: &mut 
         (sum / 256) as u8,
         (sum % 256) as u8,
     ];
-    bytes::copy(&block, out);
+    out[..read::BLOCK_SIZE].copy_from_slice(&block);
 }
 
 // ---- the commands
