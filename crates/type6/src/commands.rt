@@ -20,7 +20,7 @@ pub const CODE: u8 = 0x21;
 pub const DATA: usize = 3;
 
 // The answer of `decode`: a refusal with a command of zeros, or 0 and the command.
-#[derive(Drop)]
+#[derive(Clone, Copy)]
 pub struct Decoded {
     pub refusal: u8,
     pub command: Command,

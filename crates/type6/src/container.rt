@@ -32,7 +32,7 @@ const MAX_LEN: usize = 7;
 pub const NLEN: usize = 2;
 
 // What the container says of the tag, and NLEN.
-#[derive(Drop)]
+#[derive(Clone, Copy)]
 pub struct Container {
     // how many bytes a block has
     pub size: usize,
@@ -46,7 +46,7 @@ pub struct Container {
 }
 
 // What the container says, or the refusal of the first test that fails.
-#[derive(Drop)]
+#[derive(Clone, Copy)]
 pub enum Checked {
     Refused(u8),
     Fine(Container),
@@ -54,7 +54,7 @@ pub enum Checked {
 
 // The answer of the tests: the first that fails gives its refusal; else it is where the file begins. `said` takes that, so that
 // nothing is divided by the block size twice.
-#[derive(Drop)]
+#[derive(Clone, Copy)]
 enum Found {
     Refused(u8),
     At(Address),

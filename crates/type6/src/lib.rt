@@ -13,7 +13,7 @@ pub mod space;
 use tag::Block;
 
 // A write command: the block, and its bytes at the front of the array. Only as many as a block has are used.
-#[derive(Drop)]
+#[derive(Clone, Copy)]
 pub struct Command {
     pub block: Block,
     pub bytes: [u8; container::LARGEST_BLOCK],
