@@ -12,7 +12,7 @@ use tlv_tag::kept::Extent;
 // A type of tag, with what the functions need to know of the tag handed in: for Type 2 the extent of the bytes to set, for Type 3
 // Nbw and Nmaxb, for Type 6 the block size and the number of blocks. The IDm that the caller states is passed next to the kind; only
 // Type 3 uses it.
-#[derive(Drop)]
+#[derive(Clone, Copy)]
 pub enum Kind {
     Type2(Extent),
     Type3(usize, usize),
