@@ -28,7 +28,7 @@ use Rattle.type6.specs.declared.commands.Decoded as decoded6
 use Rattle.type6.specs.Codec as six
 use Rattle.type6.specs.CodecContracts as views6
 use Rattle.type6.proofs.Codec.{defined-bounds}
-use Rattle.demands.specs.Code2.{codec2, codec3, codec6}
+use Rattle.demands.specs.Code2.{codec3, codec6}
 use Rattle.tag.proofs.Outputs.{put_all, put-counted}
 use Rattle.demands.proofs.Codecs.{codec-2, codec-3, codec-6}
 
