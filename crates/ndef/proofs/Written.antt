@@ -8,7 +8,6 @@ use native.Mathlib.Omega.{arith}
 use lib.ListN.{length}
 use lib.Dec.{eqb, leb}
 use borrow.Author.Tests.{le-leb, lt-leb, leb-false}
-use Rattle.tag.specs.declared.CountAnswer.TheVariants as counted
 use Rattle.tag.specs.Bytes.{Octets}
 use Rattle.tag.specs.TagType.{refused_output, output}
 use Rattle.tag.proofs.Logic.{nope, one_at_most}

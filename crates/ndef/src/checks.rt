@@ -29,6 +29,7 @@ fn none_of(rtype: usize, id: usize, payload: usize) -> bool
 }
 
 // Whether a record with this TNF may have a type, an ID and a payload of these lengths.
+#[tactic(auto, unfolding(crate::specs::Record::tnf_allows))]
 pub fn tnf_allows(tnf: usize, rtype: usize, id: usize, payload: usize) -> bool
     ensures { result ≡ tnf_allows tnf rtype id payload }
 {

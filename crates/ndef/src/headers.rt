@@ -6,7 +6,7 @@ ghost use Rattle.ndef.specs.Header.{sr, il, header_length};
 ghost use Rattle.ndef.specs.Views.Headers.{Says, Small, length_for, packed_for, header_from};
 
 // What the header of a record says: its first byte, and the lengths of the header, the type, the ID and the payload.
-#[derive(Drop)]
+#[derive(Clone, Copy)]
 pub struct Header {
     pub flags: usize,
     pub len: usize,
@@ -134,6 +134,7 @@ pub(crate) fn packed(h: Header) -> u64
 }
 
 // The length of a header, by its flags.
+#[tactic(auto, unfolding(crate::specs::Header::header_length))]
 fn header_len(flags: usize) -> usize
     ensures { result ≡ header_length flags }
 {

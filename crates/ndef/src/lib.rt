@@ -16,7 +16,7 @@ pub const NUMBERS: usize = 7;
 pub const TABLE: usize = 112;
 
 // A part of some bytes: where it starts, and its length.
-#[derive(Drop)]
+#[derive(Clone, Copy)]
 pub struct Part {
     pub at: usize,
     pub len: usize,
@@ -24,7 +24,7 @@ pub struct Part {
 
 // A record by its place: its TNF, and where its type, ID and payload lie in some bytes. A table has these seven numbers for each record,
 // in this order. (`type` is a word of the language, so the type is `rtype`.)
-#[derive(Drop)]
+#[derive(Clone, Copy)]
 pub struct Place {
     pub tnf: usize,
     pub rtype: Part,
