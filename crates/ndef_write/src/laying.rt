@@ -29,8 +29,8 @@ fn put_header(
     out: &mut [u8],
     at: usize,
 ) -> usize
-    requires flags_bound { (flags < 232) × (rtype < 256) × (id < 256) × (payload < 2 ^ 32) }
-    requires payload_in_bounds { at + length (header_bytes flags rtype id payload) ≤ length out.old }
+    requires small { (flags < 232) × (rtype < 256) × (id < 256) × (payload < 2 ^ 32) }
+    requires room { at + length (header_bytes flags rtype id payload) ≤ length out.old }
     ensures { PutAt out.old out.new at (header_bytes flags rtype id payload) result }
 {
     let named = rtype as u8;
@@ -56,8 +56,8 @@ fn put_header(
 
 // Writes a part of the bytes to the buffer from `at` on, and returns where it ends.
 fn put_part(part: Part, bytes: &[u8], out: &mut [u8], at: usize) -> usize
-    requires len_in_bounds { part.at + part.len ≤ length bytes.now }
-    requires len_in_bounds_2 { at + part.len ≤ length out.old }
+    requires inside { part.at + part.len ≤ length bytes.now }
+    requires room { at + part.len ≤ length out.old }
     ensures { PutAt out.old out.new at (part_at bytes.now part) result }
 {
     let start = part.at;
@@ -67,9 +67,9 @@ fn put_part(part: Part, bytes: &[u8], out: &mut [u8], at: usize) -> usize
 
 // Writes the record that a place names in the bytes. `first` is 1 for the first record of a list, else 0, and `last` likewise.
 fn put_record(first: usize, last: usize, p: Place, bytes: &[u8], out: &mut [u8], at: usize) -> usize
-    requires first_bound { (first ≤ 1) × (last ≤ 1) }
+    requires bits { (first ≤ 1) × (last ≤ 1) }
     requires lays { Lays (length bytes.now) p }
-    requires p_in_bounds { at + length (record_bytes first last (record_at bytes.now p)) ≤ length out.old }
+    requires room { at + length (record_bytes first last (record_at bytes.now p)) ≤ length out.old }
     ensures { PutAt out.old out.new at (record_bytes first last (record_at bytes.now p)) result }
 {
     let flags = (first * 128 + last * 64 + p.tnf) as u8;

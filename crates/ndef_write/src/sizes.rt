@@ -43,6 +43,7 @@ fn lies_in(part: Part, size: usize) -> bool
 }
 
 // The length of a header in the shortest form.
+#[tactic(auto, unfolding(crate::specs::Views::Sizes::header_size))]
 fn header_size(id: usize, payload: usize) -> usize
     ensures is { result ≡ header_size id payload }
     ensures small { result ≤ 7 }
@@ -60,6 +61,7 @@ fn header_size(id: usize, payload: usize) -> usize
 }
 
 // Whether the parts of a place all lie in `size` bytes.
+#[tactic(auto, unfolding(ndef::specs::Places::lies_in))]
 fn place_lies_in(p: Place, size: usize) -> bool
     ensures { result ≡ lies_in size p }
 {
@@ -76,6 +78,7 @@ fn place_lies_in(p: Place, size: usize) -> bool
 }
 
 // Whether a header has room for these lengths of type, ID and payload.
+#[tactic(auto, unfolding(ndef::specs::Writing::header_holds))]
 fn header_holds(rtype: usize, id: usize, payload: usize) -> bool
     ensures { result ≡ header_holds rtype id payload }
 {
