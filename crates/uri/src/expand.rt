@@ -24,7 +24,7 @@ pub fn is_uri(payload: &[u8]) -> bool
 // Writes the URI of a payload to a buffer that is long enough, given the row that has the prefix of the payload's code.
 fn put_by(row: &[u8], part: RowPart, payload: &[u8], uri: &mut [u8])
     requires coded { Coded row.now part payload.now }
-    requires payload_in_bounds { part.len + length payload.now ≤ length uri.old + 1 }
+    requires room { part.len + length payload.now ≤ length uri.old + 1 }
     ensures { uri.new ≡ overwrite (prefix (byte payload.now 0) ++ drop 1 payload.now) uri.old }
 {
     let start = part.at;
@@ -35,7 +35,7 @@ fn put_by(row: &[u8], part: RowPart, payload: &[u8], uri: &mut [u8])
 // The same; the row is picked here.
 fn put_uri(part: RowPart, payload: &[u8], uri: &mut [u8])
     requires known { Known part payload.now }
-    requires payload_in_bounds { part.len + length payload.now ≤ length uri.old + 1 }
+    requires room { part.len + length payload.now ≤ length uri.old + 1 }
     ensures { uri.new ≡ overwrite (prefix (byte payload.now 0) ++ drop 1 payload.now) uri.old }
 {
     let code = payload[0] as usize;

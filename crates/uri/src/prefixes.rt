@@ -33,7 +33,7 @@ const PARTS: [u16; CODES] = [
 ];
 
 // The part of a row that is a prefix.
-#[derive(Drop)]
+#[derive(Clone, Copy)]
 pub(crate) struct RowPart {
     pub at: usize,
     pub len: usize,

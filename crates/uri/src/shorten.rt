@@ -11,7 +11,7 @@ use crate::{laying, prefixes};
 use tag::{CountAnswer, refusals, slices};
 
 // A code and the length of its prefix.
-#[derive(Drop)]
+#[derive(Clone, Copy)]
 pub(crate) struct Choice {
     pub code: usize,
     pub len: usize,
@@ -30,7 +30,7 @@ fn begins(prefix: &[u8], uri: &[u8]) -> bool
 
 // The choice among the prefixes of the codes up to this one, from the choice among those before it.
 fn with_code(best: Choice, row: &[u8], code: usize, uri: &[u8]) -> Choice
-    requires code_lt_codes { (code < codes) × (row.now ≡ row_of (code / 12)) }
+    requires row_is { (code < codes) × (row.now ≡ row_of (code / 12)) }
     requires best { Best code uri.now best }
     ensures { Best (code + 1) uri.now result }
 {
@@ -49,7 +49,7 @@ fn with_code(best: Choice, row: &[u8], code: usize, uri: &[u8]) -> Choice
 
 // The choice among the prefixes up to the end of a row, from the choice among those of the rows before it.
 fn with_row(best: Choice, row: &[u8], number: usize, uri: &[u8]) -> Choice
-    requires number_bound { (number < 3) × (row.now ≡ row_of number) }
+    requires row_is { (number < 3) × (row.now ≡ row_of number) }
     requires best { Best (12 * number) uri.now best }
     ensures { Best (12 * number + 12) uri.now result }
 {
@@ -65,7 +65,7 @@ fn with_row(best: Choice, row: &[u8], number: usize, uri: &[u8]) -> Choice
 
 // The same, with the row by its number.
 fn with_numbered(best: Choice, number: usize, uri: &[u8]) -> Choice
-    requires number_bound { number < 3 }
+    requires number_small { number < 3 }
     requires best { Best (12 * number) uri.now best }
     ensures { Best (12 * number + 12) uri.now result }
 {
