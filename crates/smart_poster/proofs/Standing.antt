@@ -21,6 +21,7 @@ use Rattle.smart_poster.specs.Claims.{OneOf, kind_of_record, payload_of_record, 
 
 module _ {A : Type 0} (x : A) where
   in-front : (xs ys : List A) → OneOf x xs → OneOf x (xs ++ ys)
+  in-front [] ys w = elim w [ ]
   in-front (z ∷ xs) ys (inl e) = inl e
   in-front (z ∷ xs) ys (inr w) = inr (in-front xs ys w)
 
@@ -94,6 +95,7 @@ module _ (inner : List ℕ → Uris) where
   each-gives : (rs : List Record) (us : List (List ℕ)) (r : Record) → of_records inner rs ≡ uris us → OneOf r rs
       → (vs : List (List ℕ)) × (of_record inner r ≡ uris vs) × ((u : List ℕ) → OneOf u vs → OneOf u us)
   unfolding of_records
+  each-gives [] us r e w = elim w [ ]
   each-gives (x ∷ rs) us r e w =
       let b = both (of_record inner x) (of_records inner rs) us e in
       go b w (each-gives rs b.later r b.later-is)

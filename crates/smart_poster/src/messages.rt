@@ -31,7 +31,7 @@ fn uri_record(message: &[u8], payload: Part) -> Spot
 }
 
 // What the record at a place of a message gives, where `posters` more may stand inside each other.
-#[cycle(message_uri_message_with_record_uri_records_uri)]
+#[cycle(reading)]
 fn record_uri(message: &[u8], p: Place, posters: usize) -> Spot
     requires { Lies (length message.now) p }
     ensures is { found_at message.now result ≡ first_in (of_record (of_poster posters) (record_at message.now p)) }
@@ -55,7 +55,7 @@ fn record_uri(message: &[u8], p: Place, posters: usize) -> Spot
 }
 
 // What the records of a message that reads give, from the headers that were kept.
-#[cycle(message_uri_message_with_record_uri_records_uri)]
+#[cycle(reading)]
 fn records_uri(message: &[u8], kept: &[u64], posters: usize) -> Spot
     requires { Readable message.now kept.now }
     ensures is { found_at message.now result ≡ first_in (of_message posters message.now) }
@@ -79,7 +79,7 @@ fn records_uri(message: &[u8], kept: &[u64], posters: usize) -> Spot
 }
 
 // What a message gives, with room for its headers. The message is read whole before its records are looked at.
-#[cycle(message_uri_message_with_record_uri_records_uri)]
+#[cycle(reading)]
 fn message_with(message: &[u8], kept: &mut [u64], posters: usize) -> Spot
     requires { length kept.old ≡ most }
     ensures is { found_at message.now result ≡ first_in (of_message posters message.now) }
@@ -93,7 +93,7 @@ fn message_with(message: &[u8], kept: &mut [u64], posters: usize) -> Spot
 }
 
 // What a message gives, where `posters` may stand inside each other.
-#[cycle(message_uri_message_with_record_uri_records_uri)]
+#[cycle(reading)]
 pub(crate) fn message_uri(message: &[u8], posters: usize) -> Spot
     ensures is { found_at message.now result ≡ first_in (of_message posters message.now) }
     ensures stands { Stands message.now result }

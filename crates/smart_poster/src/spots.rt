@@ -4,7 +4,7 @@ ghost use Rattle.std.specs.Prelude.{◌≡◌};
 ghost use Rattle.smart_poster.specs.Views.Spots.{Movable, is_refused, moved_by, earlier_of};
 
 // What was found in some bytes: a refusal, no URI record, or the start and the length of the first one's payload.
-#[derive(Drop)]
+#[derive(Clone, Copy)]
 pub(crate) enum Spot {
     Refused(u8),
     Nothing,
