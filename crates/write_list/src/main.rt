@@ -5,8 +5,12 @@
 
 #![tactic(auto)]
 
-ghost use Rattle.io.specs.Counts.{IsPrefixLen};
+ghost use Rattle.std.specs.Prelude.{◌≡◌, ◌≤◌, length, take};
 
+use std::fs::File;
+use std::io;
+use std::io::Read;
+use std::rt::Files;
 use tag::CountAnswer;
 use type2::{commands, container};
 
@@ -14,46 +18,61 @@ use type2::{commands, container};
 const IMAGE: usize = container::LONGEST_IMAGE + 1;
 
 // Prints how many commands the list has, and the first `count` commands, one a line.
-fn print_list(list: &[u8], count: usize) {
-    printing::commands(count);
+fn print_list(rt: &impl Print, list: &[u8], count: usize) -> io::Result<()> {
+    printing::commands(rt, count)?;
     let mut at = 0usize;
     let mut left = count;
     while 0 < left {
         // `write` counts only commands that the list holds. No contract here says so, and therefore it is tested.
         if list.len() - at < commands::LENGTH {
-            return;
+            return Ok(());
         }
-        printing::line(&list[at..at + commands::LENGTH]);
+        printing::line(rt, &list[at..at + commands::LENGTH])?;
         at += commands::LENGTH;
         left -= 1;
     }
+    Ok(())
 }
 
-fn print_answer(image: &[u8], message: &[u8], list: &mut [u8]) {
+fn print_answer(rt: &impl Print, image: &[u8], message: &[u8], list: &mut [u8]) -> io::Result<()> {
     match type2_write::write::write(image, message, list) {
-        CountAnswer::Refused(number) => printing::refusal(number),
-        CountAnswer::Count(count) => print_list(list, count),
+        CountAnswer::Refused(number) => printing::refusal(rt, number),
+        CountAnswer::Count(count) => print_list(rt, list, count),
     }
+}
+
+// Reads to the front of `buf` until it is full, the input ends or a read fails, and answers how many bytes it has read.
+fn fill(input: &mut impl Read, buf: &mut [u8]) -> usize
+    ensures in_bounds { result ≤ length buf.new }
+    ensures prefix { result ≡ length (take result buf.new) }
+{
+    let mut done = 0usize;
+    while done < buf.len() {
+        match input.read(&mut buf[done..]) {
+            Ok(0) => return done,
+            Ok(n) => done += n,
+            Err(_) => return done,
+        }
+    }
+    done
 }
 
 // Reads a file to the front of `buf` and answers how many bytes it has read.
-fn load(path: &[u8], buf: &mut [u8]) -> usize
-    ensures { IsPrefixLen result buf.new }
+fn load(rt: &impl Files, path: &str, buf: &mut [u8]) -> usize
+    ensures in_bounds { result ≤ length buf.new }
+    ensures prefix { result ≡ length (take result buf.new) }
 {
-    let fd = os::open_read(path);
-    if fd < 0 {
-        return 0;
+    match File::open(rt, path) {
+        Ok(mut file) => fill(&mut file, buf),
+        Err(_) => 0,
     }
-    let n = io::read_full(fd, buf);
-    libc::close(fd);
-    n
 }
 
-fn main() {
+fn main(rt: HostRuntime) -> io::Result<()> {
     let mut image = [0u8; IMAGE];
-    let n = load(b"tag.bin", &mut image);
+    let n = load(&rt, "tag.bin", &mut image);
     let mut message = [0u8; 2048];
-    let m = load(b"message.bin", &mut message);
+    let m = load(&rt, "message.bin", &mut message);
     let mut list = [0u8; 2048];
-    print_answer(&image[..n], &message[..m], &mut list);
+    print_answer(&rt, &image[..n], &message[..m], &mut list)
 }

@@ -1,0 +1,9 @@
+-- `fill`: done is at most the length of the buffer.
+use Rattle.std.proofs.Common.{◌≤◌, ◌-◌, length}
+use Rattle.write_list.proofs.fill.Given as goal
+
+abbrev pub invariant-loop-done : goal.invariant-loop-done
+invariant-loop-done g l = l.done ≤ length l.buf
+
+abbrev pub decreases-loop-done : goal.decreases-loop-done
+decreases-loop-done g l = length l.buf - l.done
