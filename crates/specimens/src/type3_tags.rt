@@ -1,6 +1,7 @@
 // Type 3 tags of fourteen blocks, given by their attribute information block. All other bytes are 00h.
 
 use crate::print;
+use std::io;
 use tag::slices;
 
 const IDM: [u8; 8] = [1, 2, 3, 4, 5, 6, 7, 8];
@@ -12,25 +13,34 @@ fn lay(attributes: &[u8], image: &mut [u8]) {
     slices::store(attributes, 0, image);
 }
 
-pub fn read(name: &[u8], attributes: &[u8]) {
+pub fn read(rt: &impl Print, name: &[u8], attributes: &[u8]) -> io::Result<()> {
     let mut image = [0u8; 224];
     lay(attributes, &mut image);
-    print::name(name);
+    print::name(rt, name)?;
     let answer = type3::read::read(&image);
-    print::reading(answer, type3::read::shown(&image, answer));
+    print::reading(rt, answer, type3::read::shown(&image, answer))
 }
 
-pub fn write(name: &[u8], attributes: &[u8], message: &[u8]) {
+pub fn write(rt: &impl Print, name: &[u8], attributes: &[u8], message: &[u8]) -> io::Result<()> {
     let mut image = [0u8; 224];
     lay(attributes, &mut image);
-    print::name(name);
+    print::name(rt, name)?;
     let mut list = [0u8; 1024];
-    print::count(type3_write::write::write(&image, message, &IDM, &mut list));
+    print::count(
+        rt,
+        type3_write::write::write(&image, message, &IDM, &mut list),
+    )
 }
 
-pub fn judge(name: &[u8], attributes: &[u8], message: &[u8], list: &[u8]) {
+pub fn judge(
+    rt: &impl Print,
+    name: &[u8],
+    attributes: &[u8],
+    message: &[u8],
+    list: &[u8],
+) -> io::Result<()> {
     let mut image = [0u8; 224];
     lay(attributes, &mut image);
-    print::name(name);
-    print::verdict(judge::type3_lists::judge(&image, message, &IDM, list));
+    print::name(rt, name)?;
+    print::verdict(rt, judge::type3_lists::judge(&image, message, &IDM, list))
 }
