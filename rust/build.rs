@@ -12,7 +12,7 @@ fn main() {
     let given = env::var_os("ZANFIROTTA_LIB_DIR");
     let dir = match &given {
         Some(dir) => here.join(dir),
-        None => here.join("../target/staticlib"),
+        None => here.join("../crates/zanfirotta/out"),
     };
     let archive = dir.join("libzanfirotta.a");
     println!("cargo:rerun-if-changed={}", archive.display());
@@ -24,7 +24,7 @@ fn main() {
         return;
     }
     let problem = format!(
-        "there is no {}: run `rt staticlib zanfirotta` at the repository's top, or set \
+        "there is no {}: run `rt lib` in crates/zanfirotta, or set \
          ZANFIROTTA_LIB_DIR to the directory of libzanfirotta.a",
         archive.display()
     );

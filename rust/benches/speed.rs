@@ -5,7 +5,7 @@
 //! `-- lists` the table shows how many commands and blocks the lists write, in place of times.
 
 #[cfg(not(zanfirotta_archive))]
-compile_error!("libzanfirotta.a is missing: run `rt staticlib zanfirotta` at the repository's top");
+compile_error!("libzanfirotta.a is missing: run `rt lib` in crates/zanfirotta");
 
 #[path = "speed/cases.rs"]
 mod cases;

@@ -9,7 +9,7 @@
 //! counts as empty.
 
 #[cfg(not(zanfirotta_archive))]
-compile_error!("libzanfirotta.a is missing: run `rt staticlib zanfirotta` at the repository's top");
+compile_error!("libzanfirotta.a is missing: run `rt lib` in crates/zanfirotta");
 
 use std::{env, fs};
 

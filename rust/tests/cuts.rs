@@ -3,7 +3,7 @@
 //! cut ends in the same image as our uninterrupted list.
 
 #[cfg(not(zanfirotta_archive))]
-compile_error!("libzanfirotta.a is missing: run `rt staticlib zanfirotta` at the repository's top");
+compile_error!("libzanfirotta.a is missing: run `rt lib` in crates/zanfirotta");
 
 mod common;
 mod reference;

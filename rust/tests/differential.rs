@@ -5,7 +5,7 @@
 //! often each answer came and fails if an expected one is rare.
 
 #[cfg(not(zanfirotta_archive))]
-compile_error!("libzanfirotta.a is missing: run `rt staticlib zanfirotta` at the repository's top");
+compile_error!("libzanfirotta.a is missing: run `rt lib` in crates/zanfirotta");
 
 #[path = "differential/areas.rs"]
 mod areas;

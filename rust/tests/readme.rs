@@ -67,7 +67,7 @@ fn run_text(name: &str, text: &str) -> String {
 /// Compiles a C program with the archive and runs it; returns what it prints.
 fn run_c(name: &str, source: &Path) -> String {
     let archive = std::env::var_os("ZANFIROTTA_LIB_DIR")
-        .map_or(top().join("target/staticlib"), PathBuf::from)
+        .map_or(top().join("crates/zanfirotta/out"), PathBuf::from)
         .join("libzanfirotta.a");
     let program = Path::new(env!("CARGO_TARGET_TMPDIR")).join(name);
     let compiled = Command::new("cc")
