@@ -117,7 +117,7 @@ pub table-is-a-list : TableIsList
 table-is-a-list = record {
   refuses = λ m r. (λ e. refused-reads m r e, λ e. reads-refused m r e);
   seven_each = λ m n t e. let g = given m n t e in rw (g.table_is, g.counted) (table-long (places_of 16 0 m) ∙ ap (λ k. 7 * k) (places-many m g.list g.reads));
-  reading_lies_in = λ m n t e. let g = given m n t e in rw g.table_is (table-is-list m g.list g.reads);
+  lies_in = λ m n t e. let g = given m n t e in rw g.table_is (table-is-list m g.list g.reads);
   reads_as = λ m n t e. let g = given m n t e in cut_out m t g.list g.reads g.table_is;
 }
 

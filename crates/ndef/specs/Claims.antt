@@ -57,7 +57,7 @@ pub record TooLongExactly : Type 0 where
 pub record TableIsList : Type 0 where
   pub refuses : (m : List ℕ) (r : ℕ) → (read m ≡ refused_output r) ↔ (message_of m ≡ refused r)
   pub seven_each : (m : List ℕ) (n : ℕ) (t : List ℕ) → read m ≡ output n t → length t ≡ numbers_each * n
-  pub reading_lies_in : (m : List ℕ) (n : ℕ) (t : List ℕ) → read m ≡ output n t → is_list t m ≡ true
+  pub lies_in : (m : List ℕ) (n : ℕ) (t : List ℕ) → read m ≡ output n t → is_list t m ≡ true
   pub reads_as : (m : List ℕ) (n : ℕ) (t : List ℕ) → read m ≡ output n t → message_of m ≡ records (records_in t m)
 
 -- ---- of what the code answers
