@@ -48,13 +48,13 @@ module _ (s : List ℕ) (h : Header) (flags : h.flags ≡ byte s 0) (type : h.rt
   pub says-long-id : (sr h.flags ≡ 1 → ⊥) → il h.flags ≡ 1 → h.len ≡ 7 → h.payload ≡ long → h.id ≡ byte s 6 → Says s h
   unfolding header_length payload_length id_length
   says-long-id a b l p i =
-      let not_IsShort = rw flags at (ne_eqb (sr h.flags) 1 a) in
+      let not-short = rw flags at (ne_eqb (sr h.flags) 1 a) in
       let with-id = rw flags at (eq-eqb (il h.flags) 1 b) in
-      record { flags_are = flags; len_is = rw (not_IsShort, with-id) l; type_is = type; id_is = rw (with-id, not_IsShort) i; payload_is = rw not_IsShort p }
+      record { flags_are = flags; len_is = rw (not-short, with-id) l; type_is = type; id_is = rw (with-id, not-short) i; payload_is = rw not-short p }
 
   pub says-long : (sr h.flags ≡ 1 → ⊥) → (il h.flags ≡ 1 → ⊥) → h.len ≡ 6 → h.payload ≡ long → h.id ≡ 0 → Says s h
   unfolding header_length payload_length id_length
   says-long a b l p i =
-      let not_IsShort = rw flags at (ne_eqb (sr h.flags) 1 a) in
+      let not-short = rw flags at (ne_eqb (sr h.flags) 1 a) in
       let no-id = rw flags at (ne_eqb (il h.flags) 1 b) in
-      record { flags_are = flags; len_is = rw (not_IsShort, no-id) l; type_is = type; id_is = rw no-id i; payload_is = rw not_IsShort p }
+      record { flags_are = flags; len_is = rw (not-short, no-id) l; type_is = type; id_is = rw no-id i; payload_is = rw not-short p }

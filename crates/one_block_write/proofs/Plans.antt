@@ -23,13 +23,13 @@ module _ (T : TagType) (front : List ℕ) (p : Plan) (i new shut : List ℕ)
     (each : (s : Store) → length s.bytes ≡ p.block_size → T.encoded (s ∷ []) ≡ store_bytes front p.block_size s)
     (w : Blockwise p i)
     (one : p.width ≡ 1)
-    (New-is : new ≡ new_image p i)
+    (new-is : new ≡ new_image p i)
     (shut-is : shut ≡ take p.block_size (drop (p.block_size * p.guard) p.closed)) where
   abbrev z : ℕ
   z = p.block_size
 
   as_long : length new ≡ length i
-  as_long = ap length New-is ∙ length-overlay p.addresses p.values i
+  as_long = ap length new-is ∙ length-overlay p.addresses p.values i
 
   -- the blocks between
   abbrev bs : List ℕ
@@ -62,7 +62,7 @@ module _ (T : TagType) (front : List ℕ) (p : Plan) (i new shut : List ℕ)
       let stores = map (block_of z new) bs in
       let many : (length stores + (1 - 1)) / 1 ≡ length bs = omega (arith, length-map bs (block_of z new)) in
       ap (λ v. joined (map T.encoded (chunks v (picks (between p i) z (new_image p i) 0 n)))) one
-      ∙ ap (λ j. joined (map T.encoded (chunks 1 (picks (between_by z p.guard i j) z j 0 n)))) (sym New-is)
+      ∙ ap (λ j. joined (map T.encoded (chunks 1 (picks (between_by z p.guard i j) z j 0 n)))) (sym new-is)
       ∙ ap (λ k. joined (map T.encoded (chunks 1 (picks (between_by z p.guard i new) z new 0 (k / z))))) (sym as_long)
       ∙ ap (λ ss. joined (map T.encoded (chunks 1 ss))) (picks-picked (between_by z p.guard i new) z new (length new / z) 0)
       ∙ ap (λ c. joined (map T.encoded (chunk 1 c stores))) many
@@ -73,14 +73,14 @@ module _ (T : TagType) (front : List ℕ) (p : Plan) (i new shut : List ℕ)
       let e : length bs ≡ differing p i
       = length-picked (between_by z p.guard i new) 0 (length new / z)
       ∙ ap (λ n. counted (between_by z p.guard i new) 0 (n / z)) as_long
-      ∙ ap (λ j. counted (between_by z p.guard i j) 0 (length i / z)) New-is in
+      ∙ ap (λ j. counted (between_by z p.guard i j) 0 (length i / z)) new-is in
       sym (length-list p i ∙ rw one (omega (arith, e)))
 
   bytes-are : list_bytes T p i ≡ guarded_bytes front z new bs p.guard shut p.is_shut
   bytes-are = go p.is_shut refl
     where
       opened : T.encoded (last_store p i ∷ []) ≡ block_bytes front z new p.guard
-      opened = guard-is (new_image p i) (length-overlay p.addresses p.values i) ∙ ap (λ j. block_bytes front z j p.guard) (sym New-is)
+      opened = guard-is (new_image p i) (length-overlay p.addresses p.values i) ∙ ap (λ j. block_bytes front z j p.guard) (sym new-is)
 
       rest : joined (map T.encoded (middle p i ++ (last_store p i ∷ []) ∷ [])) ≡ blocks_bytes front z new bs ++ block_bytes front z new p.guard
       rest =

@@ -103,7 +103,7 @@ pub first-of-all : FirstOfAll
 first-of-all = record {
   is_first = λ room s u. (looked-at room s (found u), told room (uris_of s) (found u));
   is_none = λ room s. (looked-at room s none, told room (uris_of s) none);
-  first_is_refused = λ room s k. (looked-at room s (looked.refused k), told room (uris_of s) (looked.refused k));
+  is_refused = λ room s k. (looked-at room s (looked.refused k), told room (uris_of s) (looked.refused k));
   room_enough = λ s us u e. long-enough s us e u;
 }
 

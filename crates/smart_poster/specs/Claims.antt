@@ -69,7 +69,7 @@ pub record FaultsExactly : Type 0 where
 pub record FirstOfAll : Type 0 where
   pub is_first : (room : ℕ) (s u : List ℕ) → (first room s ≡ found u) ↔ ((us : List (List ℕ)) × (uris_of s ≡ uris (u ∷ us)) × (length u ≤ room))
   pub is_none : (room : ℕ) (s : List ℕ) → (first room s ≡ none) ↔ (uris_of s ≡ uris [])
-  pub first_is_refused : (room : ℕ) (s : List ℕ) (k : ℕ)
+  pub is_refused : (room : ℕ) (s : List ℕ) (k : ℕ)
       → (first room s ≡ looked.refused k)
       ↔ ((uris_of s ≡ refused k) ⊎ ((k ≡ short_buffer) × (u : List ℕ) × (us : List (List ℕ)) × (uris_of s ≡ uris (u ∷ us)) × (room < length u)))
   -- a buffer that has 26 bytes more than the message is long enough

@@ -8,7 +8,7 @@ mod records;
 mod spots;
 
 // The answer of looking for the first URI: a refusal, none, or how many bytes the URI has.
-#[derive(Drop)]
+#[derive(Clone, Copy)]
 pub enum UriAnswer {
     Refused(u8),
     Nothing,

@@ -11,7 +11,7 @@ use tag::slices;
 // TNF 1: the type is one of the NFC Forum's own.
 const WELL_KNOWN: usize = 1;
 
-#[derive(Drop)]
+#[derive(Clone, Copy)]
 pub(crate) enum RecordKind {
     Uri,
     Poster,

@@ -103,7 +103,7 @@ module _ (t : Task) (g : Guard t) (z w N A : ℕ) (p : ℕ → Bool)
     (some-w : 0 < w)
     (whole : length t.start ≡ z * N)
     (inside : A < N)
-    (is_Block : (a : ℕ) → g.block a ≡ in_block z A a)
+    (is-block : (a : ℕ) → g.block a ≡ in_block z A a)
     (closed-length : length g.closed ≡ length t.start)
     (others : (b : ℕ) → p b ≡ true → b ≡ A → ⊥)
     (complete : (a b : ℕ) → a < length t.start → in_block z b a ≡ true → (p b ≡ true) ⊎ ((b ≡ A) ⊎ (byte t.start a ≡ byte g.new a))) where
@@ -120,7 +120,7 @@ module _ (t : Task) (g : Guard t) (z w N A : ℕ) (p : ℕ → Bool)
     where
       clear : (a : ℕ) → in_block z b a ≡ true → (c : Bool) → in_block z A a ≡ c → g.block a ≡ false
       clear a i true e = absurd (others b q (one_block z b A a i e))
-      clear a i false e = is_Block a ∙ e
+      clear a i false e = is-block a ∙ e
 
   picks-beside : (k b : ℕ) → b + k ≤ N → Each (Beside t g) (picks p z g.new b k)
   unfolding picks
@@ -150,14 +150,14 @@ module _ (t : Task) (g : Guard t) (z w N A : ℕ) (p : ℕ → Bool)
   block-shuts =
       record {
         first_part = block-part z g.closed A (omega (arith, whole, closed-length, room-A));
-        first-in = λ a l. rw is_Block (block_in z g.closed A a (omega (arith, whole, closed-length, room-A)));
+        first-in = λ a l. rw is-block (block_in z g.closed A a (omega (arith, whole, closed-length, room-A)));
       }
 
   block-tail : Tail t g (block_of z g.new A) (chunks w (picks p z g.new 0 N))
   block-tail =
       record {
         last-part = block-part z g.new A (omega (arith, whole, g.new-length, room-A));
-        last-in = λ a l q. (block_in z g.new A a (omega (arith, whole, g.new-length, room-A))).1 (sym (is_Block a) ∙ q);
+        last-in = λ a l q. (block_in z g.new A a (omega (arith, whole, g.new-length, room-A))).1 (sym (is-block a) ∙ q);
         mids-beside = chunk-each (Beside t g) w ((length (picks p z g.new 0 N) + (w - 1)) / w) (picks p z g.new 0 N) (picks-beside N 0 (omega arith));
         covered = λ a l q. cover a l q (complete a (a / z) l (block-of z a pos));
       }
@@ -170,7 +170,7 @@ module _ (t : Task) (g : Guard t) (z w N A : ℕ) (p : ℕ → Bool)
       cover a l q (inl r) =
           inl (chunks-some a w (picks p z g.new 0 N) some-w
           (picks-some N 0 (a / z) a (omega arith) (omega arith) (omega (arith, below a l)) r (block-of z a pos)))
-      cover a l q (inr (inl e)) = absurd (true≢false (sym (rw e at (block-of z a pos)) ∙ (sym (is_Block a) ∙ q)))
+      cover a l q (inr (inl e)) = absurd (true≢false (sym (rw e at (block-of z a pos)) ∙ (sym (is-block a) ∙ q)))
       cover a l q (inr (inr e)) = inr e
 
   pub block-parts : Shuts t g (block_of z g.closed A) × Tail t g (block_of z g.new A) (chunks w (picks p z g.new 0 N))

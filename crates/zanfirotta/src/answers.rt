@@ -91,8 +91,8 @@ fn report(p: Report) -> [u64; 6]
 
 // Reading's answer; what the tag says of itself goes to `out`.
 pub(crate) fn reading(answer: ReadAnswer, out: &mut [u64; 6]) -> u64
-    ensures value { result ≡ packed_read (read_as answer) }
-    ensures out_after { out.new ≡ report_into out.old (read_as answer) }
+    ensures is { result ≡ packed_read (read_as answer) }
+    ensures stored { out.new ≡ report_into out.old (read_as answer) }
 {
     match answer {
         ReadAnswer::Refused(r) => r as u64,
@@ -106,8 +106,8 @@ pub(crate) fn reading(answer: ReadAnswer, out: &mut [u64; 6]) -> u64
 
 // The answer of looking for the first URI; whether there is one goes to `found`.
 pub(crate) fn first_uri(answer: UriAnswer, found: &mut u64) -> u64
-    ensures value { result ≡ packed_told (told_as answer) }
-    ensures found_after { found.new ≡ flag_into found.old (told_as answer) }
+    ensures is { result ≡ packed_told (told_as answer) }
+    ensures stored { found.new ≡ flag_into found.old (told_as answer) }
 {
     match answer {
         UriAnswer::Refused(r) => r as u64,
