@@ -1,12 +1,11 @@
 -- Tests that run in order. The answer is 'fine' exactly if each test passes; a fault is the refusal of one of them. The code gives the
 -- answer as a number.
 -- Assumes nothing.
-use mathlib.Core.Path.{◌≡◌, refl, ap, subst}
+use mathlib.Core.Path.{◌≡◌, refl, subst}
 use mathlib.Core.Bool.{Bool, true, false}
 use mathlib.Core.List.{List, [], ◌∷◌}
-use Prim.Native.Nat.{ℕ, zero, suc, ◌≤◌}
+use Prim.Native.Nat.{ℕ, ◌≤◌}
 use Rattle.tag.specs.Checks.{Check, fine, fault, first_of}
-use Rattle.tag.specs.Views.Faults.{fault_as}
 use Rattle.tag.proofs.Logic.{nope}
 use Rattle.tag.proofs.Each.{Each}
 
@@ -43,10 +42,3 @@ first-among P (c ∷ cs) h r e = go c.passes refl (first-among P cs h.1 r)
     go true q ih = ih (rw (q, first_of) at e)
 
 -- ---- the answer as a number
-
-pub fault-some : (r : ℕ) → (r ≡ 0 → ⊥) → fault_as r ≡ fault r
-fault-some zero n = absurd (n refl)
-fault-some (suc r) n = refl
-
-pub fault-none : (r : ℕ) → r ≡ 0 → fault_as r ≡ fine
-fault-none r e = ap fault_as e

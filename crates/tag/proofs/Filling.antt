@@ -1,14 +1,13 @@
--- A buffer that is filled from its front. It holds the bytes written so far, then what was there at first. More bytes are added one
--- by one, or through a part of the buffer that another function fills at its front.
+-- A buffer that is filled from its front. It holds the bytes written so far, then what was there at first. More bytes are added at
+-- once, or through a part of the buffer that another function fills at its front.
 -- Assumes nothing.
 use mathlib.Core.Path.{◌≡◌, sym, ap, ◌∙◌}
-use mathlib.Core.List.{List, [], ◌∷◌, ◌++◌, append-nil, append_assoc}
-use Prim.Native.Nat.{ℕ, suc, ◌+◌, ◌-◌, ◌<◌, ◌≤◌}
-use native.Mathlib.Numerals.{add-one}
+use mathlib.Core.List.{List, ◌++◌, append-nil, append_assoc}
+use Prim.Native.Nat.{ℕ, ◌+◌, ◌-◌, ◌≤◌}
 use native.Mathlib.Omega.{arith}
 use borrow.Rule.Slice.PartMut.{put_mid}
-use lib.ListN.{length, take, drop, set, length-append, length-take, length-drop, take-append-drop, drop_of_length-le}
-use lib.Seq.{take-length, drop-cons, set_at, take_at, drop_at, drop-drop, drop-append-le, append_snoc}
+use lib.ListN.{length, take, drop, length-append, length-take, length-drop, take-append-drop, drop_of_length-le}
+use lib.Seq.{take-length, take_at, drop_at, drop-drop, drop-append-le}
 
 -- ---- a part that another function fills
 
@@ -39,16 +38,6 @@ module _ (xs p t : List ℕ) (a : ℕ) (laid : xs ≡ p ++ drop a t) (far : leng
       → z ≡ y ++ drop k (take (e - a) (drop a xs)) → put_mid a (e - a) xs z ≡ (p ++ y) ++ drop (a + k) t
   lay-part y z e k h g r = lent xs y z a e k h g r ∙ lay-more y k
 
-  lay-byte : (v : ℕ) → a < length t → set xs a v ≡ (p ++ (v ∷ [])) ++ drop (a + 1) t
-  lay-byte v l = rw (laid, drop-cons t a 0 l, set_at p _ _ v a far, add-one a) (sym (append_snoc p v (drop (suc a) t)))
-
-pub lay-two : (xs p t : List ℕ) (a v w : ℕ) → xs ≡ p ++ drop a t → length p ≡ a → a + 1 < length t
-    → set (set xs a v) (a + 1) w ≡ (p ++ (v ∷ w ∷ [])) ++ drop (a + 2) t
-lay-two xs p t a v w q e l =
-    let two : a + 1 + 1 ≡ a + 2 = omega arith in
-    lay-byte (set xs a v) (p ++ (v ∷ [])) t (a + 1) (lay-byte xs p t a q e v (omega arith)) (omega (arith, length-append p (v ∷ []))) w l
-    ∙ rw (append_assoc p (v ∷ []) (w ∷ []), two)
-
 -- ---- all of a buffer
 
 -- a list copied over another of the same length
@@ -71,9 +60,6 @@ module _ (list first x y part : List ℕ) (a b c : ℕ) (begun : first ≡ x ++ 
 
   two-long : length two ≡ length list
   two-long = ap length two-laid ∙ length-append (x ++ y) (drop (a + b) list) ∙ omega (arith, length-append x y, length-drop (a + b) list)
-
-  pub third-room : c ≤ length (take (length two - (a + b)) (drop (a + b) two))
-  third-room = rw (length-take, length-drop) (omega (arith, two-long))
 
   pub three-laid : (z w : List ℕ) → w ≡ z ++ drop c (take (length two - (a + b)) (drop (a + b) two))
       → put_mid (a + b) (length two - (a + b)) two w ≡ (x ++ (y ++ z)) ++ drop (a + b + c) list

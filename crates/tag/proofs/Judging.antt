@@ -22,10 +22,6 @@ module _ (t : Task) where
   unfolding fault
   fault-misread j ss k r = rw (k, r, fault)
 
-  pub fault-none : (j : List ℕ) (ss : List Store) → keeps t (puts j ss) ≡ true → is_safe t (t.held (puts j ss)) ≡ true → fault t j (stores ss) ≡ 0
-  unfolding fault
-  fault-none j ss k r = rw (k, r, fault)
-
   pub judge-next : (n : ℕ) (j : List ℕ) (c : Command) (cs : List Command) → fault t j c ≡ 0 → judge t n j (c ∷ cs) ≡ judge t (suc n) (tag_after j c) cs
   unfolding judge
   judge-next n j c cs e = rw (e, judge)

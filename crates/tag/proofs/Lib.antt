@@ -20,7 +20,6 @@ pub mod Picks
 pub mod Counts
 pub mod Changing
 pub mod Pieces
-pub mod Turns
 pub mod Laws
 pub mod Deciding
 pub mod Outputs
@@ -28,4 +27,4 @@ pub mod Same
 pub mod Storing
 pub mod Filling
 pub mod Showing
-pub mod Flags
+pub mod Numbered

@@ -1,11 +1,10 @@
--- Runs of numbers: their length, one more at the end, their members, and parts of them. Also the bytes of a list at a run of places,
+-- Runs of numbers: their length, their members, and parts of them. Also the bytes of a list at a run of places,
 -- and what an overlay over a run sets.
 -- Assumes nothing.
 use mathlib.Core.Path.{◌≡◌, refl, ap, ◌∙◌}
 use mathlib.Core.Bool.{true, false, ◌&&◌, ◌||◌, and-false}
-use mathlib.Core.List.{List, [], ◌∷◌, ◌++◌, map}
+use mathlib.Core.List.{List, [], ◌∷◌, map}
 use Prim.Native.Nat.{ℕ, zero, suc, ◌+◌, ◌-◌, ◌<◌, ◌≤◌, min}
-use native.Mathlib.Numerals.{add-one}
 use native.Mathlib.Omega.{arith}
 use native.Mathlib.Decide.{ℕ_discrete, dec_lt}
 use borrow.Author.Tests.{eq-eqb, ne_eqb, le-leb, lt-leb, lt-ltb, le-ltb}
@@ -17,13 +16,6 @@ use Rattle.tag.specs.Bytes.{byte, run, is_set}
 pub length_run : (n s : ℕ) → length (run s n) ≡ n
 length_run zero s = refl
 length_run (suc n) s = ap suc (length_run n (suc s))
-
-run-snoc : (n s : ℕ) → run s (suc n) ≡ run s n ++ ((s + n) ∷ [])
-run-snoc zero s = let e : s + 0 ≡ s = omega arith in rw e
-run-snoc (suc n) s = let e : s + suc n ≡ suc s + n = omega arith in rw e (ap (λ r. s ∷ r) (run-snoc n (suc s)))
-
-pub run_more : (s n : ℕ) → run s (n + 1) ≡ run s n ++ ((s + n) ∷ [])
-run_more s n = rw (add-one n) (run-snoc n s)
 
 -- the number after k others
 pub run-nth : (n s k d : ℕ) → k < n → get_or (run s n) k d ≡ s + k

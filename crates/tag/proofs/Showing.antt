@@ -9,11 +9,13 @@ use native.Mathlib.Omega.{arith}
 use borrow.Author.Tests.{ltb-false, le-leb, lt-ltb, le-ltb}
 use lib.ListN.{length, drop, length-append}
 use lib.Seq.{take-append_seam}
-use Rattle.tag.specs.declared.ReadAnswer as code
+use Rattle.std.specs.Prelude.{Result}
+use Rattle.tag.specs.declared.Report as code
+use Rattle.tag.specs.declared.refusals.Refusal as refusals
 use Rattle.tag.specs.Bytes.{overwrite}
-use Rattle.tag.specs.Reading.{Content, message, empty, being-written, Report, Reading, unreadable, reads, too_short, Answer, refusal, answer, answer_of, gathered_into, part, shown, Held, broken, held_of}
+use Rattle.tag.specs.Reading.{Content, message, empty, being-written, Report, Reading, unreadable, reads, too_short, Answer, refusal, answer, answer_of, gathered_into, part, shown, Held, broken, nothing, holds, held_of}
 use Rattle.tag.specs.TagType.{TagType, held}
-use Rattle.tag.specs.Answers.{held_by, old_held, is_message}
+use Rattle.tag.specs.Answers.{held_by, is_message}
 use Rattle.tag.specs.PublicContracts.{Read}
 use Rattle.tag.specs.Views.Held.{with_capacity, ReadHeld}
 use Rattle.tag.proofs.Logic.{nope}
@@ -61,7 +63,7 @@ same-capacity : (v : Reading) → (c : ℕ) × (with_capacity c v ≡ v)
 same-capacity (unreadable r) = (0, refl)
 same-capacity (reads p) = (p.capacity, refl)
 
-pub read_held : (reading : List ℕ → Reading) (i buffer : List ℕ) (r : code.ReadAnswer) (out : List ℕ) → Read reading i buffer r out → ReadHeld reading i buffer r out
+pub read_held : (reading : List ℕ → Reading) (i buffer : List ℕ) (r : Result code.Report refusals.Refusal) (out : List ℕ) → Read reading i buffer r out → ReadHeld reading i buffer r out
 read_held reading i buffer r out h = let (c, e) = same-capacity (reading i) in (c, rw e h)
 
 module _ (c : ℕ) where
@@ -97,14 +99,14 @@ module _ (c : ℕ) where
       ∙ law after part (g ∙ gathered-alike v before) (s ∙ ap (shown i after) e ∙ shown-alike i after v (length before))
 
 -- the old message, of a tag that reads
-old-held : (a : Answer) (part : List ℕ) → (held_by a part ≡ broken → ⊥) → old_held (is_message a) part ≡ held_by a part
+old-held : (a : Answer) (part : List ℕ) → (held_by a part ≡ broken → ⊥) → cond (is_message a) (holds part) nothing ≡ held_by a part
 old-held (refusal r) part n = absurd (n refl)
 old-held (answer message a n interrupted w c) part h = refl
 old-held (answer empty a n interrupted w c) part h = refl
 old-held (answer being-written a n interrupted w c) part h = refl
 
-pub old_is : (a : Answer) (present : Bool) (part : List ℕ) (h : Held) → present ≡ is_message a → held_by a part ≡ h → (h ≡ broken → ⊥) → old_held present part ≡ h
-old_is a present part h e q n = ap (λ b. old_held b part) e ∙ old-held a part (λ z. n (sym q ∙ z)) ∙ q
+pub old_is : (a : Answer) (present : Bool) (part : List ℕ) (h : Held) → present ≡ is_message a → held_by a part ≡ h → (h ≡ broken → ⊥) → cond present (holds part) nothing ≡ h
+old_is a present part h e q n = ap (λ b. cond b (holds part) nothing) e ∙ old-held a part (λ z. n (sym q ∙ z)) ∙ q
 
 module _ (T : TagType) (L : Laws T) where
   pub shown-part : (i buffer : List ℕ) (p : Report) → T.reading i ≡ reads p → too_short (length buffer) p ≡ false

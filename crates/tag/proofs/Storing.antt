@@ -1,13 +1,14 @@
 -- Bytes stored one after the other: one more byte, bytes stored at a buffer's front, and bytes set at addresses that follow each other.
 -- Assumes nothing.
 use mathlib.Core.Path.{◌≡◌, refl, sym, ap, ◌∙◌}
-use mathlib.Core.List.{List, [], ◌∷◌, ◌++◌, append-nil}
+use mathlib.Core.List.{List, [], ◌∷◌, ◌++◌, append-nil, append_assoc}
 use Prim.Native.Nat.{ℕ, suc, ◌+◌, ◌<◌, ◌≤◌}
 use native.Mathlib.Numerals.{add-one}
 use native.Mathlib.Nat.{add-zero}
 use native.Mathlib.Omega.{arith}
-use lib.ListN.{length, take, set, drop_of_length-le}
-use lib.Seq.{sets, sets-eq, take-suc, length-take-le}
+use lib.ListN.{length, take, drop, set, drop_of_length-le}
+use lib.Seq.{sets, sets-eq, take-suc, length-take-le, drop-drop}
+use borrow.Rule.Slice.PartMut.{put_mid}
 use Rattle.tag.specs.Bytes.{byte, run, overlay, overwrite}
 use Rattle.tag.proofs.Addresses.{above-run, overlay-set}
 
@@ -23,6 +24,11 @@ pub sets_more : (l from : List ℕ) (at i : ℕ) → i < length from
 sets_more l from at i h =
     let e : length (take i from) ≡ i = length-take-le i from (omega arith) in
     sym (rw (add-one, take-suc from i 0 h) (sets-append (take i from) (byte from i ∷ []) l at ∙ rw e))
+
+-- what a copy into a part of a buffer leaves
+pub put_sets : (at k : ℕ) (from new to : List ℕ) → new ≡ from → k ≡ length from → at + length from ≤ length to → put_mid at k to new ≡ sets to at from
+put_sets at k from new to e l h =
+    rw (e, l) (ap (λ r. take at to ++ (from ++ r)) (drop-drop (length from) at to) ∙ sym (append_assoc (take at to) from (drop (at + length from) to)) ∙ sym (sets-eq from to at h))
 
 -- the first bytes of a buffer
 pub sets-front : (y t : List ℕ) → length y ≤ length t → sets t 0 y ≡ overwrite y t

@@ -1,32 +1,55 @@
--- The code's answers as the requirements give them: for each case of an enum, its number, its position and its values. The
--- contracts of the public functions use these definitions.
+-- The code's answers as the requirements give them: the number of each refusal, the position that goes with it, and the values of an
+-- answer. The contracts of the public functions use these definitions.
 -- Assumes nothing.
-use Rattle.std.specs.Prelude.{Bool, true, false, cond, List, ℕ}
+use Rattle.std.specs.Prelude.{Bool, true, false, List, ℕ, Result, Ok, Err}
 use Rattle.tag.specs.declared.Content as code
 use Rattle.tag.specs.declared.Content.TheVariants as content
-use Rattle.tag.specs.declared.ReadAnswer.{ReadAnswer}
-use Rattle.tag.specs.declared.ReadAnswer.TheVariants as read
-use Rattle.tag.specs.declared.CountAnswer.{CountAnswer}
-use Rattle.tag.specs.declared.CountAnswer.TheVariants as counted
-use Rattle.tag.specs.declared.JudgeAnswer.{JudgeAnswer}
-use Rattle.tag.specs.declared.JudgeAnswer.TheVariants as judged
-use Rattle.tag.specs.declared.ModelAnswer.{ModelAnswer}
-use Rattle.tag.specs.declared.ModelAnswer.TheVariants as modelled
-use Rattle.tag.specs.Refusals.{Refusal, refusal_at}
-use Rattle.tag.specs.Reading.{Content, message, empty, being-written, Answer, refusal, answer, Held, broken, nothing, holds, held_as}
+use Rattle.tag.specs.declared.Report as report
+use Rattle.tag.specs.declared.refusals.Refusal as named
+use Rattle.tag.specs.declared.refusals.Refusal.TheVariants.{ImageSize, NotNdef, UnknownVersion, BadAccess, BadDataArea, BadControlTlv, BadLength, NoMessageTlv, EmptyMessage, NotWritable, MessageTooLong, ShortBuffer, ShortGatheringBuffer, BlockTooSmall, MalformedCommand, ProtectedByte, Misread, Unfinished, TooManyRecords, ChunkedRecord, MalformedRecord, UnwritableRecords, BadUri, NestedTooDeep}
+use Rattle.tag.specs.declared.refusals.Fault as faults
+use Rattle.tag.specs.Refusals.{Refusal, refusal_at, image_size, not_ndef, unknown_version, bad_access, bad_data_area, bad_control_tlv, bad_length, no_message_tlv, empty_message, not_writable, message_too_long, short_buffer, short_gathering_buffer, block_too_small, malformed_command, protected_byte, misread, unfinished, too_many_records, chunked_record, malformed_record, unwritable_records, bad_uri, nested_too_deep}
+use Rattle.tag.specs.Reading.{message, empty, being-written, Answer, refusal, answer, Held, broken, held_as}
 use Rattle.tag.specs.TagType.{Output, refused_output, output}
 use Rattle.tag.specs.Judge.{Verdict, accepted, refused}
 use Rattle.tag.specs.Model.{Modelled, refused_storing, stored}
 
-abbrev pub content_of : code.Content → Content
-content_of content.Message = message
-content_of content.Empty = empty
-content_of content.BeingWritten = being-written
+-- the number of a refusal
+abbrev pub number_of : named.Refusal → ℕ
+number_of ImageSize = image_size
+number_of NotNdef = not_ndef
+number_of UnknownVersion = unknown_version
+number_of BadAccess = bad_access
+number_of BadDataArea = bad_data_area
+number_of BadControlTlv = bad_control_tlv
+number_of BadLength = bad_length
+number_of NoMessageTlv = no_message_tlv
+number_of EmptyMessage = empty_message
+number_of NotWritable = not_writable
+number_of MessageTooLong = message_too_long
+number_of ShortBuffer = short_buffer
+number_of ShortGatheringBuffer = short_gathering_buffer
+number_of BlockTooSmall = block_too_small
+number_of MalformedCommand = malformed_command
+number_of ProtectedByte = protected_byte
+number_of Misread = misread
+number_of Unfinished = unfinished
+number_of TooManyRecords = too_many_records
+number_of ChunkedRecord = chunked_record
+number_of MalformedRecord = malformed_record
+number_of UnwritableRecords = unwritable_records
+number_of BadUri = bad_uri
+number_of NestedTooDeep = nested_too_deep
 
--- reading
-abbrev pub read_as : ReadAnswer → Answer
-read_as (read.Refused r) = refusal r
-read_as (read.Reads p) = answer (content_of p.content) p.address.0 p.length p.interrupted p.writable p.capacity
+-- reading: without a message, the address and the length are 0
+abbrev pub content_as : code.Content → Bool → ℕ → Answer
+content_as (content.Message a n interrupted) writable capacity = answer message a.0 n interrupted writable capacity
+content_as content.Empty writable capacity = answer empty 0 0 false writable capacity
+content_as content.BeingWritten writable capacity = answer being-written 0 0 false writable capacity
+
+abbrev pub read_as : Result report.Report named.Refusal → Answer
+read_as (Err e) = refusal (number_of e)
+read_as (Ok p) = content_as p.content p.writable p.capacity
 
 -- what a call returns: a refusal, or what it gives on success
 pub data Returned (A : Type 0) : Type 0 where
@@ -42,33 +65,32 @@ abbrev pub count_of : Output → Returned ℕ
 count_of (refused_output r) = refuses_one r
 count_of (output n bytes) = gives n
 
-abbrev pub count_as : CountAnswer → Returned ℕ
-count_as (counted.Refused r) = refuses_one r
-count_as (counted.Count n) = gives n
+abbrev pub count_as : Result ℕ named.Refusal → Returned ℕ
+count_as (Err e) = refuses_one (number_of e)
+count_as (Ok n) = gives n
 
 -- judging
-abbrev pub verdict_as : JudgeAnswer → Verdict
-verdict_as (judged.Refused r p) = refused r p
-verdict_as (judged.Accepted n) = accepted n
+abbrev pub refused_as : faults.Fault → Verdict
+refused_as f = refused (number_of f.refusal) f.position
+
+abbrev pub verdict_as : Result ℕ faults.Fault → Verdict
+verdict_as (Err f) = refused_as f
+verdict_as (Ok n) = accepted n
 
 -- the model gives only that it stored
 abbrev pub storing_of : Modelled → Returned (Unit {0})
 storing_of (refused_storing r) = refuses_one r
 storing_of (stored j) = gives tt
 
-abbrev pub model_as : ModelAnswer → Returned (Unit {0})
-model_as (modelled.Refused r) = refuses_one r
-model_as modelled.Stored = gives tt
+abbrev pub model_as : Result (Unit {0}) named.Refusal → Returned (Unit {0})
+model_as (Err e) = refuses_one (number_of e)
+model_as (Ok u) = gives tt
 
 -- ---- what a tag holds, from the answer about it and the part shown
 
 abbrev pub held_by : Answer → List ℕ → Held
 held_by (refusal r) part = broken
 held_by (answer content a n interrupted w c) part = held_as content part
-
--- the old message, if there was one
-abbrev pub old_held : Bool → List ℕ → Held
-old_held b old = cond b (holds old) nothing
 
 abbrev pub is_message : Answer → Bool
 is_message (refusal r) = false

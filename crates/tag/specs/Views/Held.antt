@@ -1,8 +1,9 @@
 -- Reading a tag for what it holds, whatever its capacity. The judge reads this way after each command.
 -- Assumes nothing.
-use Rattle.std.specs.Prelude.{List, ℕ}
-use Rattle.tag.specs.declared.ReadAnswer.{ReadAnswer}
-use Rattle.tag.specs.Reading.{Reading, unreadable, reads}
+use Rattle.std.specs.Prelude.{List, ℕ, Result, Option, Some, None}
+use Rattle.tag.specs.declared.Report as report
+use Rattle.tag.specs.declared.refusals.Refusal as refusals
+use Rattle.tag.specs.Reading.{Reading, unreadable, reads, Held, nothing, holds}
 use Rattle.tag.specs.PublicContracts.{ReadOf}
 
 -- the same reading with another capacity
@@ -18,5 +19,10 @@ with_capacity c (reads p) = reads (record {
 })
 
 -- a call answers r and leaves the gathering buffer as out: as for reading the tag, but the answer may have any capacity
-abbrev pub ReadHeld : (List ℕ → Reading) → List ℕ → List ℕ → ReadAnswer → List ℕ → Type 0
+abbrev pub ReadHeld : (List ℕ → Reading) → List ℕ → List ℕ → Result report.Report refusals.Refusal → List ℕ → Type 0
 ReadHeld reading i buffer r out = (c : ℕ) × ReadOf (with_capacity c (reading i)) buffer r out
+
+-- what a tag held, by the old message, if it had one
+abbrev pub held_before : Option (List ℕ) → Held
+held_before (Some old) = holds old
+held_before None = nothing
