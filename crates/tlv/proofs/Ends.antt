@@ -12,7 +12,7 @@ use mir.Val.{bool_byte}
 use Rattle.tag.specs.Bytes.{byte}
 use Rattle.tlv.specs.Views.Areas.{SkipsSet}
 use Rattle.tlv.specs.Views.Counted.{OneMore, Added, TableOf}
-use Rattle.tlv.proofs.Skipping.{one_at_most}
+use Rattle.tlv.proofs.Skipping.{one_at_most, zeros}
 
 -- how many of the ends lie past x
 unfoldable pub past : List ℕ → ℕ → ℕ
@@ -120,11 +120,6 @@ module _ (first end n : ℕ) (t u : List ℕ) (o : OneMore first end t u) (L : L
   }
 
 -- ---- all areas
-
-zeros : (m a : ℕ) → byte (replicate m 0) a ≡ 0
-zeros zero a = refl
-zeros (suc m) zero = refl
-zeros (suc m) (suc a) = zeros m a
 
 none-lead : (end m : ℕ) → Leading end 0 (replicate m 0)
 none-lead end m = record {

@@ -90,6 +90,10 @@ module _ (allowed : Area → Bool) where
   walk_more (suc k) i us vs p e =
       rw (e, find) (find-fuel k (suc k) i vs (omega (arith, step_less i us vs e)) (omega (arith, step_less i us vs e)))
 
+  -- a NULL TLV is its type byte alone
+  pub null-passed : (k : ℕ) (i : List ℕ) (a : ℕ) (us : List ℕ) → byte i a ≡ 0 → suc (length us) ≤ k → find allowed k i (a ∷ us) ≡ find allowed k i us
+  null-passed k i a us z p = let e : step allowed i (a ∷ us) ≡ on (more us) = rw z in walk_more k i (a ∷ us) us p e
+
   pub walk-stop : (k : ℕ) (i us : List ℕ) (r : ℕ) → length us ≤ k → step allowed i us ≡ on (stop r)
       → find allowed k i us ≡ lost r
   unfolding find

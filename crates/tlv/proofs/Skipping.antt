@@ -1,7 +1,7 @@
 -- The skip table against the list of usable addresses: one address passed or taken, how many there are, whether none is skipped,
 -- the one after k others, and an area skipped.
 -- Assumes nothing.
-use mathlib.Core.Path.{◌≡◌, refl, ap, ◌∙◌}
+use mathlib.Core.Path.{◌≡◌, refl, sym, ap, ◌∙◌}
 use mathlib.Core.Bool.{Bool, true, false, not, ◌&&◌, and_assoc}
 use mathlib.Core.List.{List, [], ◌∷◌}
 use Prim.Native.Nat.{ℕ, zero, suc, ◌+◌, ◌-◌, ◌<◌, ◌≤◌}
@@ -9,7 +9,8 @@ use native.Mathlib.Omega.{arith}
 use borrow.Author.Tests.{ne_eqb}
 use lib.Bits.{bit_or, or_zero_l, or_add_and, and_le_r}
 use lib.Dec.{eqb}
-use lib.ListN.{length, get_or, drop, replicate, get_or-replicate}
+use lib.ListN.{length, get_or, take, drop, replicate}
+use Rattle.std.proofs.lemmas.List.{get_or-take, get_or-drop}
 use mir.Val.{bool_byte}
 use Rattle.tag.specs.Bytes.{byte, run}
 use Rattle.tag.proofs.Logic.{and_l, and_r}
@@ -36,6 +37,22 @@ pub unskipped-end : (t : List ℕ) (a n : ℕ) → n ≡ 0 → unskipped t a n �
 unfolding unskipped
 unskipped-end t a n e = rw e
 
+-- ---- parts of the table
+
+-- the part from a up to e has the entries of the table
+part-agrees : (t : List ℕ) (a e k : ℕ) → k < e - a → byte (take (e - a) (drop a t)) (0 + k) ≡ byte t (a + k)
+part-agrees t a e k l = let z : 0 + k ≡ k = omega arith in rw z (get_or-take (e - a) (drop a t) k 0 l ∙ get_or-drop a t k 0)
+
+-- tables that agree for n + 1 entries agree in the first, and in the n after it
+agree-first : (t u : List ℕ) (a b n : ℕ) → ((k : ℕ) → k < suc n → byte t (a + k) ≡ byte u (b + k))
+    → (byte t a ≡ byte u b) × ((k : ℕ) → k < n → byte t (suc a + k) ≡ byte u (suc b + k))
+agree-first t u a b n h =
+    let e : a + 0 ≡ a = omega arith in
+    let f : b + 0 ≡ b = omega arith in (
+      rw (e, f) at (h 0 (omega arith)),
+      λ k l. let x : a + suc k ≡ suc a + k = omega arith in let y : b + suc k ≡ suc b + k = omega arith in rw (x, y) at (h (suc k) (omega arith)),
+    )
+
 -- ---- counted
 
 pub one_at_most : (b : Bool) → bool_byte b ≤ 1
@@ -59,6 +76,22 @@ unskipped-few t a (suc n) = go (eqb (byte t a) 0) refl (unskipped-few t (suc a) 
     go true q ih = rw (q, unskipped) (omega arith)
     go false q ih = rw (q, unskipped) (omega arith)
 
+-- in two tables that agree from a on and from b on
+count-same : (t u : List ℕ) (a b n : ℕ) → ((k : ℕ) → k < n → byte t (a + k) ≡ byte u (b + k)) → length (unskipped t a n) ≡ length (unskipped u b n)
+count-same t u a b zero h = ap length (unskipped-end t a 0 refl ∙ sym (unskipped-end u b 0 refl))
+count-same t u a b (suc n) h =
+    let s = agree-first t u a b n h in
+    let l : 0 < suc n = omega arith in
+    let x : a + 1 ≡ suc a = omega arith in
+    let y : b + 1 ≡ suc b = omega arith in
+    let z : suc n - 1 ≡ n = omega arith in
+    let i : length (unskipped t (a + 1) (suc n - 1)) ≡ length (unskipped u (b + 1) (suc n - 1)) = rw (x, y, z) (count-same t u (suc a) (suc b) n s.1) in
+    sym (unskipped-count t a (suc n) l) ∙ rw (s.0, i) (unskipped-count u b (suc n) l)
+
+-- in the part of the table from a up to e
+pub count-part : (t : List ℕ) (a e : ℕ) → length (unskipped (take (e - a) (drop a t)) 0 (e - a)) ≡ length (unskipped t a (e - a))
+count-part t a e = count-same (take (e - a) (drop a t)) t 0 a (e - a) (part-agrees t a e)
+
 -- ---- none skipped
 
 or-zero : (x y : ℕ) → eqb (bit_or x y) 0 ≡ eqb x 0 && eqb y 0
@@ -79,6 +112,16 @@ pub none_end : (t : List ℕ) (a n : ℕ) (b : Bool) → n ≡ 0 → b ≡ b && 
 unfolding none_skipped
 none_end t a n true z = rw z
 none_end t a n false z = refl
+
+-- two tables that agree from a on and from b on
+none-same : (t u : List ℕ) (a b n : ℕ) → ((k : ℕ) → k < n → byte t (a + k) ≡ byte u (b + k)) → none_skipped t a n ≡ none_skipped u b n
+unfolding none_skipped
+none-same t u a b zero h = refl
+none-same t u a b (suc n) h = let s = agree-first t u a b n h in rw (s.0, none-same t u (suc a) (suc b) n s.1)
+
+-- in the part of the table from a up to e
+pub none-part : (t : List ℕ) (a e : ℕ) → none_skipped (take (e - a) (drop a t)) 0 (e - a) ≡ none_skipped t a (e - a)
+none-part t a e = none-same (take (e - a) (drop a t)) t 0 a (e - a) (part-agrees t a e)
 
 -- ---- the one after k others
 
@@ -114,13 +157,17 @@ unskipped-past t a k (suc n) d l = go k (eqb (byte t a) 0) refl l (λ j m. unski
 
 -- ---- tables
 
+pub zeros : (m a : ℕ) → byte (replicate m 0) a ≡ 0
+zeros zero a = refl
+zeros (suc m) zero = refl
+zeros (suc m) (suc a) = zeros m a
+
 -- a table of zeros skips nothing
-pub unskipped-all : (m a n : ℕ) → a + n ≤ m → unskipped (replicate m 0) a n ≡ run a n
+pub unskipped-all : (m a n : ℕ) → unskipped (replicate m 0) a n ≡ run a n
 unfolding unskipped
-unskipped-all m a zero h = refl
-unskipped-all m a (suc n) h =
-    let e : byte (replicate m 0) a ≡ 0 = get_or-replicate m a 0 0 (omega arith) in
-    rw (e, unskipped) (ap (λ us. a ∷ us) (unskipped-all m (suc a) n (omega arith)))
+unskipped-all m a zero = refl
+unskipped-all m a (suc n) =
+    rw (zeros m a, unskipped) (ap (λ us. a ∷ us) (unskipped-all m (suc a) n))
 
 -- a table that grows by an area
 pub skipped-more : (t u : List ℕ) (r : Area) (a n : ℕ)

@@ -1,14 +1,15 @@
 -- A search from one tested address to the next: which addresses it tests, and what it passes over.
 -- Assumes nothing.
-use mathlib.Core.Path.{◌≡◌, refl, ◌∙◌}
+use mathlib.Core.Path.{◌≡◌, refl, sym, ◌∙◌}
 use mathlib.Core.List.{List, [], ◌∷◌}
 use Prim.Native.Nat.{ℕ, zero, suc, ◌+◌, ◌-◌, ◌<◌, ◌≤◌}
+use native.Mathlib.Decide.{dec_lt}
 use native.Mathlib.Omega.{arith}
 use borrow.Author.Tests.{ne_eqb, eq-eqb, lt-ltb, le-ltb}
 use Rattle.tag.specs.Bytes.{byte}
 use Rattle.tlv.specs.Views.Table.{unskipped}
 use Rattle.tlv.specs.Views.Search.{tests}
-use Rattle.tlv.proofs.Skipping.{unskipped-pass}
+use Rattle.tlv.proofs.Skipping.{unskipped-pass, unskipped-end}
 
 -- ---- the addresses tested
 
@@ -40,8 +41,18 @@ passed-by t (suc k) a n h l =
     ∙ rw (e, f) at (passed-by t k (a + 1) (n - 1) (λ x p q. h x (omega arith) (omega arith)) (omega arith))
 
 -- from a to the later address b
-pub passed_to : (t : List ℕ) (a b end : ℕ) → a ≤ b → b ≤ end → ((x : ℕ) → a ≤ x → x < b → 0 < byte t x) → unskipped t a (end - a) ≡ unskipped t b (end - b)
-passed_to t a b end l k h =
+passed-to-end : (t : List ℕ) (a b end : ℕ) → a ≤ b → b ≤ end → ((x : ℕ) → a ≤ x → x < b → 0 < byte t x) → unskipped t a (end - a) ≡ unskipped t b (end - b)
+passed-to-end t a b end l k h =
     let e : a + (b - a) ≡ b = omega arith in
     let f : end - a - (b - a) ≡ end - b = omega arith in
     rw (e, f) at (passed-by t (b - a) a (end - a) (λ x p q. h x p (omega arith)) (omega arith))
+
+-- b may lie past the end
+pub passed_to : (t : List ℕ) (a b end : ℕ) → a ≤ b → a ≤ end → ((x : ℕ) → a ≤ x → x < b → 0 < byte t x) → unskipped t a (end - a) ≡ unskipped t b (end - b)
+passed_to t a b end l m h = go (dec_lt end b)
+  where
+    go : Dec (end < b) → unskipped t a (end - a) ≡ unskipped t b (end - b)
+    go (yes k) =
+        passed-to-end t a end end m (omega arith) (λ x p q. h x p (omega arith))
+        ∙ unskipped-end t end (end - end) (omega arith) ∙ sym (unskipped-end t b (end - b) (omega arith))
+    go (no k) = passed-to-end t a b end l (omega arith) h

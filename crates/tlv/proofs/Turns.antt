@@ -5,7 +5,7 @@ use mathlib.Core.List.{List, ◌∷◌, ◌++◌, map, append_assoc}
 use Prim.Native.Nat.{ℕ, zero, suc, ◌+◌, ◌-◌, ◌<◌}
 use native.Mathlib.Numerals.{add-one}
 use native.Mathlib.Omega.{arith}
-use lib.ListN.{length, get_or, set, take, drop, replicate}
+use lib.ListN.{length, get_or, set, take, drop}
 use lib.Seq.{take-suc-set, drop-set-lt, drop-cons}
 use Rattle.tag.specs.Bytes.{overwrite}
 
@@ -22,10 +22,6 @@ take_next (suc n) a us h = let e : suc n - 1 ≡ n = omega arith in rw e
 pub drop-next : (n a : ℕ) (us : List ℕ) → 0 < n → drop n (a ∷ us) ≡ drop (n - 1) us
 drop-next zero a us h = absurd (omega arith)
 drop-next (suc n) a us h = let e : suc n - 1 ≡ n = omega arith in rw e
-
-pub replicate_next : (n a : ℕ) → 0 < n → replicate n a ≡ a ∷ replicate (n - 1) a
-replicate_next zero a h = absurd (omega arith)
-replicate_next (suc n) a h = let e : suc n - 1 ≡ n = omega arith in rw e
 
 -- ---- a store behind the k bytes that are filled
 

@@ -57,7 +57,6 @@ ahead-rising t w h = from-rising t w.at.0 w.end.0 h
 -- a place at a usable address, or at the end
 pub record At (t : List ℕ) (a e : ℕ) : Type 0 where
   pub within : a ≤ e
-  pub in_table : e ≤ length t
   pub free : a < e → byte t a ≡ 0
 
 -- from a usable address to the next one, f
@@ -77,6 +76,14 @@ from_first t f e d p l = go (dec_lt f e)
     go : Dec (f < e) → get_or (from t f e) 0 d ≡ f
     go (yes u) = ap (λ us. get_or us 0 d) (from_next t f (f + 1) e p u refl)
     go (no n) = absurd (omega (arith, ap length (from_end t f e (omega arith))))
+
+-- the first of them is the place itself, or the end if none is left
+pub from_here : (t : List ℕ) (f e : ℕ) → At t f e → get_or (from t f e) 0 e ≡ f
+from_here t f e p = go (dec_lt f e)
+  where
+    go : Dec (f < e) → get_or (from t f e) 0 e ≡ f
+    go (yes u) = ap (λ us. get_or us 0 e) (from_next t f (f + 1) e p u refl)
+    go (no n) = let z : e ≡ f = omega (arith, p.within) in ap (λ us. get_or us 0 e) (from_end t f e (omega arith)) ∙ z
 
 -- ---- values set at them
 

@@ -1,100 +1,70 @@
 // Length fields, and values passed over.
 
-ghost use Rattle.std.specs.Prelude.{◌≡◌};
+ghost use Rattle.std.specs.Prelude.{◌≡◌, ◌≤◌, length};
 ghost use Rattle.tlv.specs.Walk.{len, long_of, length_of, pass_value};
-ghost use Rattle.tlv.specs.Views.Walks.{ahead, Placed, Within};
-ghost use Rattle.tlv.specs.Views.Passing.{field_as, FieldPlaced, passed_as, PassedWithin, PassedPlaced};
+ghost use Rattle.tlv.specs.Views.Walks.{ahead, Counted};
+ghost use Rattle.tlv.specs.Views.Passing.{field_as, FieldPlaced, passed_as, PassedPlaced};
 
-use crate::walk;
-use crate::walk::{Taken, Walk};
-use tag::{Address, refusals};
-
-// A length field: bad, or its number and the walk past it.
-#[derive(Clone, Copy)]
-pub enum Field {
-    Bad,
-    Is(usize, Walk),
-}
-
-// A TLV passed: the walk past it, or a refusal.
-#[derive(Clone, Copy)]
-pub enum Passed {
-    Refused(u8),
-    More(Walk),
-}
+use crate::table::SkipTable;
+use crate::walk::Walk;
+use tag::{Address, Refusal};
 
 impl Walk {
-    // The two bytes after FFh, high first.
-    fn take_long(self, image: &[u8], table: &[u16]) -> Field
-        requires { Placed image.now table.now self }
+    // The number in the two bytes after FFh, high first: 255 to 65,534. And the walk past them.
+    #[tactic(auto, unfolding(crate::specs::Walk::long_by))]
+    fn take_long(self, image: &[u8], table: &SkipTable) -> Option<(usize, Walk)>
+        requires { self.end.0 ≤ length image.now }
         ensures is { field_as table.now result ≡ long_of image.now (ahead table.now self) }
-        ensures placed { FieldPlaced image.now table.now self result }
+        ensures placed { FieldPlaced table.now self result }
     {
-        match self.take_byte(image, table) {
-            Taken::Nothing => Field::Bad,
-            Taken::Byte(high, _, w) => match w.take_byte(image, table) {
-                Taken::Nothing => Field::Bad,
-                Taken::Byte(low, _, v) => {
-                    let n = 256 * (high as usize) + (low as usize);
-                    if n < 255 {
-                        return Field::Bad;
-                    }
-                    if 65534 < n {
-                        return Field::Bad;
-                    }
-                    Field::Is(n, v)
-                }
-            },
+        let (high, _, walk) = self.take_byte(image, table)?;
+        let (low, _, walk) = walk.take_byte(image, table)?;
+        let n = usize::from(u16::from_be_bytes([high, low]));
+        if n < 255 || 65534 < n {
+            return None;
         }
+        Some((n, walk))
     }
 
-    // A length field: one byte 00h to FEh, or three.
-    pub fn take_length(self, image: &[u8], table: &[u16]) -> Field
-        requires { Placed image.now table.now self }
+    // The number in a length field, one byte 00h to FEh or three, and the walk past it. None: a bad field.
+    #[tactic(auto, unfolding(crate::specs::Walk::length_by))]
+    pub fn take_length(self, image: &[u8], table: &SkipTable) -> Option<(usize, Walk)>
+        requires { self.end.0 ≤ length image.now }
         ensures is { field_as table.now result ≡ length_of image.now (ahead table.now self) }
-        ensures placed { FieldPlaced image.now table.now self result }
+        ensures placed { FieldPlaced table.now self result }
     {
-        match self.take_byte(image, table) {
-            Taken::Nothing => Field::Bad,
-            Taken::Byte(b, _, w) => {
-                let n = b as usize;
-                if n <= 254 {
-                    return Field::Is(n, w);
-                }
-                w.take_long(image, table)
-            }
+        let (byte, _, walk) = self.take_byte(image, table)?;
+        if byte == 0xFF {
+            return walk.take_long(image, table);
         }
+        Some((usize::from(byte), walk))
     }
 
     // Passes over the next `n` usable bytes.
-    pub(crate) fn pass_value(self, n: usize, table: &[u16]) -> Passed
-        requires { Within table.now self }
+    #[tactic(auto, unfolding(crate::specs::Walk::pass_value))]
+    pub(crate) fn pass_value(self, n: usize, table: &SkipTable) -> Result<Walk, Refusal>
+        requires { Counted table.now self }
         ensures is { passed_as table.now result ≡ pass_value (len n (ahead table.now self)) }
-        ensures placed { PassedWithin self result }
+        ensures placed { PassedPlaced table.now table.now 0 self result }
     {
         if n == 0 {
-            return Passed::More(self);
+            return Ok(self);
         }
-        let end = self.end;
-        let areas = self.areas;
-        let last = walk::nth(self, n - 1, table);
-        let z = last.0;
-        if z == end.0 {
-            return Passed::Refused(refusals::BAD_LENGTH);
+        let last = self.nth(n - 1, table);
+        if last == self.end {
+            return Err(Refusal::BadLength);
         }
-        let at = Address(z + 1);
-        Passed::More(Walk { at, end, areas })
+        Ok(self.moved_to(Address(last.0 + 1)))
     }
 
     // Passes a TLV of another type, after its type byte: its length and its value.
-    pub fn pass_other(self, image: &[u8], table: &[u16]) -> Passed
-        requires { Placed image.now table.now self }
+    #[tactic(auto, unfolding(crate::specs::Walk::pass_value))]
+    pub fn pass_other(self, image: &[u8], table: &SkipTable) -> Result<Walk, Refusal>
+        requires { (self.end.0 ≤ length image.now) × Counted table.now self }
         ensures is { passed_as table.now result ≡ pass_value (length_of image.now (ahead table.now self)) }
-        ensures placed { PassedPlaced image.now table.now table.now 0 self result }
+        ensures placed { PassedPlaced table.now table.now 0 self result }
     {
-        match self.take_length(image, table) {
-            Field::Bad => Passed::Refused(refusals::BAD_LENGTH),
-            Field::Is(n, w) => w.pass_value(n, table),
-        }
+        let (n, walk) = self.take_length(image, table).ok_or(Refusal::BadLength)?;
+        walk.pass_value(n, table)
     }
 }

@@ -1,30 +1,33 @@
 // The walk over the TLVs of a data area. Each method takes the place reached by value and hands it back moved on.
+//
+// Image and table are arguments: each step copies a `Walk`, and a table that is written can't be a field of it.
+// Which table goes with the walk is a clause, `Counted`: the table changes, and the walk is copied.
 
-ghost use Rattle.std.specs.Prelude.{◌≡◌, ◌≤◌, get_or};
+ghost use Rattle.std.specs.Prelude.{◌≡◌, ◌≤◌, length, get_or};
 ghost use Rattle.tlv.specs.Walk.{take_byte};
-ghost use Rattle.tlv.specs.Views.Walks.{ahead, Placed, Within, taken_as, TakenPlaced};
 
-use crate::table;
+use crate::table::SkipTable;
 use tag::Address;
 
 // The place reached: the next address to look at, the data area's end, and how many areas were declared on the way.
-#[derive(Clone, Copy)]
+#[derive(Clone, Copy, Debug, PartialEq, Eq)]
 pub struct Walk {
     pub at: Address,
     pub end: Address,
     pub areas: usize,
-}
-
-// A byte taken: its value, its address, and the walk past it; or none is left.
-#[derive(Clone, Copy)]
-pub enum Taken {
-    Nothing,
-    Byte(u8, Address, Walk),
+    ghost ordered: { at.0 ≤ end.0 },
+    ghost in_table: { end.0 ≤ 1024 },
+    // declaring an area takes bytes
+    ghost few: { areas ≤ at.0 },
 }
 
 impl Walk {
-    // The walk over the data area from `first` up to `end`, before its first byte.
+    ghost use Rattle.tlv.specs.Views.Walks.{ahead, Counted, taken_as, TakenPlaced};
+
+    // The walk over the data area from `first` up to `end`, before its first byte. The bounds are a clause, because a walk that breaks them can't be
+    // made.
     pub fn new(first: Address, end: Address) -> Walk
+        requires { (first.0 ≤ end.0) × (end.0 ≤ 1024) }
         ensures { (result.at.0 ≡ first.0) × (result.end.0 ≡ end.0) × (result.areas ≡ 0) }
     {
         Walk {
@@ -34,63 +37,56 @@ impl Walk {
         }
     }
 
-    // The next usable byte.
-    pub(crate) fn take_byte(self, image: &[u8], table: &[u16]) -> Taken
-        requires { Placed image.now table.now self }
-        ensures is { taken_as table.now result ≡ take_byte image.now (ahead table.now self) }
-        ensures placed { TakenPlaced image.now table.now self result }
+    // The walk moved on to `at`.
+    pub fn moved_to(self, at: Address) -> Walk
+        requires { (self.at.0 ≤ at.0) × (at.0 ≤ self.end.0) }
+        ensures { (result.at.0 ≡ at.0) × (result.end.0 ≡ self.end.0) × (result.areas ≡ self.areas) }
     {
-        let end = self.end;
-        let areas = self.areas;
-        let found = table::next_usable(table, self.at, end);
-        let a = found.0;
-        if a < end.0 {
-            let next = Address(a + 1);
-            Taken::Byte(
-                image[a],
-                found,
-                Walk {
-                    at: next,
-                    end,
-                    areas,
-                },
-            )
-        } else {
-            Taken::Nothing
+        // The language refuses `..self` in a struct with ghost fields.
+        Walk {
+            at,
+            end: self.end,
+            areas: self.areas,
         }
     }
-}
 
-// The usable address that comes after `k` others, or the end if there are at most `k`. Without areas nothing is skipped. With some,
-// mostly nothing is skipped on the way there, so the code tests that first: one sweep is quicker than going from each usable address
-// to the next.
-pub fn nth(w: Walk, k: usize, table: &[u16]) -> Address
-    requires { Within table.now w }
-    ensures is { result.0 ≡ get_or (ahead table.now w) k w.end.0 }
-    ensures within { (w.at.0 ≤ result.0) × (result.0 ≤ w.end.0) }
-{
-    let end = w.end;
-    let stop = end.0;
-    let here = w.at.0;
-    if stop - here <= k {
-        return end;
-    }
-    if w.areas == 0 {
-        return Address(here + k);
-    }
-    if table::none_skipped(table, w.at, Address(here + k + 1)) {
-        return Address(here + k);
-    }
-    let first = table::next_usable(table, w.at, end);
-    let mut a = first.0;
-    let mut left = k;
-    while a < stop {
-        if left == 0 {
-            return Address(a);
+    // The next usable byte: its value, its address, and the walk past it; or none is left.
+    pub(crate) fn take_byte(self, image: &[u8], table: &SkipTable) -> Option<(u8, Address, Walk)>
+        requires { self.end.0 ≤ length image.now }
+        ensures is { taken_as table.now result ≡ take_byte image.now (ahead table.now self) }
+        ensures placed { TakenPlaced table.now self result }
+    {
+        let place = table.next_usable(self.at, self.end);
+        if place == self.end {
+            return None;
         }
-        let next = table::next_usable(table, Address(a + 1), end);
-        a = next.0;
-        left -= 1;
+        Some((image[place.0], place, self.moved_to(Address(place.0 + 1))))
     }
-    end
+
+    // The usable address that comes after `k` others, or the end if there are at most `k`. Without areas nothing is skipped. With
+    // some, mostly nothing is skipped on the way there, so the code tests that first: one sweep is quicker than going from each usable
+    // address to the next.
+    // The end stands for none, as in `SkipTable::search`.
+    pub fn nth(self, k: usize, table: &SkipTable) -> Address
+        requires { Counted table.now self }
+        ensures is { result.0 ≡ get_or (ahead table.now self) k self.end.0 }
+        ensures within { (self.at.0 ≤ result.0) × (result.0 ≤ self.end.0) }
+    {
+        if self.end.0 - self.at.0 <= k {
+            return self.end;
+        }
+        let direct = Address(self.at.0 + k);
+        if self.areas == 0 || table.none_skipped(self.at, Address(direct.0 + 1)) {
+            return direct;
+        }
+        let mut at = table.next_usable(self.at, self.end);
+        // Not through `take_byte`: it needs an image, and is slower in such loops (D53).
+        for _ in 0..k {
+            if at == self.end {
+                return at;
+            }
+            at = table.next_usable(Address(at.0 + 1), self.end);
+        }
+        at
+    }
 }

@@ -14,11 +14,6 @@ control_as kind.Memory = memory
 abbrev pub area_as : code-area.Area → Area
 area_as r = record { start = r.start.0; size = r.size }
 
--- a start is at most 15·2^15 + 15
-pub record SmallArea (r : code-area.Area) : Type 0 where
-  pub start : r.start.0 ≤ 491535
-  pub size : r.size ≤ 256
-
 -- the entries of the addresses from first up to stop are stop, and all other entries are as they were
 pub record SkipsSet (t u : List ℕ) (first stop : ℕ) : Type 0 where
   pub same_length : length u ≡ length t

@@ -3,12 +3,8 @@ use Rattle.std.proofs.Common.{◌≡◌, ◌+◌, ◌-◌, ◌≤◌, length}
 use Rattle.tlv.specs.Views.Table.{unskipped}
 use Rattle.tlv_value.proofs.value.count_usable.Given as goal
 
-abbrev pub invariant-loop-a : goal.invariant-loop-a
-invariant-loop-a l = record {
-  inside : l.a ≤ l.stop;
-  few : l.initial.a + l.n ≤ l.a;
-  counted : l.n + length (unskipped l.table l.a (l.stop - l.a)) ≡ length (unskipped l.table l.initial.a (l.stop - l.initial.a));
+abbrev pub invariant-loop-entry : goal.invariant-loop-entry
+invariant-loop-entry l = record {
+  few : l.n ≤ l.entry-index;
+  counted : l.n + length (unskipped l.entry-items l.entry-index (length l.entry-items - l.entry-index)) ≡ length (unskipped l.entry-items 0 (length l.entry-items));
 }
-
-abbrev pub decreases-loop-a : goal.decreases-loop-a
-decreases-loop-a l = l.stop - l.a

@@ -5,11 +5,11 @@ use Rattle.tlv.specs.Walk.{find}
 use Rattle.tlv.specs.Views.Walks.{ahead, rule_of, Walked}
 use Rattle.tlv.proofs.walk.Walk.find_message.Given as goal
 
-abbrev pub invariant-loop-r : goal.invariant-loop-r
-invariant-loop-r l = record {
-  finds : find (rule_of l.image l.first) (l.initial.w.end.0 - l.initial.w.at.0) l.image (ahead l.initial.table l.initial.w) ≡ find (rule_of l.image l.first) (l.initial.w.end.0 - l.initial.w.at.0) l.image (ahead l.table l.w);
-  walked : Walked l.image l.initial.table l.table l.initial.w l.w;
+abbrev pub invariant-loop-byte : goal.invariant-loop-byte
+invariant-loop-byte l = record {
+  finds : find (rule_of l.image l.first) (l.initial.walk.end.0 - l.initial.walk.at.0) l.image (ahead l.initial.table l.initial.walk) ≡ find (rule_of l.image l.first) (l.initial.walk.end.0 - l.initial.walk.at.0) l.image (ahead l.table l.walk);
+  walked : Walked l.initial.table l.table l.initial.walk l.walk;
 }
 
-abbrev pub decreases-loop-r : goal.decreases-loop-r
-decreases-loop-r l = l.w.end.0 - l.w.at.0
+abbrev pub decreases-loop-byte : goal.decreases-loop-byte
+decreases-loop-byte l = l.walk.end.0 - l.walk.at.0

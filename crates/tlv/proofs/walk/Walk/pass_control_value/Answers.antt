@@ -1,6 +1,9 @@
-use Rattle.tlv.proofs.Steps.{onward, passed-onward}
+use Rattle.tlv.proofs.Steps.{onward}
 use Rattle.tlv.proofs.walk.Walk.pass_control_value.Goals as goal
 
-pub returns-in-Byte-take_byte-clause-placed : goal.returns-in-Byte-take_byte-clause-placed
-returns-in-Byte-take_byte-clause-placed c =
-    passed-onward c.pass_last.new.table c.pass_last.result (onward c.in-Byte.ensures.placed.0 c.in-Byte-take_byte.ensures.placed.0) c.pass_last.ensures.placed
+pub returns-clause-placed : goal.returns-clause-placed
+returns-clause-placed c =
+    let first = rw c.in_ok-place.ensures.ok_part at c.take_byte.ensures.placed in
+    let second = rw c.in_ok-size.ensures.ok_part at c.take_byte-2.ensures.placed in
+    let third = rw c.in_ok-last.ensures.ok_part at c.take_byte-3.ensures.placed in
+    onward (onward first.0 second.0) (onward third.0 c.skip_area.ensures.placed)

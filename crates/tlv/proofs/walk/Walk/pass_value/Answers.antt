@@ -1,15 +1,21 @@
-use Rattle.std.proofs.Common.{arith}
-use Rattle.tlv.specs.Views.Walks.{ahead}
-use Rattle.tlv.proofs.PassedValues.{passed_none, passed-short, passed-past}
+use Rattle.std.proofs.Common.{◌≡◌, arith, rules}
+use Rattle.tlv.proofs.PassedValues.{passed-short, passed-past}
+use Rattle.tlv.proofs.Steps.{stay, moved}
 use Rattle.tlv.proofs.walk.Walk.pass_value.Goals as goal
 
-pub returns-then-n-eq0-clause-is : goal.returns-then-n-eq0-clause-is
-returns-then-n-eq0-clause-is c = passed_none (ahead c.args.table.now c.args.self) c.args.n c.if-n-eq0.true
-
-pub returns-then-z-end-clause-is : goal.returns-then-z-end-clause-is
-returns-then-z-end-clause-is c =
-    passed-short c.args.table.now c.args.self c.args.n c.nth-last.result.0 c.requires (omega arith) c.nth-last.ensures.is c.if-z-end.true
+pub returns-then-eq-clause-is : goal.returns-then-eq-clause-is
+returns-then-eq-clause-is c =
+    let at_end : c.nth-last.result.0 ≡ c.args.self.end.0 = search rules in
+    passed-short c.args.table.now c.args.self c.args.n c.nth-last.result.0 (omega arith) c.nth-last.ensures.is at_end
 
 pub returns-clause-is : goal.returns-clause-is
 returns-clause-is c =
-    passed-past c.args.table.now c.args.self c.args.n c.nth-last.result.0 c.requires (omega arith) c.nth-last.ensures.is c.if-z-end.false
+    let apart : (c.nth-last.result.0 ≡ c.args.self.end.0 → ⊥) = search rules in
+    rw (c.moved_to.ensures.0, c.moved_to.ensures.1)
+    (passed-past c.args.table.now c.args.self c.args.n c.nth-last.result.0 (omega arith) c.nth-last.ensures.is apart)
+
+pub returns-then-n-eq0-clause-placed : goal.returns-then-n-eq0-clause-placed
+returns-then-n-eq0-clause-placed c = stay
+
+pub returns-clause-placed : goal.returns-clause-placed
+returns-clause-placed c = moved (omega (arith, c.moved_to.ensures.0, c.nth-last.ensures.within)) c.moved_to.ensures.1 c.moved_to.ensures.2
