@@ -1,33 +1,31 @@
 -- Which bytes a tag with a TLV area protects: those outside the extent of the bytes to set, and the skipped ones in it.
 -- Assumes nothing.
-use mathlib.Core.Path.{◌≡◌, sym, ap, ◌∙◌}
+use mathlib.Core.Path.{◌≡◌, refl, sym, ap, ◌∙◌}
 use mathlib.Core.Bool.{Bool, true, false, not, ◌&&◌, ◌||◌, and-false}
 use mathlib.Core.List.{List}
 use Prim.Native.Nat.{ℕ, zero, suc, ◌+◌, ◌-◌, ◌<◌, ◌≤◌}
 use native.Mathlib.Decide.{ℕ_discrete}
 use native.Mathlib.Omega.{arith}
-use borrow.Author.Tests.{le-leb, lt-leb, lt-ltb, le-ltb, not-true, not-false}
+use borrow.Author.Tests.{le-leb, lt-leb, lt-ltb, le-ltb}
 use lib.Dec.{leb, eqb}
 use lib.ListN.{length, get_or, take, drop}
 use Rattle.tag.specs.Bytes.{byte, run, same, is_set}
-use Rattle.tag.specs.Views.Flags.{flag_to}
 use Rattle.tag.specs.Judge.{equal_at}
-use Rattle.tag.proofs.Flags.{flag-kept, zero_flag}
-use Rattle.tag.proofs.Keeping.{equal-same, equal-none, outside-differs, outside-same}
+use Rattle.tag.proofs.Keeping.{equal-same, equal-none, equal-split, outside-differs, outside-same}
 use Rattle.tag.proofs.Logic.{and_l, and_r}
 use Rattle.tlv.specs.declared.walk.Walk.{Walk}
 use Rattle.tlv.specs.Views.Table.{none_skipped, usable_in}
-use Rattle.tlv.specs.Views.Walks.{ahead, Within}
+use Rattle.tlv.specs.Views.Walks.{ahead}
 use Rattle.tlv.proofs.Usable.{set-usable}
-use Rattle.tlv_tag.specs.declared.kept.Extent.{Extent}
+use Rattle.tlv_tag.specs.declared.extent.Extent.{Extent}
 use Rattle.tlv_tag.specs.Views.Update.{tlv_bytes_length}
 use Rattle.tlv_tag.specs.Views.Kept.{Bounded}
 
 -- the bytes set lie below the usable address that comes after as many others
-pub set_below : (t : List ℕ) (w : Walk) → Within t w → (n k z : ℕ) → k ≡ tlv_bytes_length n → z ≡ get_or (ahead t w) k w.end.0
+pub set_below : (t : List ℕ) (w : Walk) → (n k z : ℕ) → k ≡ tlv_bytes_length n → z ≡ get_or (ahead t w) k w.end.0
     → (vs : List ℕ) (a : ℕ) → length vs ≡ tlv_bytes_length n → is_set (ahead t w) vs a ≡ usable_in t w.at.0 z a
-set_below t w h n k z f e vs a l =
-    set-usable t w.at.0 (w.end.0 - w.at.0) w.end.0 (omega (arith, h.ordered)) vs a
+set_below t w n k z f e vs a l =
+    set-usable t w.at.0 (w.end.0 - w.at.0) w.end.0 (omega (arith, w.ordered)) vs a
     ∙ ap (λ s. usable_in t w.at.0 s a) (ap (λ x. get_or (ahead t w) x w.end.0) (l ∙ sym f) ∙ sym e)
 
 -- if none is skipped, each is usable
@@ -40,46 +38,63 @@ none_each t a (suc n) h x l u = go (ℕ_discrete a x) (λ m. none_each t (suc a)
     go (yes e) ih = rw (← e) (and_l (eqb (byte t a) 0) (none_skipped t (suc a) n) h)
     go (no m) ih = ih (omega arith)
 
-module _ (i j t : List ℕ) (e : Extent) (b : Bounded t (length i) e) (size : length j ≡ length i) where
-  abbrev first : ℕ
-  first = e.first.0
+module _ (i j t : List ℕ) where
+  -- have the n bytes from an address on been kept, where they are skipped
+  abbrev pub skipped-kept : ℕ → ℕ → Bool
+  skipped-kept a n = equal_at (λ x. not (eqb (byte t x) 0)) i j (run a n)
 
-  abbrev stop : ℕ
-  stop = e.stop.0
+  -- one address more
+  pub changed-more : (first k : ℕ) → first ≤ k
+      → not (skipped-kept first (k - first)) || (not (eqb (byte t k) 0) && not (eqb (byte j k) (byte i k))) ≡ not (skipped-kept first (k + 1 - first))
+  changed-more first k l =
+      let n = k - first in
+      let more : k + 1 - first ≡ n + 1 = omega arith in
+      let here : first + n ≡ k = omega arith in
+      sym (rw (more, equal-split (λ x. not (eqb (byte t x) 0)) i j n first 1, here) (go (skipped-kept first n) (eqb (byte t k) 0) (eqb (byte j k) (byte i k))))
+    where
+      go : (a z e : Bool) → not (a && ((not (not z) || e) && true)) ≡ not a || (not z && not e)
+      go false z e = refl
+      go true true e = refl
+      go true false true = refl
+      go true false false = refl
 
-  -- is the address protected
-  abbrev p : ℕ → Bool
-  p a = not (usable_in t first stop a)
+  module _ (e : Extent) (b : Bounded t (length i) e) (size : length j ≡ length i) where
+    abbrev first : ℕ
+    first = e.first.0
 
-  abbrev Outside : Bool → Type 0
-  Outside r = r ≡ same (take first j) (take first i) && same (drop stop j) (drop stop i)
+    abbrev stop : ℕ
+    stop = e.stop.0
 
-  below : (a : ℕ) → a < first → p a ≡ true
-  below a u = rw (lt-leb first a u)
+    -- is the address protected
+    abbrev p : ℕ → Bool
+    p a = not (usable_in t first stop a)
 
-  above : (a : ℕ) → stop ≤ a → p a ≡ true
-  above a l = rw (le-ltb a stop l, and-false (leb first a))
+    abbrev outside : Bool
+    outside = same (take first j) (take first i) && same (drop stop j) (drop stop i)
 
-  inside : (a : ℕ) → first ≤ a → a < first + (stop - first) → p a ≡ not (eqb (byte t a) 0)
-  inside a l u = rw (le-leb first a l, lt-ltb a stop (omega (arith, b.ordered)))
+    below : (a : ℕ) → a < first → p a ≡ true
+    below a u = rw (lt-leb first a u)
 
-  pub front-or-back : (r : Bool) → Outside r → not r ≡ true → false ≡ equal_at p i j (run 0 (length i))
-  front-or-back r q n = sym (outside-differs p i j first stop size b.ordered b.below below above (sym q ∙ not-true r n))
+    above : (a : ℕ) → stop ≤ a → p a ≡ true
+    above a l = rw (le-ltb a stop l, and-false (leb first a))
 
-  module _ (r : Bool) (q : Outside r) (n : not r ≡ false) where
-    kept-inside : equal_at p i j (run 0 (length i)) ≡ equal_at p i j (run first (stop - first))
-    kept-inside = outside-same p i j first stop size b.ordered b.below below above (sym q ∙ not-false r n)
+    inside : (a : ℕ) → first ≤ a → a < first + (stop - first) → p a ≡ not (eqb (byte t a) 0)
+    inside a l u = rw (le-leb first a l, lt-ltb a stop (omega (arith, e.ordered)))
 
-    -- nothing in between is skipped, and nothing there is protected
-    pub kept-plain : not e.skips ≡ true → true ≡ equal_at p i j (run 0 (length i))
+    pub changed-outside : outside ≡ false → equal_at p i j (run 0 (length i)) ≡ false
+    changed-outside = outside-differs p i j first stop size e.ordered b.below below above
+
+    pub kept-outside : outside ≡ true → equal_at p i j (run 0 (length i)) ≡ skipped-kept first (stop - first)
+    kept-outside q =
+        outside-same p i j first stop size e.ordered b.below below above q
+        ∙ equal-same p (λ x. not (eqb (byte t x) 0)) i j first (stop - first) inside
+
+    -- nothing in between is skipped
+    pub kept-plain : e.skips ≡ false → skipped-kept first (stop - first) ≡ true
     kept-plain s =
-        let none : none_skipped t first (stop - first) ≡ true = not-false (none_skipped t first (stop - first)) (sym b.skips_is ∙ not-true e.skips s) in
-        sym (kept-inside ∙ equal-none p i j (stop - first) first (λ a l u. inside a l u ∙ ap not (none_each t first (stop - first) none a l u)))
-
-    pub kept-skipped : (f : ℕ) → f ≡ flag_to (λ k. eqb (byte t (first + k)) 0 || eqb (byte j (first + k)) (byte i (first + k))) (stop - first)
-        → eqb f 0 ≡ equal_at p i j (run 0 (length i))
-    kept-skipped f g =
-        let free : ℕ → Bool = λ a. eqb (byte t a) 0 in
-        ap (λ x. eqb x 0) (g ∙ flag-kept free i j first (stop - first))
-        ∙ zero_flag (equal_at (λ a. not (free a)) i j (run first (stop - first)))
-        ∙ sym (kept-inside ∙ equal-same p (λ a. not (free a)) i j first (stop - first) (λ a l u. inside a l u))
+        let none : none_skipped t first (stop - first) ≡ true = go (none_skipped t first (stop - first)) (sym b.skips_is ∙ s) in
+        equal-none _ i j (stop - first) first (λ a l u. ap not (none_each t first (stop - first) none a l u))
+      where
+        go : (n : Bool) → not n ≡ false → n ≡ true
+        go true h = refl
+        go false h = sym h

@@ -5,8 +5,8 @@ pub mod Writes
 pub mod Shown
 pub mod Refusals
 pub mod Planning
+pub mod TlvBytes
+pub mod Keeping
 pub mod Fitting
 pub mod Reading
-pub mod TlvBytes
 pub mod Preparing
-pub mod Keeping

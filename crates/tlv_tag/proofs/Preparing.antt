@@ -12,9 +12,9 @@ use Rattle.tlv.proofs.Usable.{from, At, from_first, from_end}
 use Rattle.tlv_tag.specs.Update.{length_at}
 
 -- f is the first usable address
-pub first-usable : (t : List ℕ) (w : Walk) (f : ℕ) → At t f w.end.0 → ahead t w ≡ from t f w.end.0 → 0 < length (ahead t w)
+pub first_usable : (t : List ℕ) (w : Walk) (f : ℕ) → At t f w.end.0 → ahead t w ≡ from t f w.end.0 → 0 < length (ahead t w)
     → (f ≡ length_at (ahead t w)) × (f < w.end.0)
-first-usable t w f p e l =
+first_usable t w f p e l =
     let some : 0 < length (from t f w.end.0) = omega (arith, ap length e) in
     (sym (ap length_at e ∙ from_first t f w.end.0 0 p some), go (dec_lt f w.end.0) some)
   where

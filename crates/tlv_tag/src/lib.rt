@@ -4,6 +4,7 @@
 #![tactic(auto)]
 
 mod capacity;
+mod extent;
 pub mod kept;
 pub mod prepare;
 pub mod read;

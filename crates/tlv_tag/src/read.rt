@@ -1,141 +1,117 @@
 // Reading the message of a tag that has a TLV area, once the tests of its type have passed.
 
-ghost use Rattle.std.specs.Prelude.{◌≡◌, ◌≤◌, length};
+ghost use Rattle.std.specs.Prelude.{◌≡◌, MatchResult, ◌≤◌, ◌<◌, length};
+ghost use Rattle.tag.specs.Answers.{number_of};
+ghost use Rattle.tag.specs.Refusals.{bad_length};
 ghost use Rattle.tag.specs.Reading.{reads};
 ghost use Rattle.tag.specs.PublicContracts.{ReadOf};
 ghost use Rattle.tlv.specs.Views.Counted.{Declared};
-ghost use Rattle.tlv.specs.Views.Walks.{ahead, Placed};
+ghost use Rattle.tlv.specs.Walk.{length_of};
+ghost use Rattle.tlv.specs.Views.Walks.{ahead, Counted};
+ghost use Rattle.tlv_tag.specs.Message.{locate_by, report_of};
 ghost use Rattle.tlv_tag.specs.Views.BlankArea.{BlankArea};
-ghost use Rattle.tlv_tag.specs.Views.Reading.{area_located, tlv_located, counted_reading, value_reading, refusal_of, report_as};
+ghost use Rattle.tlv_tag.specs.Views.Reading.{area_located, located_as, Held, value_addresses, Placed, LocatedAt, LocatedPlaced};
 
-use crate::capacity;
-use tag::{Address, Content, ReadAnswer, Report, refusals};
-use tlv::find::Found;
-use tlv::length::{Field, Passed};
+use tag::{Address, Content, Refusal, Report};
+use tlv::table::SkipTable;
 use tlv::walk::Walk;
 use tlv_value::value;
-use tlv_value::value::Value;
 
-// Answers with the message that starts at the walk's place. An interrupted message is gathered, unless the buffer is too short.
-fn deliver(image: &[u8], gathered: &mut [u8], table: &[u16], w: Walk, report: Report) -> ReadAnswer
-    requires { Placed image.now table.now w × (report.length ≤ length (ahead table.now w)) }
-    ensures read { ReadOf (reads (report_as image.now (ahead table.now w) report)) gathered.old result gathered.new }
-{
-    let interrupted = report.interrupted;
-    if !interrupted {
-        return ReadAnswer::Reads(report);
-    }
-    let n = report.length;
-    if gathered.len() < n {
-        return ReadAnswer::Refused(refusals::SHORT_GATHERING_BUFFER);
-    }
-    value::gather(w, n, image, table, gathered);
-    ReadAnswer::Reads(report)
+// The message TLV, located.
+#[derive(Clone, Copy, Debug, PartialEq, Eq)]
+pub struct Located {
+    // the walk past its type byte
+    pub field: Walk,
+    // the walk past its length
+    pub value: Walk,
+    // its value, which is empty or a message
+    pub content: Content,
 }
 
-// Reads a value of `n` bytes from the walk's place on, on a tag with that capacity. A value of length 0 reads as empty.
-fn read_value(
-    image: &[u8],
-    gathered: &mut [u8],
-    table: &[u16],
-    w: Walk,
-    n: usize,
-    writable: bool,
-    capacity: usize,
-) -> ReadAnswer
-    requires { Placed image.now table.now w }
-    ensures read { ReadOf (value_reading writable capacity image.now n (ahead table.now w)) gathered.old result gathered.new }
+// What a value of `n` bytes from the walk's place on holds. A value of length 0 reads as empty.
+fn content_of(walk: Walk, n: usize, table: &SkipTable) -> Result<Content, Refusal>
+    requires { Counted table.now walk }
+    ensures { MatchResult result (λ content. Held (ahead table.now walk) n content) (λ refusal. (number_of refusal ≡ bad_length) × (length (ahead table.now walk) < n)) }
 {
     if n == 0 {
-        return ReadAnswer::Reads(Report {
-            content: Content::Empty,
-            address: Address(0),
-            length: 0,
-            interrupted: false,
-            writable,
-            capacity,
-        });
+        return Ok(Content::Empty);
     }
-    match value::measure(w, n, table) {
-        Value::Short => ReadAnswer::Refused(refusals::BAD_LENGTH),
-        Value::At(address, interrupted) => {
-            let report = Report {
-                content: Content::Message,
-                address,
-                length: n,
-                interrupted,
-                writable,
-                capacity,
-            };
-            deliver(image, gathered, table, w, report)
-        }
-    }
+    let value = value::measure(walk, n, table).ok_or(Refusal::BadLength)?;
+    Ok(Content::Message {
+        address: value.address,
+        length: n,
+        interrupted: value.interrupted,
+    })
 }
 
-// Reads the message TLV whose type byte the walk has just passed, with its capacity if that is counted.
-fn read_message(
-    image: &[u8],
-    gathered: &mut [u8],
-    table: &[u16],
-    w: Walk,
-    writable: bool,
-    counted: bool,
-) -> ReadAnswer
-    requires { Placed image.now table.now w }
-    ensures read { ReadOf (counted_reading counted writable image.now (tlv_located image.now (ahead table.now w))) gathered.old result gathered.new }
+// The message TLV whose type byte the walk has just passed.
+#[tactic(auto, unfolding(crate::specs::Message::locate_by))]
+fn locate_at(field: Walk, image: &[u8], table: &SkipTable) -> Result<Located, Refusal>
+    requires { (field.end.0 ≤ length image.now) × Counted table.now field }
+    ensures is { located_as table.now result ≡ locate_by (ahead table.now field) (length_of image.now (ahead table.now field)) }
+    ensures placed { LocatedAt image.now table.now field result }
 {
-    match w.take_length(image, table) {
-        Field::Bad => ReadAnswer::Refused(refusals::BAD_LENGTH),
-        Field::Is(n, v) => {
-            let capacity = capacity::capacity_if(counted, w, table);
-            read_value(image, gathered, table, v, n, writable, capacity)
-        }
-    }
+    let (n, value) = field.take_length(image, table).ok_or(Refusal::BadLength)?;
+    let content = content_of(value, n, table)?;
+    Ok(Located {
+        field,
+        value,
+        content,
+    })
 }
 
-// Reads the data area from `first` up to `end`. The skip table passed in is all zeros. The capacity is counted if it is asked for: where
-// areas are declared, that takes a sweep over the skip table.
-pub fn read_area(
+// Locates the message in the data area from `first` up to `end`. The skip table passed in skips nothing yet.
+#[tactic(auto, using(crate::proofs::Fitting::from_start))]
+pub fn locate(
     image: &[u8],
-    gathered: &mut [u8],
-    table: &mut [u16],
+    table: &mut SkipTable,
     first: Address,
     end: Address,
-    writable: bool,
-    counted: bool,
-) -> ReadAnswer
+) -> Result<Located, Refusal>
     requires { BlankArea image.now table.old first.0 end.0 }
-    ensures read { ReadOf (counted_reading counted writable image.now (area_located image.now first.0 end.0)) gathered.old result gathered.new }
+    ensures is { located_as table.new result ≡ area_located image.now first.0 end.0 }
+    ensures placed { LocatedPlaced image.now table.new first.0 end.0 result }
     ensures table { Declared first.0 end.0 table.old table.new }
 {
-    let w = Walk::new(first, end);
-    match w.find_message(first, image, table) {
-        Found::Refused(r) => ReadAnswer::Refused(r),
-        Found::At(_, v) => read_message(image, gathered, table, v, writable, counted),
-    }
+    let (_, field) = Walk::new(first, end).find_message(first, image, table)?;
+    locate_at(field, image, table)
 }
 
-// The refusal of the message TLV whose type byte the walk has just passed, or 0. The TLV is refused exactly if it could not be
-// passed over.
-pub(crate) fn message_refusal(image: &[u8], table: &[u16], w: Walk) -> u8
-    requires { Placed image.now table.now w }
-    ensures { result ≡ refusal_of (tlv_located image.now (ahead table.now w)) }
-{
-    match w.pass_other(image, table) {
-        Passed::Refused(r) => r,
-        Passed::More(_) => refusals::NONE,
-    }
-}
-
-// The refusal of the data area from `first` up to `end`, or 0. The skip table passed in is all zeros.
-pub fn area_refusal(image: &[u8], table: &mut [u16], first: Address, end: Address) -> u8
-    requires { BlankArea image.now table.old first.0 end.0 }
-    ensures is { result ≡ refusal_of (area_located image.now first.0 end.0) }
-    ensures table { Declared first.0 end.0 table.old table.new }
-{
-    let w = Walk::new(first, end);
-    match w.find_message(first, image, table) {
-        Found::Refused(r) => r,
-        Found::At(_, v) => message_refusal(image, table, v),
+impl Located {
+    // The report of a tag with that capacity. An interrupted message is gathered, unless the buffer is too short.
+    // Writability and capacity are arguments: the judge's reading leaves the capacity out, and `Located` has neither.
+    pub fn report(
+        self,
+        image: &[u8],
+        table: &SkipTable,
+        gathered: &mut [u8],
+        writable: bool,
+        capacity: usize,
+    ) -> Result<Report, Refusal>
+        requires { Placed image.now table.now self }
+        ensures { ReadOf (reads (report_of writable capacity image.now (value_addresses table.now self))) gathered.old result gathered.new }
+    {
+        let report = Report {
+            content: self.content,
+            writable,
+            capacity,
+        };
+        match self.content {
+            Content::Message {
+                length,
+                interrupted,
+                ..
+            } => {
+                if !interrupted {
+                    return Ok(report);
+                }
+                if gathered.len() < length {
+                    return Err(Refusal::ShortGatheringBuffer);
+                }
+                value::gather(self.value, length, image, table, gathered);
+                Ok(report)
+            }
+            Content::Empty | Content::BeingWritten => Ok(report),
+        }
     }
 }

@@ -16,7 +16,8 @@ use Rattle.type2.specs.Type2.{type2}
 use Rattle.type2.proofs.Memory.{memory-laws, short-image}
 use Rattle.type2.proofs.Laws.{type2-laws}
 
-fits-gathering : (i : List ℕ) (p : Report) → type2.reading i ≡ reads p → length p.bytes ≤ 1024
+-- every message fits a gathering buffer as long as the longest image
+pub fits-gathering : (i : List ℕ) (p : Report) → type2.reading i ≡ reads p → length p.bytes ≤ 1024
 fits-gathering i p e =
     let s = (writes.placed memory i p e).0.sound in
     omega (arith, message-short memory memory-laws i p e, short-image i s)

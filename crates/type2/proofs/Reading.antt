@@ -1,70 +1,55 @@
--- Reading a Type 2 tag, by what its capability container says.
+-- Reading a Type 2 tag, by what its capability container says and where its message TLV is.
 -- Assumes nothing.
-use mathlib.Core.Path.{◌≡◌, sym, ap, ◌∙◌, subst}
-use mathlib.Core.Bool.{Bool, true, false}
-use mathlib.Core.List.{List}
+use mathlib.Core.Path.{◌≡◌, refl, sym, ap, ◌∙◌}
+use mathlib.Core.Bool.{Bool}
+use mathlib.Core.List.{List, [], ◌∷◌}
 use Prim.Native.Nat.{ℕ, ◌-◌, ◌*◌}
 use native.Mathlib.Omega.{arith}
 use lib.ListN.{length}
-use Rattle.tag.specs.declared.Address.{Address}
 use Rattle.tag.specs.Bytes.{byte, run}
-use Rattle.tag.specs.Checks.{first_of}
-use Rattle.tag.specs.Reading.{refusal_number}
+use Rattle.tag.specs.Checks.{fault, first_of}
+use Rattle.tag.specs.Reading.{unreadable, reads}
+use Rattle.tag.specs.Views.Held.{with_capacity}
 use Rattle.tlv.specs.Areas.{allowed_area}
 use Rattle.tlv.specs.Walk.{find}
-use Rattle.tlv_tag.specs.Message.{Located, refuse, locate_from, locate_after, locate, reading}
-use Rattle.tlv_tag.specs.Views.BlankArea.{BlankArea}
-use Rattle.tlv_tag.specs.Views.Reading.{area_located, counted_reading, refusal_of}
-use Rattle.tlv_tag.proofs.Reading.{counted_is, uncounted-is, located-fault, reading-refusal}
-use Rattle.type2.specs.declared.container.DataArea.{DataArea}
-use Rattle.type2.specs.declared.container.DataArea.TheVariants as code
+use Rattle.tlv_tag.specs.Message.{refuse, located, locate_from, locate_after, locate, capacity_in, report_of, reading_of, reading}
+use Rattle.tlv_tag.specs.Views.Reading.{area_located}
 use Rattle.type2.specs.Memory.{memory}
 use Rattle.type2.specs.Type2.{type2}
-use Rattle.type2.specs.Views.Container.{checked_as, InsideArea, Inside, Known}
-use Rattle.type2.specs.Views.Reading.{reading_if}
-use Rattle.tag.specs.Views.Blank.{Blank}
-use Rattle.tag.specs.Views.Held.{with_capacity}
+use Rattle.type2.specs.Views.Container.{Inside}
 
 -- a check fails
-pub refused : (i : List ℕ) (d : DataArea) (n : ℕ) → checked_as d ≡ first_of (memory.checks i) → d ≡ code.Refused n → locate memory i ≡ refuse n
-refused i d n e g = located-fault memory i n (sym (ap checked_as g) ∙ e)
+pub fault_located : (i : List ℕ) {r : ℕ} → first_of (memory.checks i) ≡ fault r → locate memory i ≡ refuse r
+unfolding locate
+fault_located i e = rw e
 
 -- the capability container is sound
-pub checks-pass : (i : List ℕ) (d : DataArea) (end : Address) (w : Bool) → checked_as d ≡ first_of (memory.checks i)
-    → Known i (memory.writable i) d → d ≡ code.Inside end w → Inside i end.0 w
-checks-pass i d end w e k g =
-    record { sound = sym e ∙ ap checked_as g; area = subst (Known i (memory.writable i)) g k }
+pub inside_located : (i : List ℕ) {end : ℕ} {w : Bool} → Inside i end w → locate memory i ≡ area_located i 16 end
+unfolding locate
+inside_located i {end} h =
+    let e : 8 * byte i 14 ≡ end - 16 = omega (arith, h.ends) in
+    ap (locate_after memory i) h.sound ∙ ap (λ n. locate_from i (find (allowed_area 16 (length i)) n i (run 16 n))) e
 
--- a blank table skips nothing of the data area
-pub blank : (i t : List ℕ) (end : ℕ) (w : Bool) → InsideArea i (memory.writable i) end w → Blank 1024 t → BlankArea i t 16 end
-blank i t end w k h = record {
-  ordered = omega (arith, k.ends);
-  in_table = omega (arith, k.inside, k.short, h.size);
-  in_image = k.inside;
-  short = omega (arith, h.size);
-  zeros = h.zeros;
-}
+pub ruleset by_container = (fault_located, inside_located)
 
-module _ (i : List ℕ) (end : ℕ) (w : Bool) (h : Inside i end w) where
-  pub inside-located : locate memory i ≡ area_located i 16 end
-  unfolding locate
-  inside-located =
-      let e : 8 * byte i 14 ≡ end - 16 = omega (arith, h.area.ends) in
-      ap (locate_after memory i) h.sound ∙ ap (λ n. locate_from i (find (allowed_area 16 (length i)) n i (run 16 n))) e
+-- ---- the reading by what was located
 
-  pub by-area : (counted : Bool) → reading_if counted i ≡ counted_reading counted w i (area_located i 16 end)
-  by-area counted = rw h.area.access (ap (counted_reading counted (memory.writable i) i) inside-located)
-
--- the refusal by what was located
-pub refusal-located : (i : List ℕ) (v : Located) → locate memory i ≡ v → refusal_number (type2.reading i) ≡ refusal_of v
+pub reading_refused : (i : List ℕ) {r : ℕ} → refuse r ≡ locate memory i → type2.reading i ≡ unreadable r
 unfolding reading
-refusal-located i v e = reading-refusal (memory.writable i) i (locate memory i) ∙ ap refusal_of e
+reading_refused i e = ap (reading_of (memory.writable i) i) (sym e)
 
--- counted, it is the reading; else it is the reading with another capacity
-pub read-counted : (i : List ℕ) → reading_if true i ≡ type2.reading i
+pub reading_located : (i : List ℕ) {us ms : List ℕ} → located us ms ≡ locate memory i
+    → type2.reading i ≡ reads (report_of (memory.writable i) (capacity_in (length us)) i ms)
 unfolding reading
-read-counted i = counted_is (memory.writable i) i (locate memory i)
+reading_located i e = ap (reading_of (memory.writable i) i) (sym e)
 
-pub read-uncounted : (i : List ℕ) → reading_if false i ≡ with_capacity 0 (type2.reading i)
-unfolding reading
-read-uncounted i = uncounted-is (memory.writable i) i (locate memory i)
+pub ruleset by_location = (reading_refused, reading_located)
+
+-- with the capacity 0
+pub reading_held : (i : List ℕ) {us ms : List ℕ} → located us ms ≡ locate memory i
+    → with_capacity 0 (type2.reading i) ≡ reads (report_of (memory.writable i) 0 i ms)
+reading_held i {us} {ms} e = ap (with_capacity 0) (reading_located i e) ∙ go ms
+  where
+    go : (ms : List ℕ) → with_capacity 0 (reads (report_of (memory.writable i) (capacity_in (length us)) i ms)) ≡ reads (report_of (memory.writable i) 0 i ms)
+    go [] = refl
+    go (a ∷ ms) = refl

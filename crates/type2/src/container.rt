@@ -1,11 +1,12 @@
 // The capability container: refusals 1 to 5, and the data area.
 
-ghost use Rattle.std.specs.Prelude.{◌≡◌, length, drop, ◌≤◌};
-ghost use Rattle.tag.specs.Checks.{first_of};
+ghost use Rattle.std.specs.Prelude.{◌≡◌, MatchResult};
+ghost use Rattle.tag.specs.Checks.{fault, first_of};
+ghost use Rattle.tag.specs.Answers.{number_of};
 ghost use Rattle.type2.specs.Memory.{memory};
-ghost use Rattle.type2.specs.Views.Container.{checked_as, Known};
+ghost use Rattle.type2.specs.Views.Container.{Inside};
 
-use tag::{Address, refusals, version};
+use tag::{Address, Refusal, version};
 
 // How many bytes a block has.
 pub const BLOCK_SIZE: usize = 4;
@@ -28,53 +29,39 @@ const ACCESS: usize = 15;
 // The data area's first address.
 pub const FIRST: usize = 16;
 
-// A refusal; or the end of the data area, and whether the tag is writable.
-#[derive(Clone, Copy)]
-pub enum DataArea {
-    Refused(u8),
-    Inside(Address, bool),
-}
-
-// Refusal 5, or the data area. The container's other tests have passed.
-fn area(image: &[u8], writable: bool) -> DataArea
-    requires { (64 ≤ length image.now) × (length image.now ≤ 1024) }
-    ensures is { checked_as result ≡ first_of (drop 4 (memory.checks image.now)) }
-    ensures known { Known image.now writable result }
-{
-    let size = image[SIZE] as usize;
-    let end = FIRST + 8 * size;
-    if image.len() < end {
-        return DataArea::Refused(refusals::BAD_DATA_AREA);
-    }
-    DataArea::Inside(Address(end), writable)
+// The data area of a tag whose container passes the tests.
+#[derive(Clone, Copy, Debug, PartialEq, Eq)]
+pub struct DataArea {
+    // the address past its last byte
+    pub end: Address,
+    pub writable: bool,
 }
 
 // Refusals 1 to 5, in this order, or the data area.
-pub fn data_area(image: &[u8]) -> DataArea
-    ensures is { checked_as result ≡ first_of (memory.checks image.now) }
-    ensures known { Known image.now (memory.writable image.now) result }
+pub fn data_area(image: &[u8]) -> Result<DataArea, Refusal>
+    ensures { MatchResult result (λ area. Inside image.now area.end.0 area.writable) (λ refusal. first_of (memory.checks image.now) ≡ fault (number_of refusal)) }
 {
     let n = image.len();
-    if n % BLOCK_SIZE != 0 {
-        return DataArea::Refused(refusals::IMAGE_SIZE);
-    }
-    if n < SHORTEST_IMAGE {
-        return DataArea::Refused(refusals::IMAGE_SIZE);
-    }
-    if LONGEST_IMAGE < n {
-        return DataArea::Refused(refusals::IMAGE_SIZE);
+    if n % BLOCK_SIZE != 0 || n < SHORTEST_IMAGE || LONGEST_IMAGE < n {
+        return Err(Refusal::ImageSize);
     }
     if image[MAGIC] != 0xE1 {
-        return DataArea::Refused(refusals::NOT_NDEF);
+        return Err(Refusal::NotNdef);
     }
     if !version::is_known(image[VERSION]) {
-        return DataArea::Refused(refusals::UNKNOWN_VERSION);
+        return Err(Refusal::UnknownVersion);
     }
-    if image[ACCESS] == 0x00 {
-        return area(image, true);
+    let writable = match image[ACCESS] {
+        0x00 => true,
+        0x0F => false,
+        _ => return Err(Refusal::BadAccess),
+    };
+    let end = FIRST + 8 * usize::from(image[SIZE]);
+    if n < end {
+        return Err(Refusal::BadDataArea);
     }
-    if image[ACCESS] == 0x0F {
-        return area(image, false);
-    }
-    DataArea::Refused(refusals::BAD_ACCESS)
+    Ok(DataArea {
+        end: Address(end),
+        writable,
+    })
 }

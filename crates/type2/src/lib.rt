@@ -10,7 +10,7 @@ pub mod read;
 use tag::Block;
 
 // A write command: the block and its four bytes.
-#[derive(Clone, Copy)]
+#[derive(Clone, Copy, Debug, PartialEq, Eq)]
 pub struct Command {
     pub block: Block,
     pub bytes: [u8; container::BLOCK_SIZE],

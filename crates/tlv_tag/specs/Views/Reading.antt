@@ -1,45 +1,57 @@
--- Reading the message of a tag that has a TLV area, from three places: the data area's start, the message TLV's type byte, and its
--- value. Also the code's refusals and reports.
+-- The message TLV as the code locates it.
 -- Assumes nothing.
-use Rattle.std.specs.Prelude.{Bool, cond, List, map, ℕ, ◌-◌, leb, length, take}
-use Rattle.tag.specs.declared.Report as code
-use Rattle.tag.specs.Bytes.{byte, run}
-use Rattle.tag.specs.Refusals.{bad_length}
-use Rattle.tag.specs.Reading.{Report, Reading, unreadable, reads}
-use Rattle.tag.specs.Answers.{content_of}
+use Rattle.std.specs.Prelude.{◌≡◌, List, ℕ, ◌-◌, ◌<◌, ◌≤◌, length, take, Result, Ok, Err}
+use Rattle.tag.specs.declared.Content.{Content}
+use Rattle.tag.specs.declared.Content.TheVariants.{Message, Empty, BeingWritten}
+use Rattle.tag.specs.declared.refusals.Refusal as refusals
+use Rattle.tag.specs.Bytes.{run}
+use Rattle.tag.specs.Answers.{number_of}
 use Rattle.tlv.specs.Areas.{allowed_area}
-use Rattle.tlv.specs.Walk.{length_of, find}
-use Rattle.tlv_tag.specs.Message.{Located, refuse, located, locate_by, locate_from, capacity_in, report_of}
+use Rattle.tlv.specs.Walk.{find}
+use Rattle.tlv.specs.declared.walk.Walk.{Walk}
+use Rattle.tlv.specs.Views.Walks.{ahead, Counted}
+use Rattle.tlv_value.specs.Views.Values.{at, measured}
+use Rattle.tlv_tag.specs.declared.read.Located as code
+use Rattle.tlv_tag.specs.Message.{Located, refuse, located, locate_from}
 
 -- the data area from first up to end
 abbrev pub area_located : List ℕ → ℕ → ℕ → Located
 area_located i first end = locate_from i (find (allowed_area first (length i)) (end - first) i (run first (end - first)))
 
--- a message TLV with the usable addresses us after its type byte
-abbrev pub tlv_located : List ℕ → List ℕ → Located
-tlv_located i us = locate_by us (length_of i us)
+-- how many bytes the value has
+abbrev pub size : Content → ℕ
+size (Message a n interrupted) = n
+size Empty = 0
+size BeingWritten = 0
 
--- the reading of what was located, with its capacity if that is counted, else with 0
-abbrev pub counted_reading : Bool → Bool → List ℕ → Located → Reading
-counted_reading counted w i (refuse r) = unreadable r
-counted_reading counted w i (located us ms) = reads (report_of w (cond counted (capacity_in (length us)) 0) i ms)
+-- the content is that of the first n of the usable addresses us
+abbrev pub Held : List ℕ → ℕ → Content → Type 0
+Held us n (Message a k interrupted) = (k ≡ n) × (1 ≤ n) × (n ≤ length us) × (at a.0 interrupted ≡ measured n us)
+Held us n Empty = n ≡ 0
+Held us n BeingWritten = ⊥
 
--- a value of n bytes, with the usable addresses us from its first on, on a tag with the capacity c
-unfoldable pub value_reading : Bool → ℕ → List ℕ → ℕ → List ℕ → Reading
-value_reading w c i n us = cond (leb n (length us)) (reads (report_of w c i (take n us))) (unreadable bad_length)
+-- the addresses of the value
+abbrev pub value_addresses : List ℕ → code.Located → List ℕ
+value_addresses table l = take (size l.content) (ahead table l.value)
 
--- 0, or the refusal's number
-abbrev pub refusal_of : Located → ℕ
-refusal_of (refuse r) = r
-refusal_of (located us ms) = 0
+abbrev pub located_as : List ℕ → Result code.Located refusals.Refusal → Located
+located_as table (Err e) = refuse (number_of e)
+located_as table (Ok l) = located (ahead table l.field) (value_addresses table l)
 
--- the code's report of such a value
-abbrev pub report_as : List ℕ → List ℕ → code.Report → Report
-report_as i us p = record {
-  content = content_of p.content;
-  bytes = map (byte i) (take p.length us);
-  address = p.address.0;
-  interrupted = p.interrupted;
-  writable = p.writable;
-  capacity = p.capacity;
-}
+-- the message TLV lies inside the image, the table is that of the areas before it, and the content is its own
+pub record Placed (image table : List ℕ) (l : code.Located) : Type 0 where
+  pub in_image : l.field.end.0 ≤ length image
+  pub counted : Counted table l.field
+  pub same_end : l.value.end.0 ≡ l.field.end.0
+  pub some_room : 0 < length (ahead table l.field)
+  pub held : Held (ahead table l.value) (size l.content) l.content
+
+-- the walk past its type byte is w
+abbrev pub LocatedAt : List ℕ → List ℕ → Walk → Result code.Located refusals.Refusal → Type 0
+LocatedAt image table w (Err e) = Unit {0}
+LocatedAt image table w (Ok l) = Placed image table l × (l.field.at.0 ≡ w.at.0) × (l.field.end.0 ≡ w.end.0)
+
+-- it lies in the data area from first up to end
+abbrev pub LocatedPlaced : List ℕ → List ℕ → ℕ → ℕ → Result code.Located refusals.Refusal → Type 0
+LocatedPlaced image table first end (Err e) = Unit {0}
+LocatedPlaced image table first end (Ok l) = Placed image table l × (first < l.field.at.0) × (l.field.end.0 ≡ end)

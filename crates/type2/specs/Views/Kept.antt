@@ -3,7 +3,7 @@
 use Rattle.std.specs.Prelude.{◌≡◌, List, ℕ, length}
 use Rattle.tag.specs.Bytes.{is_set}
 use Rattle.tlv.specs.Views.Table.{usable_in}
-use Rattle.tlv_tag.specs.declared.kept.Extent.{Extent}
+use Rattle.tlv_tag.specs.declared.extent.Extent.{Extent}
 use Rattle.tlv_tag.specs.Views.Kept.{Bounded}
 use Rattle.type2.specs.Type2.{type2}
 

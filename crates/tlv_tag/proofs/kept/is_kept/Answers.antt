@@ -1,18 +1,22 @@
-use Rattle.std.proofs.Common.{ap, not}
-use Rattle.tlv_tag.proofs.Keeping.{front-or-back, kept-plain, kept-skipped}
+use Rattle.std.proofs.Common.{sym, ap, ◌∙◌, not}
+use Rattle.std.proofs.Math.Bool.{not-not}
+use Rattle.tlv_tag.proofs.Keeping.{changed-outside, kept-outside, kept-plain}
 use Rattle.tlv_tag.proofs.kept.is_kept.Goals as goal
+use Rattle.tlv_tag.proofs.kept.is_kept.Goals.{then-extent, else-extent}
 
-pub returns-then-not-is_kept_outside : goal.returns-then-not-is_kept_outside
-returns-then-not-is_kept_outside c =
+pub returns-after-extent : goal.returns-after-extent
+returns-after-extent c =
     let a = c.args in
-    front-or-back a.image.now a.work.now a.table.now a.e c.requires.0 c.requires.1 _ c.is_kept_outside.ensures (ap not c.if-not-is_kept_outside.true)
+    let whole = kept-outside a.image.now a.work.now a.table.now a.extent c.requires.0 c.requires.1 (sym c.is_kept_outside.ensures ∙ c.if-is_kept_outside.true) in
+    elim c.if-extent.branch [
+      | then-extent w ↦ rw (whole, w.result-is, w.skipped_changed.ensures) (not-not _)
+      | else-extent w ↦
+          let plain = kept-plain a.image.now a.work.now a.table.now a.extent c.requires.0 c.requires.1 w.if-extent.false in
+          ap not (w.result-is ∙ w.if-extent.false) ∙ sym (whole ∙ plain)
+    ]
 
-pub returns-then-not-e : goal.returns-then-not-e
-returns-then-not-e c =
+pub returns-else-is_kept_outside : goal.returns-else-is_kept_outside
+returns-else-is_kept_outside c =
     let a = c.args in
-    kept-plain a.image.now a.work.now a.table.now a.e c.requires.0 c.requires.1 _ c.is_kept_outside.ensures (ap not c.if-not-is_kept_outside.false) c.if-not-e.true
-
-pub returns : goal.returns
-returns c =
-    let a = c.args in
-    kept-skipped a.image.now a.work.now a.table.now a.e c.requires.0 c.requires.1 _ c.is_kept_outside.ensures (ap not c.if-not-is_kept_outside.false) _ c.skipped_changed.ensures
+    c.if-is_kept_outside.false
+    ∙ sym (changed-outside a.image.now a.work.now a.table.now a.extent c.requires.0 c.requires.1 (sym c.is_kept_outside.ensures ∙ c.if-is_kept_outside.false))

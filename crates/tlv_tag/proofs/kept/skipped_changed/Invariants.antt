@@ -1,15 +1,8 @@
--- The loop keeps: the flag is that of the addresses looked at so far.
-use Rattle.std.proofs.Common.{List, ℕ, Bool, ◌||◌, ◌+◌, ◌-◌, ◌≡◌, ◌≤◌, eqb}
-use Rattle.tag.specs.Bytes.{byte}
-use Rattle.tag.specs.Views.Flags.{flag_to}
+-- The loop keeps: a byte has changed at one of the addresses looked at so far.
+use Rattle.std.proofs.Common.{◌≡◌, not, eqb, ◌-◌}
+use Rattle.tag.specs.Bytes.{byte, run}
+use Rattle.tag.specs.Judge.{equal_at}
 use Rattle.tlv_tag.proofs.kept.skipped_changed.Given as goal
 
--- whether the address k past the first is usable or its byte is as it was
-abbrev pub kept : List ℕ → List ℕ → List ℕ → ℕ → ℕ → Bool
-kept image work table first k = eqb (byte table (first + k)) 0 || eqb (byte work (first + k)) (byte image (first + k))
-
 abbrev pub invariant-loop-k : goal.invariant-loop-k
-invariant-loop-k l = (l.k ≤ l.stop - l.first) × (l.changed ≡ flag_to (kept l.image l.work l.table l.first) l.k)
-
-abbrev pub decreases-loop-k : goal.decreases-loop-k
-decreases-loop-k l = l.stop - l.first - l.k
+invariant-loop-k l = l.changed ≡ not (equal_at (λ a. not (eqb (byte l.entries a) 0)) l.image l.work (run l.fn.extent.first.0 (l.k - l.fn.extent.first.0)))

@@ -1,5 +1,5 @@
-use Rattle.type2.proofs.Reading.{read-uncounted}
+use Rattle.type2.proofs.Reading.{reading_held}
 use Rattle.type2.proofs.read.read_held.Goals as goal
 
 pub returns : goal.returns
-returns c = rw (← read-uncounted c.args.image.now) c.read_with.ensures
+returns c = let h = c.in_ok-located.ensures in rw (reading_held c.args.image.now h.is, ← h.here.1) c.report.ensures
