@@ -6,7 +6,7 @@ use mathlib.Core.Bool.{Bool, true, false, not, ◌&&◌, ◌||◌, and-true, and
 use mathlib.Core.List.{List}
 use Prim.Native.Nat.{ℕ, suc, ◌+◌, ◌-◌, ◌*◌, ◌<◌, ◌≤◌}
 use native.Mathlib.Omega.{arith}
-use borrow.Author.Tests.{ne_eqb, le-leb, lt-leb, lt-ltb, le-ltb, not-true, not-false}
+use borrow.Author.Tests.{ne_eqb, le-leb, lt-leb, lt-ltb, le-ltb}
 use lib.Dec.{leb, eqb}
 use lib.ListN.{length, take, drop}
 use Rattle.tag.specs.Bytes.{byte, run, same, is_set}
@@ -46,11 +46,11 @@ module _ (i j : List ℕ) (n stop : ℕ) (is : stop ≡ 16 + 16 * blocks_for n) 
       let two : equal_at p i j (run 9 2) ≡ eqb (byte j 10) (byte i 10) = and-true (eqb (byte j 10) (byte i 10)) in
       ap (λ l. equal_at p i j (run 9 l)) e ∙ equal-split p i j 2 9 k ∙ rw (none, two) (and-true (eqb (byte j 10) (byte i 10)))
 
-  pub front-or-back : (r : Bool) → Outside r → not r ≡ true → false ≡ equal_at p i j (run 0 (length i))
-  front-or-back r q t = sym (outside-differs p i j 9 stop size (omega arith) high below above (sym q ∙ not-true r t))
+  pub kept-outside : (r : Bool) → Outside r → r ≡ false → r ≡ equal_at p i j (run 0 (length i))
+  kept-outside r q t = t ∙ sym (outside-differs p i j 9 stop size (omega arith) high below above (sym q ∙ t))
 
-  pub kept-flag : (r : Bool) → Outside r → not r ≡ false → eqb (byte j 10) (byte i 10) ≡ equal_at p i j (run 0 (length i))
-  kept-flag r q t = sym (outside-same p i j 9 stop size (omega arith) high below above (sym q ∙ not-false r t) ∙ in-range)
+  pub kept-flag : (r : Bool) → Outside r → r ≡ true → eqb (byte j 10) (byte i 10) ≡ equal_at p i j (run 0 (length i))
+  kept-flag r q t = sym (outside-same p i j 9 stop size (omega arith) high below above (sym q ∙ t) ∙ in-range)
 
 -- ---- just what the plan sets
 

@@ -5,6 +5,7 @@ pub mod Update
 pub mod Shown
 pub mod Laws
 pub mod Between
+pub mod Summing
 pub mod Reading
 pub mod Deciding
 pub mod Holding

@@ -10,56 +10,25 @@ use lib.Dec.{eqb}
 use lib.ListN.{length, take, drop, length-drop}
 use lib.Seq.{length-take-le}
 use Rattle.tag.specs.Bytes.{byte}
-use Rattle.tag.specs.Checks.{fine, fault, first_of}
+use Rattle.tag.specs.Checks.{fault, first_of}
 use Rattle.tag.specs.Reading.{being-written, empty, message, refusal, answer, answer_of}
-use Rattle.tag.proofs.Logic.{lengths}
-use Rattle.tag.proofs.Checks.{fine-all}
 use Rattle.type3.specs.declared.read.AttributeInformation.{AttributeInformation}
-use Rattle.type3.specs.AttributeInformation.{capacity, attribute_information, image_length, attribute_checks, may_write}
+use Rattle.type3.specs.AttributeInformation.{capacity, attribute_information, attribute_checks, may_write}
 use Rattle.type3.specs.Message.{busy, announced, announce_by, reading_of, reading}
-use Rattle.type3.specs.Views.AttributeInformation.{WholeBlocks, Says, Attests, answer_for}
-use Rattle.type3.proofs.Message.{Passes, bounds, ln_fits, unread}
-
--- ---- what the tests show
-
-pub whole-blocks : (i : List ℕ) → image_length (length i) ≡ true → WholeBlocks i
-whole-blocks i e = let (blocks, least, most) = lengths 16 16 4096 (length i) e in record { least = least; most = most; blocks = blocks }
-
--- the first test passes, or fails
-pub first-passed : (i : List ℕ) → image_length (length i) ≡ true
-    → first_of (drop 1 (attribute_checks (length i) (attribute_information i))) ≡ first_of (attribute_checks (length i) (attribute_information i))
-first-passed i e = rw e
-
-pub first-failed : (i : List ℕ) → image_length (length i) ≡ false → fault 1 ≡ first_of (attribute_checks (length i) (attribute_information i))
-first-failed i e = rw e
-
--- what is known of an image that passes every test
-module _ (i : List ℕ) (e : first_of (attribute_checks (length i) (attribute_information i)) ≡ fine) where
-  passes : Passes i
-  passes = fine-all (attribute_checks (length i) (attribute_information i)) e
-
-  pub fine-long : 16 ≤ length i
-  fine-long = (whole-blocks i passes.0).least
-
-  pub attested : (a : AttributeInformation) → Says i a → Attests i a
-  attested a s = record {
-    says = s;
-    whole = whole-blocks i passes.0;
-    reach = rw s.nmaxb_is (bounds i passes).reach;
-    ln_fits = rw (s.nmaxb_is, s.ln_is) (ln_fits i passes);
-  }
-
--- ---- the answer
+use Rattle.type3.specs.Views.AttributeInformation.{Readable, answer_for}
+use Rattle.type3.proofs.Message.{unread}
 
 -- a test that fails gives its refusal
 pub answer-refused : (i : List ℕ) (r : ℕ) → first_of (attribute_checks (length i) (attribute_information i)) ≡ fault r → answer_of 0 (reading i) ≡ refusal r
 answer-refused i r e = ap (answer_of 0) (unread i r e)
 
 -- the attribute information says the rest
-pub answer-known : (i : List ℕ) (a : AttributeInformation) → first_of (attribute_checks (length i) (attribute_information i)) ≡ fine → Attests i a
-    → answer_for a ≡ answer_of 0 (reading i)
+pub answer-known : (i : List ℕ) (a : AttributeInformation) → Readable i a → answer_for a ≡ answer_of 0 (reading i)
 unfolding reading announce_by
-answer-known i a e k = rw (e, k.says.busy_is, k.says.writable_is, k.says.ln_is, k.says.nmaxb_is) (go (eqb (byte i 9) 0x0F) (attribute_information i).ln (omega (arith, k.reach, k.ln_fits, k.says.ln_is)))
+answer-known i a r =
+    let k = r.known in
+    rw (r.passes, k.says.busy_is, k.says.writable_is, k.says.ln_is, k.says.nmaxb_is)
+    (go (eqb (byte i 9) 0x0F) (attribute_information i).ln (omega (arith, k.reach, k.ln_fits, k.says.ln_is)))
   where
     w : Bool
     w = may_write i

@@ -15,10 +15,7 @@ pub fn is_kept(image: &[u8], work: &[u8], n: usize) -> bool
     requires { (16 + 16 * blocks_for n ≤ length image.now) × (length image.now ≤ 4096) × (length work.now ≡ length image.now) }
     ensures { result ≡ equal_at (λ a. not (set_for n a)) image.now work.now (run 0 (length image.now)) }
 {
-    let blocks = space::blocks_for(n);
-    let end = Block(1 + blocks).address(read::BLOCK_SIZE);
-    if !kept::is_kept_outside(image, work, Address(read::WRITE_FLAG), end) {
-        return false;
-    }
-    work[read::RW_FLAG] == image[read::RW_FLAG]
+    let end = Block(1 + space::blocks_for(n)).address(read::BLOCK_SIZE);
+    kept::is_kept_outside(image, work, Address(read::WRITE_FLAG), end)
+        && work[read::RW_FLAG] == image[read::RW_FLAG]
 }

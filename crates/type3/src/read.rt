@@ -1,47 +1,35 @@
 // Reading a Type 3 tag: the tests of its attribute information, in the order of their refusals, and what it says of a message.
 
-ghost use Rattle.std.specs.Prelude.{◌≡◌, false, [], ◌*◌, ◌^◌, ◌<◌, ◌≤◌, length, drop};
+ghost use Rattle.std.specs.Prelude.{◌≡◌, not, ◌&&◌, ◌||◌, [], ◌*◌, ◌^◌, ◌<◌, ◌≤◌, eqb, length, sum, IfOk, Ok};
 ghost use Rattle.tag.specs.Checks.{first_of};
-ghost use Rattle.tag.specs.Views.Faults.{fault_as};
-ghost use Rattle.tag.specs.Reading.{answer};
-ghost use Rattle.tag.specs.Answers.{content_of};
+ghost use Rattle.tag.specs.Answers.{read_as};
 ghost use Rattle.tag.specs.PublicContracts.{Read, Showed};
-ghost use Rattle.type3.specs.AttributeInformation.{attribute_information, image_length, flags_defined, attribute_checks, may_write};
+ghost use Rattle.type3.specs.AttributeInformation.{attribute_information, attribute_checks};
 ghost use Rattle.type3.specs.Message.{reading};
-ghost use Rattle.type3.specs.Views.AttributeInformation.{WholeBlocks, checked_as, Says, Known, report_as, answer_for};
+ghost use Rattle.type3.specs.Views.AttributeInformation.{checked_as, Says, Readable, answer_for};
 
-use tag::{Address, Block, Content, ReadAnswer, Report, numbers, refusals, slices, version};
+use tag::{Block, Content, Refusal, Report, slices, version};
 
 // The bytes of a block.
 pub const BLOCK_SIZE: usize = 16;
 
-// An image has at least one block.
-const SHORTEST_IMAGE: usize = BLOCK_SIZE;
-
-// It has at most 256 blocks.
+// An image has at most 256 blocks.
 pub const LONGEST_IMAGE: usize = 256 * BLOCK_SIZE;
 
-// The addresses of the fields, from here to CHECKSUM. The version is at 0; Nmaxb and the checksum have two bytes, and Ln three.
+// The addresses of some fields of block 0.
 const NBR: usize = 1;
 
 const NBW: usize = 2;
-
-const NMAXB: usize = 3;
 
 pub const WRITE_FLAG: usize = 9;
 
 pub const RW_FLAG: usize = 10;
 
-const LN: usize = 11;
-
-// Ln's two lower bytes.
-const LN_LOW: usize = LN + 1;
-
-// The sum of all bytes before it.
-const CHECKSUM: usize = 14;
+// The checksum is the sum of the bytes before it.
+pub const CHECKSUM: usize = 14;
 
 // The attribute information that the code uses.
-#[derive(Clone, Copy)]
+#[derive(Clone, Copy, Debug, PartialEq, Eq)]
 pub struct AttributeInformation {
     pub nbw: usize,
     pub nmaxb: usize,
@@ -52,191 +40,128 @@ pub struct AttributeInformation {
     pub writable: bool,
 }
 
-// The answer of the tests: the first that fails gives its refusal.
-#[derive(Clone, Copy)]
-pub enum Checked {
-    Refused(u8),
-    Fine(AttributeInformation),
+// The sum of a few bytes. Sixteen bits hold it, and the compiler then adds eight bytes at once.
+pub fn sum(bytes: &[u8]) -> u16
+    requires { length bytes.now ≤ 16 }
+    ensures { result ≡ sum bytes.now }
+{
+    bytes.iter().map(|b| u16::from(*b)).sum()
 }
 
-// Whether WriteFlag, RWFlag and Nbr have defined values.
-fn flags_defined(image: &[u8]) -> bool
-    requires { 16 ≤ length image.now }
-    ensures { result ≡ flags_defined (attribute_information image.now) }
+// Do Nbr, WriteFlag and RWFlag have defined values?
+fn flags_defined(nbr: u8, write_flag: u8, rw_flag: u8) -> bool
+    ensures { result ≡ ((eqb write_flag 0x00 || eqb write_flag 0x0F) && (eqb rw_flag 0x00 || eqb rw_flag 0x01) && not (eqb nbr 0)) }
 {
-    if !numbers::is_one_of(image[WRITE_FLAG], 0x00, 0x0F) {
-        return false;
-    }
-    if !numbers::is_one_of(image[RW_FLAG], 0x00, 0x01) {
-        return false;
-    }
-    image[NBR] != 0
+    nbr != 0 && matches!(write_flag, 0x00 | 0x0F) && matches!(rw_flag, 0x00 | 0x01)
 }
 
-// Is RWFlag 01h and Nbw at least 1?
-fn may_write(image: &[u8]) -> bool
+// Nmaxb, of two bytes. The slice, not an array of block 0: `attribute_information` of the specs takes the whole image, and each
+// caller would have to cut block 0 off and prove it the same.
+fn nmaxb(image: &[u8]) -> usize
     requires { 16 ≤ length image.now }
-    ensures { result ≡ may_write image.now }
+    ensures { (result ≡ (attribute_information image.now).nmaxb) × (result < 65536) }
 {
-    if image[RW_FLAG] != 0x01 {
-        return false;
-    }
-    1 <= image[NBW]
+    usize::from(u16::from_be_bytes([image[3], image[4]]))
 }
 
 // Ln, of three bytes.
-fn ln_of(image: &[u8]) -> usize
+fn ln(image: &[u8]) -> usize
     requires { 16 ≤ length image.now }
     ensures { result ≡ (attribute_information image.now).ln }
 {
-    65536 * numbers::wide(image[LN]) + numbers::word(image, LN_LOW)
+    u32::from_be_bytes([0, image[11], image[12], image[13]]) as usize
 }
 
-// Refusals 5 and 7; 0 for neither.
-fn size_fault(image: &[u8]) -> u8
-    requires { WholeBlocks image.now }
-    ensures { fault_as result ≡ first_of (drop 4 (attribute_checks (length image.now) (attribute_information image.now))) }
+// Does a tag pass the tests of its attribute information? If not: the first of the refusals 1 to 5 and 7. This does not give the
+// attribute information as well: that would be returned through memory, which takes more time than to read block 0 again.
+#[tactic(auto, using(crate::proofs::Summing::sum_is))]
+fn check(image: &[u8]) -> Result<(), Refusal>
+    ensures { checked_as result ≡ first_of (attribute_checks (length image.now) (attribute_information image.now)) }
 {
-    let nmaxb = numbers::word(image, NMAXB);
-    let end = Block(1 + nmaxb).address(BLOCK_SIZE);
-    if image.len() < end.0 {
-        return refusals::BAD_DATA_AREA;
+    if image.len() < BLOCK_SIZE || LONGEST_IMAGE < image.len() || image.len() % BLOCK_SIZE != 0 {
+        return Err(Refusal::ImageSize);
     }
-    if BLOCK_SIZE * nmaxb < ln_of(image) {
-        return refusals::BAD_LENGTH;
-    }
-    refusals::NONE
-}
-
-// Refusals 2 to 4, and then those of `size_fault`.
-fn block_fault(image: &[u8]) -> u8
-    requires { WholeBlocks image.now }
-    ensures { fault_as result ≡ first_of (drop 1 (attribute_checks (length image.now) (attribute_information image.now))) }
-{
-    if numbers::sum(image, CHECKSUM) != numbers::word(image, CHECKSUM) as u16 {
-        return refusals::NOT_NDEF;
+    if sum(&image[..CHECKSUM]) != u16::from_be_bytes([image[14], image[15]]) {
+        return Err(Refusal::NotNdef);
     }
     if !version::is_known(image[0]) {
-        return refusals::UNKNOWN_VERSION;
+        return Err(Refusal::UnknownVersion);
     }
-    if !flags_defined(image) {
-        return refusals::BAD_ACCESS;
+    if !flags_defined(image[NBR], image[WRITE_FLAG], image[RW_FLAG]) {
+        return Err(Refusal::BadAccess);
     }
-    size_fault(image)
-}
-
-// Whether an image may have `n` bytes.
-fn is_whole(n: usize) -> bool
-    ensures { result ≡ image_length n }
-{
-    if n % BLOCK_SIZE != 0 {
-        return false;
+    let nmaxb = nmaxb(image);
+    if image.len() < BLOCK_SIZE * (1 + nmaxb) {
+        return Err(Refusal::BadDataArea);
     }
-    if n < SHORTEST_IMAGE {
-        return false;
+    if BLOCK_SIZE * nmaxb < ln(image) {
+        return Err(Refusal::BadLength);
     }
-    n <= LONGEST_IMAGE
-}
-
-// The first of the refusals 1 to 5 and 7; 0 if the tag passes all tests. It returns a number alone: the attribute information with
-// it would be returned through memory, and `said` reads what is needed from block 0 again in less time.
-pub fn fault(image: &[u8]) -> u8
-    ensures { fault_as result ≡ first_of (attribute_checks (length image.now) (attribute_information image.now)) }
-{
-    if is_whole(image.len()) {
-        return block_fault(image);
-    }
-    refusals::IMAGE_SIZE
+    Ok(())
 }
 
 // What block 0 says.
-pub fn said(image: &[u8]) -> AttributeInformation
+fn said(image: &[u8]) -> AttributeInformation
     requires { 16 ≤ length image.now }
     ensures { Says image.now result }
 {
-    let nbw = numbers::wide(image[NBW]);
-    let nmaxb = numbers::word(image, NMAXB);
-    let ln = ln_of(image);
-    let busy = image[WRITE_FLAG] == 0x0F;
-    let writable = may_write(image);
     AttributeInformation {
-        nbw,
-        nmaxb,
-        ln,
-        busy,
-        writable,
+        nbw: usize::from(image[NBW]),
+        nmaxb: nmaxb(image),
+        ln: ln(image),
+        busy: image[WRITE_FLAG] == 0x0F,
+        writable: image[RW_FLAG] == 0x01 && 1 <= image[NBW],
     }
 }
 
-// The attribute information, or the first of the refusals 1 to 5 and 7: `fault` and `said` in one. Writing and judging use it; they
-// take more time than an answer through memory.
-pub fn attribute_information(image: &[u8]) -> Checked
+// What block 0 says, or the first of the refusals 1 to 5 and 7.
+pub fn attribute_information(image: &[u8]) -> Result<AttributeInformation, Refusal>
     ensures is { checked_as result ≡ first_of (attribute_checks (length image.now) (attribute_information image.now)) }
-    ensures known { Known image.now result }
+    ensures known { IfOk result (Readable image.now) }
 {
-    let refusal = fault(image);
-    if refusal != refusals::NONE {
-        return Checked::Refused(refusal);
-    }
-    let information = said(image);
-    Checked::Fine(information)
+    check(image)?;
+    Ok(said(image))
 }
 
-// What the attribute information says of a message, and of the room for one.
-fn report(a: AttributeInformation) -> Report
-    requires { 16 * a.nmaxb < 2 ^ 32 }
-    ensures { report_as result ≡ answer_for a }
-{
-    let writable = a.writable;
-    let capacity = BLOCK_SIZE * a.nmaxb;
-    if a.busy {
-        return without(Content::BeingWritten, writable, capacity);
-    }
-    let length = a.ln;
-    if length == 0 {
-        return without(Content::Empty, writable, capacity);
-    }
-    let address = Block(1).address(BLOCK_SIZE);
-    Report {
-        content: Content::Message,
-        address,
-        length,
-        interrupted: false,
-        writable,
-        capacity,
+impl AttributeInformation {
+    // What it says of a message, and of the room for one. A Type 3 message is never interrupted.
+    // Each type has its own: only Type 3 can be being written.
+    fn report(self) -> Report
+        requires { 16 * self.nmaxb < 2 ^ 32 }
+        ensures { read_as (Ok result) ≡ answer_for self }
+    {
+        let content = if self.busy {
+            Content::BeingWritten
+        } else if self.ln == 0 {
+            Content::Empty
+        } else {
+            Content::Message {
+                address: Block(1).address(BLOCK_SIZE),
+                length: self.ln,
+                interrupted: false,
+            }
+        };
+        Report {
+            content,
+            writable: self.writable,
+            capacity: BLOCK_SIZE * self.nmaxb,
+        }
     }
 }
 
-// A tag without a message.
-fn without(content: Content, writable: bool, capacity: usize) -> Report
-    ensures { report_as result ≡ answer (content_of content) 0 0 false writable capacity }
-{
-    Report {
-        content,
-        address: Address(0),
-        length: 0,
-        interrupted: false,
-        writable,
-        capacity,
-    }
-}
-
-// Reads a tag. A Type 3 message is never interrupted, so there is nothing to gather.
-pub fn read(image: &[u8]) -> ReadAnswer
+// Reads a tag. Its message is never interrupted, so there is nothing to gather.
+pub fn read(image: &[u8]) -> Result<Report, Refusal>
     ensures { Read reading image.now [] result [] }
 {
-    let refusal = fault(image);
-    if refusal != refusals::NONE {
-        return ReadAnswer::Refused(refusal);
-    }
-    let information = said(image);
-    ReadAnswer::Reads(report(information))
+    let information = attribute_information(image)?;
+    Ok(information.report())
 }
 
 // The message as a part of the image. It is empty without a message, after a refusal, if the answer's numbers do not fit, and if
 // the answer claims that the message is interrupted.
-pub fn shown(image: &[u8], answer: ReadAnswer) -> &[u8]
+// Each type has its own, so that a caller finds it beside read (docs/PROMISES.md names it).
+pub fn shown(image: &[u8], answer: Result<Report, Refusal>) -> &[u8]
     ensures { Showed image.now [] answer result.now }
 {
-    slices::shown(image, &image[0..0], answer)
+    slices::shown(image, &[], answer)
 }

@@ -1,24 +1,28 @@
 -- Decoding in place: framed bytes whose blocks may be listed are a command, and nothing else is.
 -- Assumes nothing.
 use mathlib.Core.Path.{◌≡◌, refl, sym, ap, ◌∙◌}
-use mathlib.Core.Bool.{Bool, true, false, ◌&&◌}
-use mathlib.Core.List.{List, [], ◌∷◌, ◌++◌, append-nil}
+use mathlib.Core.Bool.{Bool, true, false, ◌&&◌, cond}
+use mathlib.Core.List.{List, [], ◌∷◌, ◌++◌, map, append-nil}
 use Prim.Native.Nat.{ℕ, zero, suc, ◌+◌, ◌*◌, ◌<◌, ◌≤◌}
 use native.Mathlib.Omega.{arith}
 use borrow.Author.Tests.{eqb-true, eq-eqb}
 use lib.Dec.{leb, eqb}
-use lib.ListN.{length, take, drop, replicate, length-drop}
-use lib.Seq.{take_at, drop-drop, split_at}
+use borrow.Rule.Slice.PartMut.{put_mid}
+use lib.ListN.{length, take, drop, replicate, length-append, length-drop}
+use lib.Seq.{sets, take_at, drop-drop, split_at, take-add, length-take-le}
+use Rattle.std.specs.Bool.{then_some}
 use Rattle.tag.specs.declared.Block.{Block}
 use Rattle.tag.specs.Bytes.{byte, same, overwrite}
 use Rattle.tag.specs.Refusals.{Refusal, positioned, malformed_command}
+use Rattle.tag.proofs.Storing.{put_sets, sets-append, sets-front}
 use Rattle.tag.proofs.Logic.{and_l, and_r, and-three, and_both, same-eq, same_refl, true-false, nope}
 use Rattle.type3_commands.specs.declared.Command.{Command}
+use Rattle.type3_commands.specs.declared.listed.Listed.{Listed}
 use Rattle.type3.specs.Update.{blocks_per_command}
 use Rattle.type3.specs.Codec.{block_list_bytes, BlockList, no_block_list, block_list, block_list_of, listable, well_listed, opening, command_bytes, Decoded, undecoded, decoded, decode_by, decode}
-use Rattle.type3_commands.specs.Views.InPlace.{well_begun, numbers, framed_by, framed, carried}
+use Rattle.type3_commands.specs.Views.InPlace.{number, well_begun, numbers, framed_by, framed, carried, Splits}
 use Rattle.type3_commands.specs.CodecContracts.{block_numbers, command_as}
-use Rattle.type3_commands.specs.Views.Framing.{is_command, Framed}
+use Rattle.type3_commands.specs.Views.Framing.{is_command, listed_as, Framed}
 use Rattle.type3.proofs.Codec.{length-opening, past-count, grouped, decode_encode, encode_decode, length-command, count_at}
 use Rattle.type3_commands.proofs.Numbering.{numbers-back}
 use Rattle.type3_commands.proofs.BlockLists.{length-numbers}
@@ -27,19 +31,16 @@ use Rattle.type3_commands.proofs.Encoding.{count-bounds}
 -- ---- the block list
 
 well-begun-block-list : (bs r : List ℕ) → well_begun (length bs) (block_list_bytes bs ++ r) ≡ true
-unfolding well_begun
 well-begun-block-list [] r = refl
 well-begun-block-list (b ∷ bs) r = well-begun-block-list bs r
 
 numbers-block-list : (bs r : List ℕ) → numbers (length bs) (block_list_bytes bs ++ r) ≡ bs
-unfolding numbers
 numbers-block-list [] r = refl
 numbers-block-list (b ∷ bs) r = ap (λ l. b ∷ l) (numbers-block-list bs r)
 
 -- elements that begin with 80h are the block list of their numbers
 block-list-numbers : (k : ℕ) (bytes : List ℕ) → well_begun k bytes ≡ true → 2 * k ≤ length bytes
     → bytes ≡ block_list_bytes (numbers k bytes) ++ drop (2 * k) bytes
-unfolding well_begun numbers
 block-list-numbers zero bytes h l = refl
 block-list-numbers (suc k) [] h l = absurd (omega arith)
 block-list-numbers (suc k) (t ∷ []) h l = absurd (omega arith)
@@ -203,19 +204,53 @@ module _ (idm : List ℕ) (nbw nmaxb : ℕ) (all : List ℕ) where
           let n = encode_decode idm nbw nmaxb all bs bytes q in
           (decode-framed idm nbw all k.0 nmaxb n.3 k.1, k.0, k.1)
 
+  -- so decoding is a test of the frame, a test of the blocks, and the parts
+  pub decode-by : length idm ≡ 8
+      → decode idm nbw nmaxb all
+      ≡ cond (framed idm nbw all && listable nmaxb (numbers (byte all 12) (drop 13 all))) (carried all) (undecoded (positioned malformed_command 0))
+  decode-by n = go (framed idm nbw all && listable nmaxb (numbers (byte all 12) (drop 13 all))) refl
+    where
+      go : (q : Bool) → framed idm nbw all && listable nmaxb (numbers (byte all 12) (drop 13 all)) ≡ q
+          → decode idm nbw nmaxb all ≡ cond q (carried all) (undecoded (positioned malformed_command 0))
+      go true q = (decode-carried (is-command-by n ∙ q)).0
+      go false q = decode-refused (is-command-by n ∙ q)
+
+  -- the parts of framed bytes, kept if their blocks may be listed
+  pub parts-decoded : length idm ≡ 8 → framed idm nbw all ≡ true → (l : Listed) → Splits all l → (b : Bool) → b ≡ listable nmaxb (map number l.elements.now)
+      → listed_as (then_some b l) ≡ decode idm nbw nmaxb all
+  parts-decoded n f l s b e = go b (e ∙ ap (λ es. listable nmaxb (map number es)) s.elements_are)
+    where
+      go : (b : Bool) → b ≡ listable nmaxb (numbers (byte all 12) (drop 13 all)) → listed_as (then_some b l) ≡ decode idm nbw nmaxb all
+      go true q = rw (s.elements_are, s.blockdata_is) (sym (decode-by n ∙ rw (f, sym q)))
+      go false q = sym (decode-by n ∙ rw (f, sym q))
+
 -- commands with equal parts are equal
 pub same-command : {n m : ℕ} {x u : List Block} {y v : List ℕ} → n ≡ m → x ≡ u → y ≡ v
     → ◌≡◌ {A = Command} (record { count = n; blocks = x; bytes = y }) (record { count = m; blocks = u; bytes = v })
 same-command p q r = λ i. record { count = p i; blocks = q i; bytes = r i }
 
--- the used part of a command's arrays is what the bytes carried
-pub carried-viewed : (bytes : List ℕ) → Framed bytes
-    → (let d = command_as (carried bytes) in decoded (take d.count (block_numbers d.blocks)) (take (16 * d.count) d.bytes)) ≡ carried bytes
-carried-viewed bytes f =
-    let b = byte bytes 12 in
-    let ns = numbers b (drop 13 bytes) in
-    let blockdata = drop (13 + 2 * b) bytes in
-    let k : length blockdata ≡ 16 * length ns = omega (arith, length-drop (13 + 2 * b) bytes, length-numbers b (drop 13 bytes)) in
+-- the used part of a command's arrays is what was read
+pub command-viewed : (ns blockdata : List ℕ) → length blockdata ≡ 16 * length ns
+    → (let d = command_as (decoded ns blockdata) in decoded (take d.count (block_numbers d.blocks)) (take (16 * d.count) d.bytes)) ≡ decoded ns blockdata
+command-viewed ns blockdata k =
     ap (λ l. decoded l (take (16 * length ns) (overwrite blockdata (replicate 128 0))))
     (ap (take (length ns)) (numbers-back (overwrite ns (replicate 8 0))) ∙ take_at ns (drop (length ns) (replicate 8 0)) (length ns) refl)
     ∙ ap (decoded ns) (take_at blockdata (drop (length blockdata) (replicate 128 0)) (16 * length ns) k)
+
+-- one block more at the front of a buffer
+pub bytes-more : (all zeros : List ℕ) (k : ℕ) → 16 * k + 16 ≤ length all → length all ≤ length zeros → (n : ℕ) (new : List ℕ) → n ≡ 16
+    → new ≡ take 16 (drop (16 * k) all) → put_mid (16 * k) n (overwrite (take (16 * k) all) zeros) new ≡ overwrite (take (16 * (k + 1)) all) zeros
+bytes-more all zeros k h l n new e q =
+    let front = take (16 * k) all in
+    let block = take 16 (drop (16 * k) all) in
+    let f : length front ≡ 16 * k = length-take-le (16 * k) all (omega arith) in
+    let b : length block ≡ 16 = length-take-le 16 (drop (16 * k) all) (omega (arith, length-drop (16 * k) all)) in
+    let room : length (overwrite front zeros) ≡ length zeros = omega (arith, f, length-append front (drop (length front) zeros), length-drop (length front) zeros) in
+    let place : 0 + length front ≡ 16 * k = omega (arith, f) in
+    let more : 16 * k + 16 ≡ 16 * (k + 1) = omega arith in
+    put_sets (16 * k) n block new (overwrite front zeros) q (omega (arith, e, b)) (omega (arith, b, room))
+    ∙ ap (λ t. sets t (16 * k) block) (sym (sets-front front zeros (omega (arith, f))))
+    ∙ ap (λ at. sets (sets zeros 0 front) at block) (sym place)
+    ∙ sym (sets-append front block zeros 0)
+    ∙ sets-front (front ++ block) zeros (omega (arith, f, b, length-append front block))
+    ∙ ap (λ x. overwrite x zeros) (sym (take-add (16 * k) 16 all) ∙ ap (λ m. take m all) more)

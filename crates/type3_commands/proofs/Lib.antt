@@ -4,3 +4,4 @@ pub mod BlockLists
 pub mod Rising
 pub mod Encoding
 pub mod Decoding
+pub mod Framing

@@ -1,15 +1,12 @@
 -- Blocks in rising order are all different. Assumes nothing.
-use mathlib.Core.Path.{◌≡◌, refl, ◌∙◌}
-use mathlib.Core.Bool.{true, false, ◌&&◌}
+use mathlib.Core.Path.{◌≡◌, refl}
+use mathlib.Core.Bool.{true, false}
 use mathlib.Core.List.{List, [], ◌∷◌}
 use Prim.Native.Nat.{ℕ, ◌+◌, ◌<◌, ◌≤◌}
-use native.Mathlib.Numerals.{add-one}
 use native.Mathlib.Omega.{arith}
-use borrow.Author.Tests.{leb-true, le-leb, lt-leb, ne_eqb}
+use borrow.Author.Tests.{leb-true, le-leb, ne_eqb}
 use lib.Dec.{leb}
-use lib.ListN.{length, drop, drop_of_length-le}
-use lib.Seq.{drop-cons}
-use Rattle.tag.specs.Bytes.{byte, has}
+use Rattle.tag.specs.Bytes.{has}
 use Rattle.tag.proofs.Logic.{and-three}
 use Rattle.type3.specs.Codec.{listable}
 use Rattle.type3_commands.specs.Views.Rising.{rising}
@@ -28,22 +25,3 @@ rising-listable nmaxb most low (b ∷ bs) h n m =
     let small : b ≤ most = leb-true b most p.1 in
     rw (le-leb b nmaxb (omega arith), le-leb b 255 (omega arith), below_all most (b + 1) bs b p.2 (omega arith))
     (rising-listable nmaxb most (b + 1) bs p.2 n m)
-
--- ---- the loop: the block at place i, and the end
-
-rising-at : (most low : ℕ) (bs : List ℕ) (i : ℕ) → i < length bs
-    → rising most low (drop i bs) ≡ leb low (byte bs i) && leb (byte bs i) most && rising most (byte bs i + 1) (drop (i + 1) bs)
-rising-at most low bs i h = rw (drop-cons bs i 0 h, add-one i)
-
-pub rising-falls : (most low : ℕ) (bs : List ℕ) (i : ℕ) → i < length bs → byte bs i < low → rising most low (drop i bs) ≡ false
-rising-falls most low bs i h l = rising-at most low bs i h ∙ rw (lt-leb low (byte bs i) l)
-
-pub rising-past : (most low : ℕ) (bs : List ℕ) (i : ℕ) → i < length bs → low ≤ byte bs i → most < byte bs i → rising most low (drop i bs) ≡ false
-rising-past most low bs i h l m = rising-at most low bs i h ∙ rw (le-leb low (byte bs i) l, lt-leb (byte bs i) most m)
-
-pub rising-more : (most low : ℕ) (bs : List ℕ) (i : ℕ) → i < length bs → low ≤ byte bs i → byte bs i ≤ most
-    → rising most low (drop i bs) ≡ rising most (byte bs i + 1) (drop (i + 1) bs)
-rising-more most low bs i h l m = rising-at most low bs i h ∙ rw (le-leb low (byte bs i) l, le-leb (byte bs i) most m)
-
-pub rising-end : (most low : ℕ) (bs : List ℕ) (i : ℕ) → length bs ≤ i → rising most low (drop i bs) ≡ true
-rising-end most low bs i h = rw (drop_of_length-le bs h)

@@ -1,17 +1,17 @@
 // The codec of Type 3's write command (Update): 08h, the IDm, one service and its code, the block count, the block list, and
 // sixteen bytes for each block. It takes the IDm, Nbw and Nmaxb.
 
-ghost use Rattle.std.specs.Prelude.{◌≡◌, ◌&&◌, ◌++◌, ◌∷◌, [], ◌<◌, ◌≤◌, leb, length, take, drop};
-ghost use Rattle.tag.specs.Bytes.{byte, same, overwrite};
-ghost use Rattle.tag.specs.PublicContracts.{PutOut};
+ghost use Rattle.std.specs.Prelude.{◌≡◌, ◌&&◌, ◌++◌, ◌∷◌, [], ◌<◌, ◌≤◌, leb, length, take, replicate, MatchOption, true, false};
+ghost use Rattle.tag.specs.Bytes.{overwrite};
 ghost use Rattle.type3.specs.Update.{blocks_per_command};
-ghost use Rattle.type3.specs.Codec.{listable, well_listed, opening, command_bytes, encode, decode, span};
-ghost use Rattle.type3_commands.specs.Views.InPlace.{numbers, framed, carried};
-ghost use Rattle.type3_commands.specs.CodecContracts.{command_as, EncodedTo, DecodedTo};
-ghost use Rattle.type3_commands.specs.Views.Framing.{is_command, PutAsked, Framed};
+ghost use Rattle.type3.specs.Codec.{well_listed, opening, command_bytes, decode, span};
+ghost use Rattle.type3_commands.specs.Views.InPlace.{framed, Splits};
+ghost use Rattle.type3_commands.specs.CodecContracts.{EncodedTo, DecodedTo};
+ghost use Rattle.type3_commands.specs.Views.Framing.{listed_as, PutAsked};
 
+use crate::listed::Listed;
 use crate::{Command, block_list};
-use tag::{Block, CountAnswer, numbers, refusals, slices};
+use tag::Refusal;
 use type3::read;
 
 // The most blocks that a command may list.
@@ -29,102 +29,65 @@ pub const PER_BLOCK: usize = block_list::ELEMENT + read::BLOCK_SIZE;
 // The most bytes of block data in a command.
 pub const MOST_BYTES: usize = MOST_BLOCKS * read::BLOCK_SIZE;
 
-// The answer of `decode`: a refusal with an empty command, or 0 and the command.
-#[derive(Clone, Copy)]
-pub struct Decoded {
-    pub refusal: u8,
-    pub command: Command,
-}
-
 // Whether a command may list `count` blocks.
 fn countable(count: usize, nbw: usize) -> bool
     ensures { result ≡ leb 1 count && leb count (blocks_per_command nbw) }
 {
-    if count < 1 {
-        return false;
-    }
-    if nbw < count {
-        return false;
-    }
-    if MOST_BLOCKS < count {
-        return false;
-    }
-    true
+    (1..=nbw.min(MOST_BLOCKS)).contains(&count)
 }
 
 // The bytes up to the block count, and the count.
 pub fn opening(idm: [u8; 8], count: u8) -> [u8; FRONT]
     ensures { result ≡ opening idm ++ (count ∷ []) }
 {
+    let [i0, i1, i2, i3, i4, i5, i6, i7] = idm;
     [
-        0x08, idm[0], idm[1], idm[2], idm[3], idm[4], idm[5], idm[6], idm[7], 0x01, 0x09, 0x00,
-        count,
+        0x08, i0, i1, i2, i3, i4, i5, i6, i7, 0x01, 0x09, 0x00, count,
     ]
 }
 
-// Writes a command whose blocks may be listed.
+// Writes a command whose blocks may be listed. The bytes have its length.
 fn put(idm: [u8; 8], blocks: &[usize], blockdata: &[u8], bytes: &mut [u8])
     requires { PutAsked blocks.now blockdata.now bytes.old }
-    ensures { bytes.new ≡ overwrite (command_bytes idm blocks.now blockdata.now) bytes.old }
+    ensures { bytes.new ≡ command_bytes idm blocks.now blockdata.now }
 {
-    let count = blocks.len();
-    let front = opening(idm, count as u8);
-    slices::store(&front, 0, bytes);
-    block_list::put(blocks, bytes);
-    slices::store(blockdata, FRONT + block_list::ELEMENT * count, bytes);
+    let (front, rest) = bytes.split_at_mut(FRONT);
+    let (list, data) = rest.split_at_mut(block_list::ELEMENT * blocks.len());
+    front.copy_from_slice(&opening(idm, blocks.len() as u8));
+    block_list::put(blocks, list);
+    data.copy_from_slice(blockdata);
 }
 
 // Whether a command may list the first `count` of the blocks.
-fn well_listed(count: usize, blocks: &[usize], nbw: usize, nmaxb: usize) -> bool
-    requires { length blocks.now ≡ 8 }
+fn well_listed(count: usize, blocks: &[usize; MOST_BLOCKS], nbw: usize, nmaxb: usize) -> bool
     ensures { result ≡ leb count (length blocks.now) && well_listed nbw nmaxb (take count blocks.now) }
 {
-    if countable(count, nbw) {
-        return block_list::listable(&blocks[..count], nmaxb);
-    }
-    false
-}
-
-// Encodes the command of the first `count` blocks.
-fn encode_parts(
-    count: usize,
-    blocks: &[usize],
-    blockdata: &[u8],
-    idm: [u8; 8],
-    nbw: usize,
-    nmaxb: usize,
-    bytes: &mut [u8],
-) -> CountAnswer
-    requires { (length blocks.now ≡ 8) × (length blockdata.now ≡ 128) }
-    ensures { PutOut (encode idm nbw nmaxb count blocks.now blockdata.now) bytes.old result bytes.new }
-{
-    if !well_listed(count, blocks, nbw, nmaxb) {
-        return CountAnswer::Refused(refusals::MALFORMED_COMMAND);
-    }
-    let size = FRONT + PER_BLOCK * count;
-    if bytes.len() < size {
-        return CountAnswer::Refused(refusals::SHORT_BUFFER);
-    }
-    let filled = read::BLOCK_SIZE * count;
-    put(idm, &blocks[..count], &blockdata[..filled], bytes);
-    CountAnswer::Count(size)
+    countable(count, nbw) && block_list::listable(&blocks[..count], nmaxb)
 }
 
 // Writes the command's bytes to the front of `bytes`: 20 if its blocks may not be listed together, 12 if the bytes do not fit.
+// IDm, Nbw and Nmaxb are apart, as C and codec3 (demands/specs/Code2.antt) have them.
 pub fn encode(
     command: Command,
     idm: &[u8; 8],
     nbw: usize,
     nmaxb: usize,
     bytes: &mut [u8],
-) -> CountAnswer
+) -> Result<usize, Refusal>
     ensures { EncodedTo idm.now nbw nmaxb command bytes.old result bytes.new }
 {
     let count = command.count;
-    let listed = command.blocks;
-    let blocks = block_list::block_numbers(listed);
-    let blockdata = command.bytes;
-    encode_parts(count, &blocks, &blockdata, *idm, nbw, nmaxb, bytes)
+    let blocks = block_list::block_numbers(command.blocks);
+    if !well_listed(count, &blocks, nbw, nmaxb) {
+        return Err(Refusal::MalformedCommand);
+    }
+    let size = FRONT + PER_BLOCK * count;
+    if bytes.len() < size {
+        return Err(Refusal::ShortBuffer);
+    }
+    let blockdata = &command.bytes[..read::BLOCK_SIZE * count];
+    put(*idm, &blocks[..count], blockdata, &mut bytes[..size]);
+    Ok(size)
 }
 
 // How many bytes of a list its first command takes, by the command's block count.
@@ -132,111 +95,69 @@ pub fn span(list: &[u8]) -> usize
     ensures is { result ≡ span list.now }
     ensures small { result < 4608 }
 {
-    if list.len() < FRONT {
-        return FRONT;
+    match list.get(COUNT) {
+        Some(count) => FRONT + PER_BLOCK * usize::from(*count),
+        None => FRONT,
     }
-    FRONT + PER_BLOCK * numbers::wide(list[COUNT])
 }
 
-// Whether the first twelve bytes are those of our commands.
-fn opens(bytes: &[u8], idm: &[u8]) -> bool
-    requires { (12 ≤ length bytes.now) × (length idm.now ≡ 8) }
-    ensures { result ≡ same (take 12 bytes.now) (opening idm.now) }
+// The parts of bytes that have a command's count, length and opening, and 80h in each element; the blocks listed may still be wrong.
+#[inline]
+fn split<'a>(bytes: &'a [u8], idm: &[u8; 8], nbw: usize) -> Option<Listed<'a>>
+    ensures { MatchOption result (framed idm.now nbw bytes.now ≡ false) (λ l. (framed idm.now nbw bytes.now ≡ true) × Splits bytes.now l) }
 {
-    if bytes[0] != 0x08 {
-        return false;
+    let rest = bytes.strip_prefix(&[0x08])?;
+    let rest = rest.strip_prefix(idm)?;
+    let rest = rest.strip_prefix(&[0x01, 0x09, 0x00])?;
+    let [count, rest @ ..] = rest else {
+        return None;
+    };
+    let count = usize::from(*count);
+    if !countable(count, nbw) || rest.len() != PER_BLOCK * count {
+        return None;
     }
-    if !slices::same(&bytes[1..9], idm) {
-        return false;
+    let (list, blockdata) = rest.split_at(block_list::ELEMENT * count);
+    let (elements, _) = list.as_chunks();
+    if !block_list::well_begun(elements) {
+        return None;
     }
-    if bytes[9] != 0x01 {
-        return false;
-    }
-    if bytes[10] != 0x09 {
-        return false;
-    }
-    bytes[11] == 0x00
+    Some(Listed {
+        elements,
+        blockdata,
+    })
 }
 
-// Whether the bytes have a command's count, length and opening, and 80h in each element; the blocks listed may still be wrong.
-fn is_framed(bytes: &[u8], idm: &[u8], nbw: usize) -> bool
-    requires { length idm.now ≡ 8 }
-    ensures { result ≡ framed idm.now nbw bytes.now }
+// The parts of a well-formed command. Inlined: a call returns five words through memory, and the model would take 1.1 times as long.
+#[inline]
+pub fn parts<'a>(bytes: &'a [u8], idm: &[u8; 8], nbw: usize, nmaxb: usize) -> Option<Listed<'a>>
+    ensures { listed_as result ≡ decode idm.now nbw nmaxb bytes.now }
 {
-    if bytes.len() < FRONT {
-        return false;
-    }
-    let count = bytes[COUNT] as usize;
-    if !countable(count, nbw) {
-        return false;
-    }
-    if bytes.len() != FRONT + PER_BLOCK * count {
-        return false;
-    }
-    if !opens(bytes, idm) {
-        return false;
-    }
-    block_list::well_begun(bytes, count)
+    let listed = split(bytes, idm, nbw)?;
+    block_list::listable(listed.elements, nmaxb).then_some(listed)
 }
 
-// Whether the blocks that framed bytes list may be listed together.
-fn blocks_fit(bytes: &[u8], nmaxb: usize) -> bool
-    requires { Framed bytes.now }
-    ensures { result ≡ listable nmaxb (numbers (byte bytes.now 12) (drop 13 bytes.now)) }
+// The blocks' bytes, and zeros after them. Each block is copied by itself: to copy an unknown number of bytes takes more time.
+// By index: the library says nothing of a slice after as_chunks_mut.
+fn padded(listed: &Listed<'_>) -> [u8; MOST_BYTES]
+    ensures { result ≡ overwrite listed.now.blockdata.now (replicate 128 0) }
 {
-    let count = bytes[COUNT] as usize;
-    let mut blocks = [0usize; MOST_BLOCKS];
-    block_list::read(bytes, count, &mut blocks);
-    block_list::listable(&blocks[..count], nmaxb)
-}
-
-// Whether the bytes are a well-formed command.
-pub fn is_command(bytes: &[u8], idm: &[u8; 8], nbw: usize, nmaxb: usize) -> bool
-    ensures { result ≡ is_command (decode idm.now nbw nmaxb bytes.now) }
-{
-    if is_framed(bytes, idm, nbw) {
-        return blocks_fit(bytes, nmaxb);
+    let mut bytes = [0; MOST_BYTES];
+    for k in 0..listed.elements.len() {
+        let at = read::BLOCK_SIZE * k;
+        let end = at + read::BLOCK_SIZE;
+        bytes[at..end].copy_from_slice(&listed.blockdata[at..end]);
     }
-    false
-}
-
-// The command that framed bytes hold.
-fn carried(bytes: &[u8]) -> Command
-    requires { Framed bytes.now }
-    ensures { result ≡ command_as (carried bytes.now) }
-{
-    let count = bytes[COUNT] as usize;
-    let mut numbers = [0usize; MOST_BLOCKS];
-    block_list::read(bytes, count, &mut numbers);
-    let blocks = block_list::blocks_of(numbers);
-    let start = FRONT + block_list::ELEMENT * count;
-    let mut blockdata = [0u8; MOST_BYTES];
-    slices::store(&bytes[start..], 0, &mut blockdata);
-    Command {
-        count,
-        blocks,
-        bytes: blockdata,
-    }
+    bytes
 }
 
 // Reads a command: 20 if the bytes are not well formed.
-pub fn decode(bytes: &[u8], idm: &[u8; 8], nbw: usize, nmaxb: usize) -> Decoded
+pub fn decode(bytes: &[u8], idm: &[u8; 8], nbw: usize, nmaxb: usize) -> Result<Command, Refusal>
     ensures { DecodedTo idm.now nbw nmaxb bytes.now result }
 {
-    if is_command(bytes, idm, nbw, nmaxb) {
-        let command = carried(bytes);
-        return Decoded {
-            refusal: refusals::NONE,
-            command,
-        };
-    }
-    let command = Command {
-        count: 0,
-        blocks: [Block(0); MOST_BLOCKS],
-        bytes: [0u8; MOST_BYTES],
-    };
-    Decoded {
-        refusal: refusals::MALFORMED_COMMAND,
-        command,
-    }
+    let listed = parts(bytes, idm, nbw, nmaxb).ok_or(Refusal::MalformedCommand)?;
+    Ok(Command {
+        count: listed.elements.len(),
+        blocks: block_list::blocks_of(block_list::numbers(listed.elements)),
+        bytes: padded(&listed),
+    })
 }

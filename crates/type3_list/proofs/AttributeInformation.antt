@@ -1,21 +1,37 @@
--- The sum of the bytes of block 0 that writing keeps, and the lengths of the attribute information block and its commands.
+-- Block 0 as the code sets it, and the lengths of the attribute information block and its commands.
 -- Assumes nothing.
-use mathlib.Core.Path.{◌≡◌, refl}
+use mathlib.Core.Path.{◌≡◌, refl, sym, ap, ◌∙◌}
 use mathlib.Core.Bool.{Bool, true, false}
-use mathlib.Core.List.{List, [], ◌∷◌}
-use Prim.Native.Nat.{ℕ, ◌+◌}
+use mathlib.Core.List.{List, [], ◌∷◌, map}
+use Prim.Native.Nat.{ℕ, ◌+◌, ◌/◌, ◌%◌, ◌<◌, ◌≤◌}
 use native.Mathlib.Omega.{arith}
-use lib.ListN.{length}
-use Rattle.tag.specs.Bytes.{byte}
-use Rattle.tag.specs.Views.Numbers.{sum_to}
+use borrow.Rule.Slice.PartMut.{put_mid}
+use lib.ListN.{length, take, set}
+use Rattle.std.specs.Prelude.{sum}
+use Rattle.tag.specs.Bytes.{byte, run}
+use Rattle.tag.proofs.Runs.{map-run}
 use Rattle.type3.specs.AttributeInformation.{steady_sum}
+use Rattle.type3.specs.Update.{ln_sum}
 use Rattle.type3.proofs.Codec.{length-command}
 use Rattle.type3_list.specs.Views.Listing.{attribute_information_block, attribute_command, shut_command, shut_length}
 
--- the sum of the bytes of block 0 that writing keeps
-pub sum-steady : (i : List ℕ) → sum_to i 9 + byte i 10 ≡ steady_sum i
-unfolding sum_to
-sum-steady i = omega arith
+-- block 0 of an image is its sixteen bytes
+pub sixteen : (j : List ℕ) → 16 ≤ length j → take 16 j ≡ map (byte j) (run 0 16)
+sixteen j l = sym (map-run 16 0 j (omega arith))
+
+-- block 0 with WriteFlag and Ln set
+abbrev pub set-flag : List ℕ → ℕ → ℕ → List ℕ
+set-flag b flag n = put_mid 11 3 (set b 9 flag) (n / 65536 % 256 ∷ n / 256 % 256 ∷ n % 256 ∷ [])
+
+-- and with the checksum
+pub set-block : (i : List ℕ) (flag n : ℕ) (b : List ℕ) (s : ℕ) → n < 65536 → s < 65536 → b ≡ map (byte i) (run 0 16) → s ≡ sum (take 14 (set-flag b flag n))
+    → put_mid 14 2 (set-flag b flag n) (s / 256 % 256 ∷ s % 256 ∷ []) ≡ attribute_information_block i flag n
+unfolding attribute_information_block
+set-block i flag n b s small few e q =
+    let high : n / 65536 % 256 ≡ n / 65536 = omega arith in
+    let total : s ≡ steady_sum i + flag + ln_sum n = q ∙ ap (λ x. sum (take 14 (set-flag x flag n))) e ∙ omega arith in
+    let byte-14 : s / 256 % 256 ≡ s / 256 = omega arith in
+    ap (λ x. put_mid 14 2 (set-flag x flag n) (s / 256 % 256 ∷ s % 256 ∷ [])) e ∙ rw (byte-14, total, high)
 
 pub length-attribute-information-block : (i : List ℕ) (flag n : ℕ) → length (attribute_information_block i flag n) ≡ 16
 unfolding attribute_information_block

@@ -1,22 +1,21 @@
 -- Blocks dealt out to commands, w to a command: how far the first t commands come, and how many bytes they take.
 -- Assumes nothing.
-use mathlib.Core.Path.{◌≡◌, sym, ap, ◌∙◌}
+use mathlib.Core.Path.{◌≡◌, ap, ◌∙◌}
 use mathlib.Core.List.{List, ◌++◌}
-use Prim.Native.Nat.{ℕ, zero, suc, ◌+◌, ◌-◌, ◌*◌, ◌/◌, ◌<◌, ◌≤◌, min}
+use Prim.Native.Nat.{ℕ, zero, suc, ◌+◌, ◌-◌, ◌*◌, ◌/◌, ◌%◌, ◌<◌, ◌≤◌, min}
 use native.Mathlib.Nat.{mul-le-mul_left, mul-le-mul_right}
 use native.Mathlib.Numerals.{add-one}
 use native.Mathlib.Omega.{arith}
 use native.Mathlib.Decide.{dec_lt}
 use lib.ListN.{length, take, drop, length-append, length-take, length-drop}
-use lib.Seq.{take_all, length-take-le}
+use lib.Seq.{length-take-le}
+use Rattle.std.proofs.lemmas.Grind.{div_ceil_times}
 use Rattle.tag.proofs.Chunks.{rounded-up}
 use Rattle.type3_list.specs.Views.Blocks.{blocks_bytes}
 use Rattle.type3_list.specs.Views.Listing.{message_command, message_commands, Dealt}
 use Rattle.type3.proofs.Codec.{length-command}
+use Rattle.type3_list.proofs.Cutting.{times_more}
 use Rattle.type3_list.proofs.MessageBlocks.{length-blocks}
-
-pub times_more : (w t : ℕ) → w * (t + 1) ≡ w * t + w
-times_more w t = rw (add-one t) (omega arith)
 
 -- a command of count blocks moves the place on by its length
 pub place-more : (k w t at count : ℕ) → at ≡ 13 * t + 18 * min (w * t) k → count ≡ min w (k - w * t)
@@ -28,11 +27,27 @@ pub place-fits : (k w t turns at count : ℕ) → at ≡ 13 * t + 18 * min (w * 
     → at + (13 + 18 * count) ≤ 13 * turns + 18 * k
 place-fits k w t turns at count e f l = rw (e, f) (omega arith)
 
--- before each of the t commands there are blocks left
-pub left_over : {k w t : ℕ} (s : ℕ) → Dealt k w t → s < t → w * s < k
-left_over {k} {w} {t} s d l =
-    let m : w * suc s ≤ w * t = mul-le-mul_left w l in
-    omega (arith, d.none_idle)
+-- fewer commands than those that take more blocks
+earlier : (w t u : ℕ) → w * t < w * u → t < u
+earlier w t u l = go (dec_lt t u)
+  where
+    go : Dec (t < u) → t < u
+    go (yes p) = p
+    go (no n) =
+        let least : u ≤ t = omega arith in
+        let more : w * u ≤ w * t = mul-le-mul_left w least in
+        absurd (omega arith)
+
+-- a command is left while there are blocks left
+pub left_over : {k w t : ℕ} (s : ℕ) → Dealt k w t → w * s < k → s < t
+left_over {k} {w} {t} s d l = earlier w s t (omega (arith, d.enough))
+
+-- and all are laid once there is none left
+pub all_dealt : {k w t : ℕ} (s : ℕ) → Dealt k w t → w * s < k + w → k ≤ w * s → s ≡ t
+all_dealt {k} {w} {t} s d l h =
+    let before : s < t + 1 = earlier w s (t + 1) (omega (arith, times_more w t, d.enough)) in
+    let after : t < s + 1 = earlier w t (s + 1) (omega (arith, times_more w s, d.none_idle)) in
+    omega arith
 
 -- as many commands as k blocks need
 pub dealt : (k w : ℕ) → k ≤ 255 → 0 < w → w ≤ 8 → Dealt k w ((k + (w - 1)) / w)
@@ -54,23 +69,15 @@ dealt k w few some most =
         let one : 1 * k ≤ w * k = mul-le-mul_right k some in
         absurd (omega arith)
 
--- the length of a part, and of a rest
-pub length_part : (l : List ℕ) (s n : ℕ) → s + n ≤ length l → length (take (s + n - s) (drop s l)) ≡ n
-length_part l s n h = let e : s + n - s ≡ n = omega arith in rw e (length-take-le n (drop s l) (rw length-drop (omega arith)))
+-- so many the library's rounding gives too
+pub rounded : (k w : ℕ) → k ≤ 255 → 0 < w → w ≤ 8 → k / w + min 1 (k % w) ≡ (k + (w - 1)) / w
+rounded k w few some most =
+    let bounds = div_ceil_times k w some in
+    all_dealt (k / w + min 1 (k % w)) (dealt k w few some most) (omega arith) (omega arith)
 
+-- the length of a rest
 pub length_rest : (l : List ℕ) (s : ℕ) → length (take (length l - s) (drop s l)) ≡ length l - s
 length_rest l s = length-take-le (length l - s) (drop s l) (omega (arith, length-drop s l))
-
--- the blocks of a command: w of those left, or all of them
-pub dealt-part : (bs : List ℕ) (w s : ℕ) → take (min w (length bs - s)) (drop s bs) ≡ take w (drop s bs)
-dealt-part bs w s = go (dec_lt w (length bs - s))
-  where
-    go : Dec (w < length bs - s) → take (min w (length bs - s)) (drop s bs) ≡ take w (drop s bs)
-    go (yes l) = let e : min w (length bs - s) ≡ w = omega arith in rw e
-    go (no n) =
-        let e : min w (length bs - s) ≡ length bs - s = omega arith in
-        let long = length-drop s bs in
-        rw e (take_all (length bs - s) (drop s bs) (omega arith) ∙ sym (take_all w (drop s bs) (omega arith)))
 
 module _ (idm m : List ℕ) (w : ℕ) (bs : List ℕ) where
   pub commands-more : (t : ℕ) → message_commands idm m w bs (t + 1) ≡ message_commands idm m w bs t ++ message_command idm m (take w (drop (w * t) bs))

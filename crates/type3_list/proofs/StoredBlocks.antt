@@ -16,11 +16,8 @@ use Rattle.type3.specs.Update.{blocks_for, addresses, ln_sum, body, values, clos
 use Rattle.type3.proofs.Update.{closed-else, closed-length, closed-reads, above-addresses, length-body, new-agrees, new-length, HasRoom, inside}
 use Rattle.type3_list.specs.Views.Blocks.{message_block}
 use Rattle.type3_list.specs.Views.Listing.{attribute_information_block}
+use Rattle.type3_list.proofs.AttributeInformation.{sixteen}
 use Rattle.type3_list.proofs.MessageBlocks.{block-filled}
-
--- block 0 of an image is its sixteen bytes
-sixteen : (j : List ℕ) → 16 ≤ length j → take 16 j ≡ map (byte j) (run 0 16)
-sixteen j l = sym (map-run 16 0 j (omega arith))
 
 -- ---- the closed image
 

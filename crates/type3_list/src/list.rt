@@ -1,21 +1,27 @@
 // The list of write commands, laid straight into the caller's buffer. It shuts block 0 unless that is shut, writes the blocks, as many
 // to a command as are allowed, and then writes block 0 with its new bytes.
 
-ghost use Rattle.std.specs.Prelude.{◌≡◌, [], ◌∷◌, ◌++◌, ◌+◌, ◌*◌, ◌<◌, ◌≤◌, length, drop};
+ghost use Rattle.std.specs.Prelude.{◌≡◌, cond, [], ◌∷◌, ◌++◌, ◌+◌, ◌*◌, ◌<◌, ◌≤◌, length, drop};
 ghost use Rattle.type3.specs.Codec.{block_list_bytes, opening};
 ghost use Rattle.type3_list.specs.Views.Blocks.{Chosen};
-ghost use Rattle.type3_list.specs.Views.Listing.{attribute_information_block, attribute_command, message_command, message_commands, shut_command, shut_length, list_as, list_length, Dealt, Listing};
+ghost use Rattle.type3_list.specs.Views.Listing.{attribute_information_block, attribute_command, message_command, message_commands, shut_command, shut_length};
+ghost use Rattle.type3_list.specs.Views.Laid.{laid, laid_length};
 
-use crate::blocks;
-use tag::numbers;
+use crate::{WriteList, blocks};
 use type3::read;
+use type3::read::BLOCK_SIZE;
+use type3_commands::block_list::ELEMENT;
+use type3_commands::commands::{FRONT, PER_BLOCK};
 use type3_commands::{block_list, commands};
 
+// Where block 0 has Ln, of three bytes.
+const LN: usize = 11;
+
 // Where the command for block 0 has its data.
-const ATTRIBUTE_DATA: usize = commands::FRONT + block_list::ELEMENT;
+const ATTRIBUTE_DATA: usize = FRONT + ELEMENT;
 
 // The bytes of the command for block 0.
-pub const ATTRIBUTE_COMMAND: usize = commands::FRONT + commands::PER_BLOCK;
+const ATTRIBUTE_COMMAND: usize = FRONT + PER_BLOCK;
 
 // ---- the parts of a command
 
@@ -24,134 +30,117 @@ fn put_opening(idm: [u8; 8], count: usize, out: &mut [u8])
     requires { (count < 256) × (13 ≤ length out.old) }
     ensures { out.new ≡ (opening idm ++ (count ∷ [])) ++ drop 13 out.old }
 {
-    let front = commands::opening(idm, count as u8);
-    out[..commands::FRONT].copy_from_slice(&front);
+    out[..FRONT].copy_from_slice(&commands::opening(idm, count as u8));
 }
 
-// The block list.
+// The block list. Over bytes, as a list has them; `put` of block_list has any numbers, tested before.
+// By index: the library says nothing of a slice after as_chunks_mut.
 fn put_block_list(blocks: &[u8], out: &mut [u8])
     requires { 2 * length blocks.now ≤ length out.old }
     ensures { out.new ≡ block_list_bytes blocks.now ++ drop (2 * length blocks.now) out.old }
 {
-    let mut j = 0usize;
-    while j < blocks.len() {
-        let two = block_list::element(blocks[j]);
-        out[block_list::ELEMENT * j] = two[0];
-        out[block_list::ELEMENT * j + 1] = two[1];
-        j += 1;
+    for (j, block) in blocks.iter().enumerate() {
+        out[ELEMENT * j..ELEMENT * (j + 1)].copy_from_slice(&block_list::element(*block));
     }
 }
 
 // Block 0 with this WriteFlag and this Ln, and its checksum; all else as the image has it.
-fn put_attribute_information_block(image: &[u8], flag: u8, ln: usize, out: &mut [u8])
-    requires { (16 ≤ length image.now) × (ln < 65536) × (16 ≤ length out.old) }
-    ensures { out.new ≡ attribute_information_block image.now flag ln ++ drop 16 out.old }
+// It takes the slice: `attribute_information_block` of the specs takes the whole image.
+fn attribute_information_block(image: &[u8], flag: u8, ln: usize) -> [u8; BLOCK_SIZE]
+    requires { (16 ≤ length image.now) × (ln < 65536) }
+    ensures { result ≡ attribute_information_block image.now flag ln }
 {
-    let high = ln / 65536;
-    let mid = ln / 256 % 256;
-    let low = ln % 256;
-    let sum = numbers::sum(image, read::WRITE_FLAG) as usize
-        + numbers::wide(image[read::RW_FLAG])
-        + numbers::wide(flag)
-        + high
-        + mid
-        + low;
-    let block = [
-        image[0],
-        image[1],
-        image[2],
-        image[3],
-        image[4],
-        image[5],
-        image[6],
-        image[7],
-        image[8],
-        flag,
-        image[read::RW_FLAG],
-        high as u8,
-        mid as u8,
-        low as u8,
-        (sum / 256) as u8,
-        (sum % 256) as u8,
-    ];
-    out[..read::BLOCK_SIZE].copy_from_slice(&block);
+    let (blocks, _) = image.as_chunks::<BLOCK_SIZE>();
+    let mut block = blocks[0];
+    block[read::WRITE_FLAG] = flag;
+    let [_, high, mid, low] = (ln as u32).to_be_bytes();
+    block[LN..read::CHECKSUM].copy_from_slice(&[high, mid, low]);
+    let checksum = read::sum(&block[..read::CHECKSUM]).to_be_bytes();
+    block[read::CHECKSUM..].copy_from_slice(&checksum);
+    block
 }
 
-// ---- the commands
-
-// The command that writes block 0 with this WriteFlag and this Ln.
-fn put_attribute_command(image: &[u8], idm: [u8; 8], flag: u8, ln: usize, out: &mut [u8])
-    requires { (16 ≤ length image.now) × (ln < 65536) × (31 ≤ length out.old) }
-    ensures { out.new ≡ attribute_command idm image.now flag ln ++ drop 31 out.old }
-{
-    put_opening(idm, 1, out);
-    put_block_list(&[0u8], &mut out[commands::FRONT..]);
-    put_attribute_information_block(image, flag, ln, &mut out[ATTRIBUTE_DATA..]);
-}
-
-// The command that writes these blocks, which are few enough for one command.
-fn put_command(message: &[u8], idm: [u8; 8], blocks: &[u8], out: &mut [u8])
-    requires { Chosen message.now blocks.now × (0 < length blocks.now) × (length blocks.now ≤ 8) × (13 + 18 * length blocks.now ≤ length out.old) }
-    ensures { out.new ≡ message_command idm message.now blocks.now ++ drop (13 + 18 * length blocks.now) out.old }
-{
-    let count = blocks.len();
-    let at = commands::FRONT + block_list::ELEMENT * count;
-    put_opening(idm, count, out);
-    put_block_list(blocks, &mut out[commands::FRONT..]);
-    blocks::put_blocks(message, blocks, &mut out[at..]);
-}
-
-// The `turns` commands that write the blocks, `w` to a command.
-fn put_commands(message: &[u8], idm: [u8; 8], w: usize, turns: usize, blocks: &[u8], out: &mut [u8])
-    requires { Chosen message.now blocks.now × Dealt (length blocks.now) w turns × (13 * turns + 18 * length blocks.now ≤ length out.old) }
-    ensures { out.new ≡ message_commands idm message.now w blocks.now turns ++ drop (13 * turns + 18 * length blocks.now) out.old }
-{
-    let mut at = 0usize;
-    let mut skip = 0usize;
-    let mut t = 0usize;
-    while t < turns {
-        let count = numbers::smaller(w, blocks.len() - skip);
-        put_command(message, idm, &blocks[skip..skip + count], &mut out[at..]);
-        at += commands::FRONT + commands::PER_BLOCK * count;
-        skip += w;
-        t += 1;
+impl WriteList<'_> {
+    // How many commands the list has.
+    pub fn count(&self) -> usize
+        ensures { result ≡ cond self.now.information.busy 0 1 + self.now.turns + 1 }
+    {
+        usize::from(!self.information.busy) + self.turns + 1
     }
-}
 
-// ---- the list
-
-// Lays the command that shuts block 0, unless that is shut already, and returns where the next command goes.
-fn put_shut(image: &[u8], idm: [u8; 8], ln: usize, already: bool, out: &mut [u8]) -> usize
-    requires { (16 ≤ length image.now) × (ln < 65536) × (shut_length already ≤ length out.old) }
-    ensures next { result ≡ shut_length already }
-    ensures puts { out.new ≡ shut_command idm image.now ln already ++ drop (shut_length already) out.old }
-{
-    if already {
-        return 0;
+    // How many bytes the list has.
+    pub fn length(&self) -> usize
+        ensures { result ≡ laid_length self.now }
+    {
+        let around = ATTRIBUTE_COMMAND * (usize::from(!self.information.busy) + 1);
+        around + FRONT * self.turns + PER_BLOCK * self.blocks.len()
     }
-    put_attribute_command(image, idm, 0x0F, ln, out);
-    ATTRIBUTE_COMMAND
-}
 
-// Lays the list: block 0 with WriteFlag 0Fh and Ln as it was, unless it is shut `already`; the blocks; block 0 with
-// WriteFlag 00h and the new Ln.
-pub fn put_list(
-    image: &[u8],
-    message: &[u8],
-    idm: [u8; 8],
-    ln: usize,
-    already: bool,
-    w: usize,
-    turns: usize,
-    blocks: &[u8],
-    list: &mut [u8],
-)
-    requires { Listing image.now message.now ln already w turns blocks.now (length list.old) }
-    ensures { list.new ≡ list_as idm image.now message.now ln already w turns blocks.now ++ drop (list_length already turns (length blocks.now)) list.old }
-{
-    let n = message.len();
-    let middle = commands::FRONT * turns + commands::PER_BLOCK * blocks.len();
-    let at = put_shut(image, idm, ln, already, list);
-    put_commands(message, idm, w, turns, blocks, &mut list[at..]);
-    put_attribute_command(image, idm, 0x00, n, &mut list[at + middle..]);
+    // ---- the commands
+
+    // The command that writes block 0 with this WriteFlag and this Ln.
+    fn put_attribute_command(&self, flag: u8, ln: usize, out: &mut [u8])
+        requires { (ln < 65536) × (31 ≤ length out.old) }
+        ensures { out.new ≡ attribute_command self.now.idm self.now.image.now flag ln ++ drop 31 out.old }
+    {
+        put_opening(self.idm, 1, out);
+        put_block_list(&[0], &mut out[FRONT..]);
+        out[ATTRIBUTE_DATA..ATTRIBUTE_DATA + BLOCK_SIZE].copy_from_slice(
+            &attribute_information_block(self.image, flag, ln),
+        );
+    }
+
+    // The command that writes these blocks, which are few enough for one command.
+    fn put_command(&self, blocks: &[u8], out: &mut [u8])
+        requires { Chosen self.now.message.now blocks.now × (0 < length blocks.now) × (length blocks.now ≤ 8) × (13 + 18 * length blocks.now ≤ length out.old) }
+        ensures { out.new ≡ message_command self.now.idm self.now.message.now blocks.now ++ drop (13 + 18 * length blocks.now) out.old }
+    {
+        put_opening(self.idm, blocks.len(), out);
+        put_block_list(blocks, &mut out[FRONT..]);
+        blocks::put_blocks(
+            self.message,
+            blocks,
+            &mut out[FRONT + ELEMENT * blocks.len()..],
+        );
+    }
+
+    // The commands that write the blocks; returns where the next command goes.
+    fn put_commands(&self, out: &mut [u8]) -> usize
+        requires { 13 * self.now.turns + 18 * length self.now.blocks.now ≤ length out.old }
+        ensures next { result ≡ 13 * self.now.turns + 18 * length self.now.blocks.now }
+        ensures puts { out.new ≡ message_commands self.now.idm self.now.message.now self.now.width self.now.blocks.now self.now.turns ++ drop (13 * self.now.turns + 18 * length self.now.blocks.now) out.old }
+    {
+        let mut at = 0;
+        for blocks in self.blocks.chunks(self.width) {
+            self.put_command(blocks, &mut out[at..]);
+            at += FRONT + PER_BLOCK * blocks.len();
+        }
+        at
+    }
+
+    // ---- the list
+
+    // Lays the command that shuts block 0, unless that is shut already, and returns where the next command goes.
+    fn put_shut(&self, out: &mut [u8]) -> usize
+        requires { shut_length self.now.information.busy ≤ length out.old }
+        ensures next { result ≡ shut_length self.now.information.busy }
+        ensures puts { out.new ≡ shut_command self.now.idm self.now.image.now self.now.information.ln self.now.information.busy ++ drop (shut_length self.now.information.busy) out.old }
+    {
+        if self.information.busy {
+            return 0;
+        }
+        self.put_attribute_command(0x0F, self.information.ln, out);
+        ATTRIBUTE_COMMAND
+    }
+
+    // Lays the list: block 0 with WriteFlag 0Fh and Ln as it was, unless it is shut already; the blocks; block 0 with WriteFlag 00h
+    // and the new Ln.
+    pub fn put_list(&self, list: &mut [u8])
+        requires { laid_length self.now ≤ length list.old }
+        ensures { list.new ≡ laid self.now ++ drop (laid_length self.now) list.old }
+    {
+        let shut = self.put_shut(list);
+        let opened = shut + self.put_commands(&mut list[shut..]);
+        self.put_attribute_command(0x00, self.message.len(), &mut list[opened..]);
+    }
 }

@@ -5,10 +5,10 @@ use mathlib.Core.Bool.{Bool, true, false}
 use mathlib.Core.List.{List}
 use Prim.Native.Nat.{ℕ, ◌+◌, ◌*◌, ◌/◌, ◌<◌, ◌≤◌}
 use native.Mathlib.Omega.{arith}
-use borrow.Author.Tests.{lt-ltb, le-ltb}
+use borrow.Author.Tests.{lt-ltb}
 use lib.ListN.{length}
 use Rattle.tag.specs.Bytes.{byte}
-use Rattle.tag.specs.Refusals.{positioned, malformed_command}
+use Rattle.tag.specs.Refusals.{malformed_command}
 use Rattle.tag.specs.Checks.{fine, fault, first_of}
 use Rattle.tag.specs.Stores.{Store, malformed, stores, formed, tag_after}
 use Rattle.tag.specs.Views.Judging.{Applied}
@@ -24,10 +24,7 @@ use Rattle.type3.proofs.Message.{unread, passes-reads}
 -- ---- which commands are taken
 
 module _ (n : ℕ) (idm : List ℕ) (nbw nmaxb : ℕ) (bytes : List ℕ) where
-  pub decode-past : n / 16 ≤ nmaxb → decode_for n idm nbw nmaxb bytes ≡ undecoded (positioned malformed_command 0)
-  decode-past l = rw (le-ltb nmaxb (n / 16) l)
-
-  pub decode-inside : nmaxb < n / 16 → decode_for n idm nbw nmaxb bytes ≡ decode idm nbw nmaxb bytes
+  decode-inside : nmaxb < n / 16 → decode_for n idm nbw nmaxb bytes ≡ decode idm nbw nmaxb bytes
   decode-inside l = rw (lt-ltb nmaxb (n / 16) l)
 
   -- with Nbw and Nmaxb of a tag whose blocks 0 to Nmaxb lie in the image

@@ -1,21 +1,20 @@
 -- The code's attribute information and answers as the definitions have them, and what the code knows about a tag.
 -- Assumes nothing.
-use Rattle.std.specs.Prelude.{◌≡◌, false, cond, List, ℕ, ◌+◌, ◌*◌, ◌%◌, ◌≤◌, eqb, length}
-use Rattle.tag.specs.declared.Report.{Report}
+use Rattle.std.specs.Prelude.{◌≡◌, false, cond, List, ℕ, ◌+◌, ◌*◌, ◌%◌, ◌≤◌, eqb, length, Result, Ok, Err}
+use Rattle.tag.specs.declared.refusals.Refusal.{Refusal}
 use Rattle.tag.specs.Bytes.{byte}
 use Rattle.tag.specs.Checks.{Checked, fine, fault, first_of}
 use Rattle.tag.specs.Reading.{message, empty, being-written, Answer, answer}
-use Rattle.tag.specs.Answers.{content_of}
+use Rattle.tag.specs.Answers.{number_of}
 use Rattle.type3.specs.declared.read.AttributeInformation.{AttributeInformation}
-use Rattle.type3.specs.declared.read.Checked as code
-use Rattle.type3.specs.declared.read.Checked.TheVariants as checked
 use Rattle.type3.specs.AttributeInformation.{nmaxb_of, attribute_information, attribute_checks, may_write}
 
 -- ---- the attribute information
 
-abbrev pub checked_as : code.Checked → Checked
-checked_as (checked.Refused r) = fault r
-checked_as (checked.Fine a) = fine
+-- the answer of tests
+abbrev pub checked_as : {A : Type 0} → Result A Refusal → Checked
+checked_as (Ok a) = fine
+checked_as (Err e) = fault (number_of e)
 
 -- a whole number of blocks, 16 to 4,096 bytes
 pub record WholeBlocks (i : List ℕ) : Type 0 where
@@ -43,14 +42,7 @@ pub record Readable (i : List ℕ) (a : AttributeInformation) : Type 0 where
   pub passes : first_of (attribute_checks (length i) (attribute_information i)) ≡ fine
   pub known : Attests i a
 
-abbrev pub Known : List ℕ → code.Checked → Type 0
-Known i (checked.Refused r) = Unit {0}
-Known i (checked.Fine a) = Attests i a
-
 -- ---- the answer of reading
-
-abbrev pub report_as : Report → Answer
-report_as p = answer (content_of p.content) p.address.0 p.length p.interrupted p.writable p.capacity
 
 -- what the attribute information says of a message
 abbrev pub answer_for : AttributeInformation → Answer

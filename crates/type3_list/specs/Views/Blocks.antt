@@ -32,9 +32,3 @@ pub record Chosen (m bs : List ℕ) : Type 0 where
   pub from_one : (j : ℕ) → j < length bs → 0 < byte bs j
   pub inside : (j : ℕ) → j < length bs → byte bs j ≤ blocks_for (length m)
   pub rising : (j : ℕ) → j + 1 < length bs → byte bs j < byte bs (j + 1)
-
--- the first n are whole, and they are all, or all but the last
-pub record Whole (m bs : List ℕ) (n : ℕ) : Type 0 where
-  pub most : n ≤ length bs
-  pub but_one : length bs ≤ n + 1
-  pub whole : (j : ℕ) → j < n → 16 * byte bs j ≤ length m

@@ -5,7 +5,7 @@ use Rattle.tag.specs.Bytes.{byte}
 use Rattle.type3.specs.AttributeInformation.{steady_sum}
 use Rattle.type3.specs.Update.{ln_sum}
 use Rattle.type3.specs.Codec.{command_bytes}
-use Rattle.type3_list.specs.Views.Blocks.{blocks_bytes, Chosen}
+use Rattle.type3_list.specs.Views.Blocks.{blocks_bytes}
 
 -- block 0 with this WriteFlag, this Ln and this checksum, all else as it is
 abbrev pub attribute_information_block_by : List ℕ → ℕ → ℕ → ℕ → List ℕ
@@ -67,11 +67,3 @@ pub record Dealt (k w t : ℕ) : Type 0 where
   pub enough : k ≤ w * t
   pub none_idle : w * t < k + w
   pub most : t ≤ k
-
--- the list can be laid in a buffer with this much room
-pub record Listing (i m : List ℕ) (ln : ℕ) (is_shut : Bool) (w t : ℕ) (bs : List ℕ) (room : ℕ) : Type 0 where
-  pub block : 16 ≤ length i
-  pub small : ln < 65536
-  pub chosen : Chosen m bs
-  pub dealt : Dealt (length bs) w t
-  pub fits : list_length is_shut t (length bs) ≤ room
