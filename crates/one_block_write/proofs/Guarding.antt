@@ -1,21 +1,19 @@
 -- The whole list, the guard block's two commands and those between them: its length, and what is answered for it.
 -- Assumes nothing.
-use mathlib.Core.Path.{◌≡◌, refl, sym, ap, ◌∙◌}
-use mathlib.Core.Bool.{Bool, true, false, cond}
+use mathlib.Core.Path.{◌≡◌, refl, ap, ◌∙◌}
+use mathlib.Core.Bool.{Bool, true, false, not, cond}
 use mathlib.Core.List.{List, ◌++◌}
 use Prim.Native.Nat.{ℕ, ◌+◌, ◌*◌, ◌/◌, ◌<◌, ◌≤◌}
 use native.Mathlib.Omega.{arith}
 use borrow.Author.Tests.{le-leb, lt-leb}
-use lib.ListN.{length, take, length-append}
-use lib.Seq.{length-take-le}
+use mir.Val.{bool_byte}
+use lib.ListN.{length, length-append}
 use Rattle.tag.specs.Bytes.{byte}
 use Rattle.tag.specs.Plan.{between_by}
-use Rattle.tag.specs.Views.Picked.{picked}
 use Rattle.tag.specs.TagType.{refused_output, output}
-use Rattle.tag.proofs.Logic.{one_at_most}
 use Rattle.tag.proofs.Picks.{picked-in}
-use Rattle.one_block_write.specs.Views.Listing.{command_length, block_bytes, blocks_bytes, shut_command, shut_length, chosen, guarded_bytes, guarded_output, Listed}
-use Rattle.one_block_write.proofs.Laying.{product-short, block_inside, length-command, length-block, length-blocks}
+use Rattle.one_block_write.specs.Views.Listing.{command_length, block_bytes, blocks_bytes, shut_command, shut_length, chosen, guarded_bytes, guarded_output, BlocksAsked, Listed}
+use Rattle.one_block_write.proofs.Laying.{block_inside, length-command, length-block, length-blocks}
 
 -- the command that shuts the guard block, if it stays, is one command long
 pub shut-step : (front : List ℕ) (z : ℕ) (is_shut : Bool) → shut_length front z is_shut ≡ command_length front z * cond is_shut 0 1
@@ -26,50 +24,24 @@ pub length-shut : (front : List ℕ) (g : ℕ) (shut : List ℕ) (is_shut : Bool
 length-shut front g shut true = refl
 length-shut front g shut false = length-command front g shut
 
+-- the flag as a number of commands
+pub shut-count : (is_shut : Bool) → bool_byte (not is_shut) ≡ cond is_shut 0 1
+shut-count true = refl
+shut-count false = refl
+
 module _ (front : List ℕ) (z : ℕ) (i new : List ℕ) (g : ℕ) (shut : List ℕ) (h : Listed front z i new g shut) where
   pub guard-inside : z * g + z ≤ length new
   guard-inside = block_inside z g (length new / z) (length new) h.inside (omega (arith, h.whole))
 
   -- the blocks between lie in the image
-  pub chosen-inside : (j : ℕ) → j < length (chosen z i new g) → z * byte (chosen z i new g) j + z ≤ length new
-  chosen-inside j l =
-      block_inside z (byte (chosen z i new g) j) (length new / z) (length new)
-      (omega (arith, (picked-in (between_by z g i new) (length new / z) 0 j l).1)) (omega (arith, h.whole))
+  pub chosen-below : BlocksAsked z new (chosen z i new g)
+  chosen-below j l = omega (arith, (picked-in (between_by z g i new) (length new / z) 0 j l).1)
+
+  chosen-inside : (j : ℕ) → j < length (chosen z i new g) → z * byte (chosen z i new g) j + z ≤ length new
+  chosen-inside j l = block_inside z (byte (chosen z i new g) j) (length new / z) (length new) (chosen-below j l) (omega (arith, h.whole))
 
   pub length-middle : length (blocks_bytes front z new (chosen z i new g)) ≡ command_length front z * length (chosen z i new g)
   length-middle = length-blocks front z new (chosen z i new g) chosen-inside
-
-  -- as the code has them: n numbers at the front of an array, and u commands that shut the guard block
-  pub record Counted (is_shut : Bool) (blocks : List ℕ) (n u : ℕ) : Type 0 where
-    pub are : take n blocks ≡ chosen z i new g
-    pub many : length (chosen z i new g) ≡ n
-    pub few : n ≤ 256
-    pub small : u + n + 1 ≤ 258
-    -- the length that the code tests
-    pub whole_length : command_length front z * (u + n + 1) ≡ shut_length front z is_shut + command_length front z * n + command_length front z
-    pub whole-short : command_length front z * (u + n + 1) ≤ 66048
-    pub total : u + n + 1 ≡ cond is_shut 0 1 + length (chosen z i new g) + 1
-
-  pub counted : (is_shut : Bool) (end n u : ℕ) (blocks : List ℕ) → end ≡ length new / z → length blocks ≡ 256 → n ≤ end
-      → take n blocks ≡ picked (between_by z g i new) 0 end → u ≡ cond is_shut 0 1 → Counted is_shut blocks n u
-  counted is_shut end n u blocks all size few which e = record {
-    are = are;
-    many = many;
-    few = omega (arith, h.few);
-    small = small;
-    whole_length = omega (arith, shut-step front z is_shut, ap (λ k. command_length front z * k) e);
-    whole-short = product-short (command_length front z) (u + n + 1) h.short small;
-    total = omega (arith, many);
-  }
-    where
-      are : take n blocks ≡ chosen z i new g
-      are = which ∙ ap (picked (between_by z g i new) 0) all
-
-      many : length (chosen z i new g) ≡ n
-      many = sym (ap length are) ∙ length-take-le n blocks (omega (arith, h.few))
-
-      small : u + n + 1 ≤ 258
-      small = omega (arith, h.few, (one_at_most is_shut).1)
 
   module _ (is_shut : Bool) where
     length-guarded : length (guarded_bytes front z new (chosen z i new g) g shut is_shut) ≡ command_length front z * (cond is_shut 0 1 + length (chosen z i new g) + 1)
@@ -96,7 +68,11 @@ module _ (front : List ℕ) (z : ℕ) (i new : List ℕ) (g : ℕ) (shut : List 
         ≡ output (cond is_shut 0 1 + length (chosen z i new g) + 1) (guarded_bytes front z new (chosen z i new g) g shut is_shut)
     guarded-fits room l = rw (le-leb (length (guarded_bytes front z new (chosen z i new g) g shut is_shut)) room (omega (arith, length-guarded)))
 
-    -- where the list ends
+    -- the length that the code tests, and where the list ends
+    pub whole_length : command_length front z * (cond is_shut 0 1 + length (chosen z i new g) + 1)
+        ≡ shut_length front z is_shut + command_length front z * length (chosen z i new g) + command_length front z
+    whole_length = omega (arith, shut-step front z is_shut)
+
     pub guarded-end : shut_length front z is_shut + command_length front z * length (chosen z i new g) + command_length front z
         ≡ length (guarded_bytes front z new (chosen z i new g) g shut is_shut)
     guarded-end = omega (arith, length-guarded, shut-step front z is_shut)

@@ -1,4 +1,4 @@
--- The bytes of write commands: one command as the code lays it, the command of a block, and the commands of several blocks.
+-- The bytes of write commands: one command, the command of a block, and the commands of several blocks.
 -- Assumes nothing.
 use mathlib.Core.Path.{◌≡◌, refl, sym, ap, ◌∙◌}
 use mathlib.Core.List.{List, [], ◌∷◌, ◌++◌, append-nil, append_assoc}
@@ -7,31 +7,17 @@ use native.Mathlib.Nat.{mul-le-mul_left, mul-div_cancel_left}
 use native.Mathlib.Numerals.{add-one}
 use native.Mathlib.Omega.{arith}
 use borrow.Rule.Slice.PartMut.{put_mid}
-use lib.ListN.{length, get_or, set, take, drop, length-append, length-take, length-drop, drop_of_length-le}
-use lib.Seq.{drop-cons, drop_at, set_at, length-take-le, take-suc, get_or-take}
+use lib.ListN.{length, take, drop, length-append}
+use lib.Seq.{length-take-le, take-suc, get_or-take}
 use Rattle.tag.specs.Bytes.{byte}
 use Rattle.tag.specs.Plan.{block_of}
-use Rattle.tag.proofs.Runs.{bytes_of}
 use Rattle.tag.proofs.Blocks.{block-length}
-use Rattle.tag.proofs.Filling.{lent, lay-part}
+use Rattle.tag.proofs.Filling.{lay-part}
 use Rattle.one_block_write.specs.Views.Listing.{command_length, command_bytes, block_bytes, blocks_bytes, store_bytes}
-
--- a product of two small numbers is small
-pub product-short : (a b : ℕ) → a ≤ 256 → b ≤ 258 → a * b ≤ 66048
-product-short a b h l = let m : a * b ≤ a * 258 = mul-le-mul_left a l in omega arith
 
 -- a block below n of n blocks
 pub block_inside : (z b n m : ℕ) → b < n → z * n ≤ m → z * b + z ≤ m
 block_inside z b n m l h = let k : z * suc b ≤ z * n = mul-le-mul_left z l in omega arith
-
--- a command of six bytes, laid as one array
-pub six-laid : (front held out laid : List ℕ) (b : ℕ) → length front ≡ 1 → length held ≡ 4
-    → laid ≡ (byte front 0 ∷ b ∷ byte held 0 ∷ byte held 1 ∷ byte held 2 ∷ byte held 3 ∷ []) ++ drop 6 out
-    → laid ≡ command_bytes front b held ++ drop 6 out
-six-laid front held out laid b e f p =
-    p
-    ∙ ap (λ xs. (xs ++ b ∷ byte held 0 ∷ byte held 1 ∷ byte held 2 ∷ byte held 3 ∷ []) ++ drop 6 out) (bytes_of front 1 e)
-    ∙ ap (λ ys. command_bytes front b ys ++ drop 6 out) (bytes_of held 4 f)
 
 module _ (front : List ℕ) where
   -- ---- one command
@@ -39,47 +25,7 @@ module _ (front : List ℕ) where
   pub length-command : (b : ℕ) (bytes : List ℕ) → length (command_bytes front b bytes) ≡ command_length front (length bytes)
   length-command b bytes = length-append front (b ∷ bytes) ∙ omega arith
 
-  -- laid in three steps: the bytes, in a borrowed part; the front; and the block's number between them
-  pub command-laid : (out bytes : List ℕ) (b : ℕ) → command_length front (length bytes) ≤ length out
-      → set (front ++ drop (length front) (put_mid (length front + 1) (length front + 1 + length bytes - (length front + 1)) out bytes)) (length front) b
-      ≡ command_bytes front b bytes ++ drop (command_length front (length bytes)) out
-  command-laid out bytes b l =
-      let n = length front in
-      let a = length front + 1 in
-      let k = length bytes in
-      let x = put_mid a (a + k - a) out bytes in
-      let rest = drop (a + k) out in
-      let none : length (take (a + k - a) (drop a out)) ≤ k = rw (length-take, length-drop) (omega arith) in
-      let first : length (take a out) ≡ a = length-take-le a out (omega arith) in
-      let is : x ≡ take a out ++ (bytes ++ rest)
-      = lent out bytes bytes a (a + k) k (omega arith) (omega arith)
-      (sym (ap (λ ys. bytes ++ ys) (drop_of_length-le (take (a + k - a) (drop a out)) none) ∙ append-nil bytes)) in
-      let long : n < length x = omega (arith, ap length is, length-append (take a out) (bytes ++ rest), first) in
-      let tail : drop (suc n) x ≡ bytes ++ rest
-      = ap (λ d. drop d x) (sym (add-one n)) ∙ ap (drop a) is ∙ drop_at (take a out) (bytes ++ rest) a first in
-      ap (λ ys. set (front ++ ys) n b) (drop-cons x n 0 long)
-      ∙ set_at front (get_or x n 0) (drop (suc n) x) b n refl
-      ∙ ap (λ ys. front ++ b ∷ ys) tail
-      ∙ sym (append_assoc front (b ∷ bytes) rest)
-
-  pub command-kept : (out bytes : List ℕ) (b : ℕ) → command_length front (length bytes) ≤ length out
-      → length (command_bytes front b bytes ++ drop (command_length front (length bytes)) out) ≡ length out
-  command-kept out bytes b l =
-      length-append (command_bytes front b bytes) (drop (command_length front (length bytes)) out)
-      ∙ omega (arith, length-command b bytes, length-drop (command_length front (length bytes)) out)
-
   module _ (z : ℕ) where
-    -- the bytes passed are the image's, as a part that begins at a
-    pub block-laid : (out laid i : List ℕ) (b a : ℕ) → a ≡ z * b → z * b + z ≤ length i
-        → laid ≡ command_bytes front b (take (a + z - a) (drop a i)) ++ drop (command_length front (length (take (a + z - a) (drop a i)))) out
-        → laid ≡ block_bytes front z i b ++ drop (command_length front z) out
-    block-laid out laid i b a e h p =
-        let d : a + z - a ≡ z = omega arith in
-        p
-        ∙ ap (λ k. command_bytes front b (take k (drop a i)) ++ drop (command_length front (length (take k (drop a i)))) out) d
-        ∙ ap (λ x. command_bytes front b (take z (drop x i)) ++ drop (command_length front (length (take z (drop x i)))) out) e
-        ∙ ap (λ k. block_bytes front z i b ++ drop (command_length front k) out) (block-length z i b h)
-
     pub length-block : (i : List ℕ) (b : ℕ) → z * b + z ≤ length i → length (block_bytes front z i b) ≡ command_length front z
     length-block i b h = length-command b (take z (drop (z * b) i)) ∙ ap (command_length front) (block-length z i b h)
 

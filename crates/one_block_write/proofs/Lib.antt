@@ -1,5 +1,5 @@
 -- Laws of the writer of lists.
-pub mod Words
 pub mod Laying
 pub mod Guarding
 pub mod Plans
+pub mod Picking

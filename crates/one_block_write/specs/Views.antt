@@ -1,3 +1,2 @@
 -- Views of the writer of lists.
-pub mod Between
 pub mod Listing

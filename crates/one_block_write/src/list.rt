@@ -1,108 +1,67 @@
 // The list of write commands: the guard block shut, unless it is shut already; then the other blocks that change, rising; then the
 // guard block with all its new bytes.
-//
-// A type of tag passes in what is particular to it. A command is the bytes of `front`, the block's number, and the `size` bytes of
-// the block.
 
-ghost use Rattle.std.specs.Prelude.{◌≡◌, ◌++◌, ◌+◌, ◌*◌, ◌<◌, ◌≤◌, length, drop};
+ghost use Rattle.std.specs.Prelude.{◌≡◌, ◌++◌, ◌*◌, ◌<◌, ◌≤◌, ◌/◌, length, drop};
 ghost use Rattle.tag.specs.PublicContracts.{PutOut};
-ghost use Rattle.one_block_write.specs.Views.Listing.{command_length, command_bytes, block_bytes, blocks_bytes, shut_command, shut_length, guarded_output, BlocksAsked, Listed};
+ghost use Rattle.one_block_write.specs.Views.Listing.{command_length, block_bytes, blocks_bytes, shut_command, shut_length, guarded_output, BlocksAsked};
 
-use crate::between;
-use tag::{Address, Block, CountAnswer, numbers, refusals};
+use crate::{BlockUpdate, between};
+use tag::{Block, Refusal};
 
-// The most blocks that a list writes: a byte names each of them.
-const MOST_BLOCKS: usize = 256;
-
-// Writes a command of six bytes, with one before the block's number and four behind it.
-fn put_six(front: &[u8], block: Block, held: &[u8], out: &mut [u8])
-    requires { (block.0 < 256) × (length front.now ≡ 1) × (length held.now ≡ 4) × (6 ≤ length out.old) }
-    ensures { out.new ≡ command_bytes front.now block.0 held.now ++ drop 6 out.old }
+// Writes the command of a block to the front of `out`, with the block's new bytes.
+fn put_block<U: BlockUpdate>(update: &U, block: Block, out: &mut [u8])
+    requires { (block.0 < length (U.new_image update.now) / U.size update.now) × (command_length (U.front update.now) (U.size update.now) ≤ length out.old) }
+    ensures { out.new ≡ block_bytes (U.front update.now) (U.size update.now) (U.new_image update.now) block.0 ++ drop (command_length (U.front update.now) (U.size update.now)) out.old }
 {
-    let six = [front[0], block.0 as u8, held[0], held[1], held[2], held[3]];
-    out[..6].copy_from_slice(&six);
+    let size = update.block_size();
+    let at = block.address(size).0;
+    let held = &update.new_image()[at..at + size];
+    update.put_command(block, held, &mut out[..update.command_length()]);
 }
 
-// Writes a command to the front of `out`: the block, and the bytes that it is to hold. Type 2's commands are written without a
-// loop: with several callers the compiler knows neither length, and two loops for six bytes took a third more time.
-fn put_command(front: &[u8], block: Block, held: &[u8], out: &mut [u8])
-    requires { (block.0 < 256) × (command_length front.now (length held.now) ≤ length out.old) }
-    ensures { out.new ≡ command_bytes front.now block.0 held.now ++ drop (command_length front.now (length held.now)) out.old }
+// Writes the commands of the blocks, in order, to the front of `out`, with their new bytes.
+fn put_blocks<U: BlockUpdate>(update: &U, blocks: &[u8], out: &mut [u8])
+    requires { BlocksAsked (U.size update.now) (U.new_image update.now) blocks.now × (command_length (U.front update.now) (U.size update.now) * length blocks.now ≤ length out.old) }
+    ensures { out.new ≡ blocks_bytes (U.front update.now) (U.size update.now) (U.new_image update.now) blocks.now ++ drop (command_length (U.front update.now) (U.size update.now) * length blocks.now) out.old }
 {
-    if front.len() == 1 {
-        if held.len() == 4 {
-            put_six(front, block, held, out);
-            return;
-        }
-    }
-    let at = front.len();
-    out[at + 1..at + 1 + held.len()].copy_from_slice(held);
-    out[..at].copy_from_slice(front);
-    out[at] = block.0 as u8;
-}
-
-// Writes the command of a block, with the bytes that the image has there.
-fn put_block(front: &[u8], size: usize, image: &[u8], block: Block, out: &mut [u8])
-    requires { (block.0 < 256) × (size ≤ 256) × (size * block.0 + size ≤ length image.now) × (command_length front.now size ≤ length out.old) }
-    ensures { out.new ≡ block_bytes front.now size image.now block.0 ++ drop (command_length front.now size) out.old }
-{
-    let first = block.address(size);
-    let at = first.0;
-    put_command(front, block, &image[at..at + size], out);
-}
-
-// Writes the commands of the blocks, in order, to the front of `out`, with the bytes that the image has there.
-fn put_blocks(front: &[u8], size: usize, image: &[u8], blocks: &[u8], out: &mut [u8])
-    requires { BlocksAsked front.now size image.now blocks.now × (command_length front.now size * length blocks.now ≤ length out.old) }
-    ensures { out.new ≡ blocks_bytes front.now size image.now blocks.now ++ drop (command_length front.now size * length blocks.now) out.old }
-{
-    let step = front.len() + 1 + size;
-    let mut j = 0usize;
-    while j < blocks.len() {
-        let block = Block(numbers::wide(blocks[j]));
-        put_block(front, size, image, block, &mut out[step * j..]);
-        j += 1;
+    let mut at = 0;
+    for block in blocks {
+        put_block(update, Block(usize::from(*block)), &mut out[at..]);
+        at += update.command_length();
     }
 }
 
 // Writes the command that shuts the guard block, unless that is shut already, and returns where the next command goes.
-fn put_shut(front: &[u8], guard: Block, shut: &[u8], already: bool, out: &mut [u8]) -> usize
-    requires { (guard.0 < 256) × (command_length front.now (length shut.now) ≤ 256) × (shut_length front.now (length shut.now) already ≤ length out.old) }
-    ensures next { result ≡ shut_length front.now (length shut.now) already }
-    ensures puts { out.new ≡ shut_command front.now guard.0 shut.now already ++ drop (shut_length front.now (length shut.now) already) out.old }
+fn put_shut<U: BlockUpdate>(update: &U, out: &mut [u8]) -> usize
+    requires { shut_length (U.front update.now) (U.size update.now) (U.is_shut update.now) ≤ length out.old }
+    ensures next { result ≡ shut_length (U.front update.now) (U.size update.now) (U.is_shut update.now) }
+    ensures puts { out.new ≡ shut_command (U.front update.now) (U.guard update.now) (U.shut update.now) (U.is_shut update.now) ++ drop (shut_length (U.front update.now) (U.size update.now) (U.is_shut update.now)) out.old }
 {
-    if already {
+    if update.is_shut() {
         return 0;
     }
-    put_command(front, guard, shut, out);
-    front.len() + 1 + shut.len()
+    let length = update.command_length();
+    update.put_shut(&mut out[..length]);
+    length
 }
 
-// Writes the list that turns `image` into `new` to the front of `list`. The guard block is shut with the bytes of `shut`, unless
-// it is shut `already`; all else is stored from the new image. Refuses with 12 if the list is longer than its buffer.
-pub fn put_list(
-    front: &[u8],
-    size: usize,
-    image: &[u8],
-    new: &[u8],
-    guard: Block,
-    shut: &[u8],
-    already: bool,
-    list: &mut [u8],
-) -> CountAnswer
-    requires { Listed front.now size image.now new.now guard.0 shut.now }
-    ensures { PutOut (λ room. guarded_output room front.now size image.now new.now guard.0 shut.now already) list.old result list.new }
+// Writes the list that turns the tag into its new image to the front of `list`, and answers the number of commands. Refuses with 12 if
+// the list is longer than its buffer.
+pub fn put_list<U: BlockUpdate>(update: &U, list: &mut [u8]) -> Result<usize, Refusal>
+    ensures { PutOut (λ room. guarded_output room (U.front update.now) (U.size update.now) (U.image update.now) (U.new_image update.now) (U.guard update.now) (U.shut update.now) (U.is_shut update.now)) list.old result list.new }
 {
-    let mut blocks = [0u8; MOST_BLOCKS];
-    let end = Address(new.len()).block(size);
-    let between = between::blocks_to_write(size, image, new, guard, end.0, &mut blocks);
-    let count = numbers::one_unless(already) + between + 1;
-    let step = front.len() + 1 + size;
+    let between = between::blocks_to_write(update);
+    let count = usize::from(!update.is_shut()) + between.len() + 1;
+    let step = update.command_length();
     if list.len() < step * count {
-        return CountAnswer::Refused(refusals::SHORT_BUFFER);
+        return Err(Refusal::ShortBuffer);
     }
-    let at = put_shut(front, guard, shut, already, list);
-    put_blocks(front, size, new, &blocks[..between], &mut list[at..]);
-    put_block(front, size, new, guard, &mut list[at + step * between..]);
-    CountAnswer::Count(count)
+    let at = put_shut(update, list);
+    put_blocks(update, between.as_slice(), &mut list[at..]);
+    put_block(
+        update,
+        update.guard(),
+        &mut list[at + step * between.len()..],
+    );
+    Ok(count)
 }

@@ -2,5 +2,5 @@
 
 #![tactic(auto)]
 
-mod list;
+mod blocks;
 pub mod write;

@@ -1,4 +1,4 @@
--- What the code of Type 6's codec relies on: the bounds behind its tests, and the answers of encoding.
+-- What the code of Type 6's codec relies on: the bounds behind its tests. And the refusals of encoding.
 -- Assumes nothing.
 use mathlib.Core.Path.{◌≡◌, ap, ◌∙◌}
 use mathlib.Core.Bool.{true, false, and-false}
@@ -6,13 +6,13 @@ use mathlib.Core.List.{List}
 use Prim.Native.Nat.{ℕ, suc, ◌+◌, ◌*◌, ◌<◌, ◌≤◌}
 use native.Mathlib.Nat.{mul-le-mul_left}
 use native.Mathlib.Omega.{arith}
-use borrow.Author.Tests.{leb-true, ltb-true, le-leb, lt-leb}
+use borrow.Author.Tests.{leb-true, ltb-true, lt-leb}
 use lib.Dec.{leb, ltb}
 use lib.ListN.{length, take, drop, replicate, length-drop}
 use lib.Seq.{length-take-le, take-append_seam}
 use Rattle.tag.specs.Bytes.{byte, overwrite}
 use Rattle.tag.specs.Refusals.{malformed_command, short_buffer}
-use Rattle.tag.specs.TagType.{refused_output, output, fitted}
+use Rattle.tag.specs.TagType.{refused_output, fitted}
 use Rattle.tag.proofs.Logic.{and_l, and_r}
 use Rattle.type6.specs.Codec.{size_defined, nameable, command_bytes, encode, well_formed}
 use Rattle.type6.proofs.Codec.{formed, defined-bounds}
@@ -45,7 +45,7 @@ carried-front z bs l =
     let n : z ≡ length (drop 3 bs) = omega (arith, length-drop 3 bs) in
     ap (λ k. take k (overwrite (drop 3 bs) (replicate 32 0))) n ∙ take-append_seam (drop 3 bs) (drop (length (drop 3 bs)) (replicate 32 0))
 
--- ---- the answers of encoding
+-- ---- the refusals of encoding
 
 module _ (z blocks b : ℕ) (bytes : List ℕ) (room : ℕ) where
   pub encode-undefined : size_defined z ≡ false → encode z blocks b bytes room ≡ refused_output malformed_command
@@ -54,13 +54,6 @@ module _ (z blocks b : ℕ) (bytes : List ℕ) (room : ℕ) where
   pub encode-unnamed : nameable blocks b ≡ false → encode z blocks b bytes room ≡ refused_output malformed_command
   encode-unnamed e = rw (e, and-false (size_defined z))
 
-  pub encode-named : size_defined z ≡ true → nameable blocks b ≡ true
-      → encode z blocks b bytes room ≡ fitted room (3 + z) (command_bytes b (take z bytes))
-  encode-named d e = rw (d, e)
-
-module _ (z b : ℕ) (bytes : List ℕ) (room : ℕ) (l : z ≤ length bytes) where
-  pub fitted_short : room < 3 + z → fitted room (3 + z) (command_bytes b (take z bytes)) ≡ refused_output short_buffer
-  fitted_short h = rw (lt-leb (length (command_bytes b (take z bytes))) room (omega (arith, length-take-le z bytes l)))
-
-  pub fitted-written : 3 + z ≤ room → fitted room (3 + z) (command_bytes b (take z bytes)) ≡ output (3 + z) (command_bytes b (take z bytes))
-  fitted-written h = rw (le-leb (length (command_bytes b (take z bytes))) room (omega (arith, length-take-le z bytes l)))
+pub fitted_short : (z b : ℕ) (bytes : List ℕ) (room : ℕ) → z ≤ length bytes → room < 3 + z
+    → fitted room (3 + z) (command_bytes b (take z bytes)) ≡ refused_output short_buffer
+fitted_short z b bytes room l h = rw (lt-leb (length (command_bytes b (take z bytes))) room (omega (arith, length-take-le z bytes l)))

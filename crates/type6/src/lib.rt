@@ -13,7 +13,8 @@ pub mod space;
 use tag::Block;
 
 // A write command: the block, and its bytes at the front of the array. Only as many as a block has are used.
-#[derive(Clone, Copy)]
+// The array stays as C has it, and demand 2 (codec6 of demands/specs/Code2.antt) speaks of it.
+#[derive(Clone, Copy, Debug, PartialEq, Eq)]
 pub struct Command {
     pub block: Block,
     pub bytes: [u8; container::LARGEST_BLOCK],

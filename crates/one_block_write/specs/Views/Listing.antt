@@ -47,11 +47,9 @@ abbrev pub guarded_output : ℕ → List ℕ → ℕ → List ℕ → List ℕ �
 guarded_output room front z i new g shut is_shut =
     fitted room (cond is_shut 0 1 + length (chosen z i new g) + 1) (guarded_bytes front z new (chosen z i new g) g shut is_shut)
 
--- at most 256 blocks, all of them inside the image; and a short command
-pub record BlocksAsked (front : List ℕ) (z : ℕ) (i bs : List ℕ) : Type 0 where
-  pub short : command_length front z ≤ 256
-  pub few : length bs ≤ 256
-  pub inside : (j : ℕ) → j < length bs → z * byte bs j + z ≤ length i
+-- all the blocks lie in the image
+abbrev pub BlocksAsked : ℕ → List ℕ → List ℕ → Type 0
+BlocksAsked z i bs = (j : ℕ) → j < length bs → byte bs j < length i / z
 
 -- whole blocks, few enough to be named by a byte; and a short command
 pub record Listed (front : List ℕ) (z : ℕ) (i new : List ℕ) (g : ℕ) (shut : List ℕ) : Type 0 where

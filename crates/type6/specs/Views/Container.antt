@@ -1,28 +1,10 @@
 -- What the code knows of a tag's container, as the definitions have it.
 -- Assumes nothing.
 use Rattle.std.specs.Prelude.{◌≡◌, false, cond, List, ℕ, ◌+◌, ◌*◌, ◌<◌, ◌≤◌, eqb, length}
-use Rattle.tag.specs.Checks.{Checked, fine, fault, first_of}
+use Rattle.tag.specs.Checks.{fine, first_of}
 use Rattle.tag.specs.Reading.{message, empty, Answer, answer}
 use Rattle.type6.specs.declared.container.Container.{Container}
-use Rattle.type6.specs.declared.container.Found.{Found}
-use Rattle.type6.specs.declared.container.Found.TheVariants as found
-use Rattle.type6.specs.declared.container.Checked as code
-use Rattle.type6.specs.declared.container.Checked.TheVariants as checked
 use Rattle.type6.specs.Container.{tag_block_size, block_count, file_at, capacity, nlen, checks, may_write}
-
--- the answer of the tests
-abbrev pub found_as : Found → Checked
-found_as (found.Refused r) = fault r
-found_as (found.At f) = fine
-
--- a file that was found is at the address
-abbrev pub FoundAt : ℕ → Found → Type 0
-FoundAt a (found.Refused r) = Unit {0}
-FoundAt a (found.At f) = f.0 ≡ a
-
-abbrev pub checked_as : code.Checked → Checked
-checked_as (checked.Refused r) = fault r
-checked_as (checked.Fine c) = fine
 
 -- the code's container is what the image says
 pub record Says (i : List ℕ) (c : Container) : Type 0 where
@@ -49,10 +31,6 @@ pub record Attests (i : List ℕ) (c : Container) : Type 0 where
 pub record Readable (i : List ℕ) (c : Container) : Type 0 where
   pub passes : first_of (checks i) ≡ fine
   pub known : Attests i c
-
-abbrev pub Known : List ℕ → code.Checked → Type 0
-Known i (checked.Refused r) = Unit {0}
-Known i (checked.Fine c) = Attests i c
 
 -- what the container says of a message, and of the room for one
 abbrev pub answer_for : Container → Answer

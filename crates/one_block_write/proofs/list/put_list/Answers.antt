@@ -1,87 +1,83 @@
-use Rattle.std.proofs.Common.{rules, arith, ◌≡◌, ◌++◌, ◌+◌, ◌-◌, ◌*◌, ◌<◌, ◌≤◌, length, take, drop, sym, ap, subst, ◌∙◌}
-use Rattle.tag.specs.Bytes.{byte}
+use Rattle.std.proofs.Common.{rules, arith, ◌≡◌, ◌++◌, ◌+◌, ◌-◌, ◌*◌, ◌≤◌, cond, length, take, drop, sym, ap, ◌∙◌, not}
+use mir.Val.{bool_byte}
 use Rattle.tag.specs.TagType.{output_into}
 use Rattle.tag.specs.Answers.{gives, count_of}
 use Rattle.tag.proofs.Filling.{three-laid}
 use Rattle.one_block_write.specs.Views.Listing.{command_length, block_bytes, blocks_bytes, shut_command, shut_length, chosen, guarded_bytes}
-use Rattle.one_block_write.proofs.Guarding.{chosen-inside, length-shut, length-middle, counted, guarded-short, guarded-fits, guarded-end}
+use Rattle.one_block_write.proofs.Guarding.{shut-count, chosen-below, length-shut, length-middle, guarded-short, guarded-fits, whole_length, guarded-end}
 use Rattle.one_block_write.proofs.list.put_list.Goals as goal
 
 pub returns-then-list-step : goal.returns-then-list-step
-returns-then-list-step c =
-    let a = c.args in
-    let picks = c.blocks_to_write-between in
-    let k = counted a.front.now a.size a.image.now a.new.now a.guard.0 a.shut.now c.requires a.already
-    c.block-end.result.0 picks.result c.one_unless.result picks.new.blocks
-    c.block-end.ensures (search rules) picks.ensures.few picks.ensures.which c.one_unless.ensures in
-    let e = guarded-short a.front.now a.size a.image.now a.new.now a.guard.0 a.shut.now c.requires a.already (length a.list.now)
-    (omega (arith, ap (λ n. command_length a.front.now a.size * n) k.total, c.if-list-step.true)) in
-    (sym (ap count_of e), sym (ap (output_into a.list.now) e))
+returns-then-list-step g c =
+    let u = g.U.BlockUpdate in
+    let x = c.args.update.now in
+    let many = c.len.ensures.value ∙ ap length c.blocks_to_write-between.ensures in
+    let first = c.from.ensures ∙ ap (λ b. bool_byte (not b)) c.is_shut.ensures ∙ shut-count (u.is_shut x) in
+    let short = rw (c.command_length-step.ensures, many, first) at c.if-list-step.true in
+    let e = guarded-short (u.front x) (u.size x) (u.image x) (u.new_image x) (u.guard x) (u.shut x) (g.met.U.BlockUpdate.listed x) (u.is_shut x)
+    (length c.args.list.now) short in
+    (sym (ap count_of e), sym (ap (output_into c.args.list.now) e))
 
 pub put_blocks-requires : goal.put_blocks-requires
-put_blocks-requires c =
-    let a = c.args in
-    let p = c.requires in
-    let picks = c.blocks_to_write-between in
-    let k = counted a.front.now a.size a.image.now a.new.now a.guard.0 a.shut.now c.requires a.already
-    c.block-end.result.0 picks.result c.one_unless.result picks.new.blocks
-    c.block-end.ensures (search rules) picks.ensures.few picks.ensures.which c.one_unless.ensures in
-    let long : length (take picks.result picks.new.blocks) ≡ picks.result = ap length k.are ∙ k.many in
-    let place : c.put_shut-at.result ≡ shut_length a.front.now a.size a.already
-    = c.put_shut-at.ensures.next ∙ ap (λ z. shut_length a.front.now z a.already) p.shut_whole in
-    let room : c.put_shut-at.result + command_length a.front.now a.size * picks.result + command_length a.front.now a.size ≤ length a.list.now
-    = omega (arith, place, k.whole_length, c.if-list-step.false) in (
-      record {
-        short = p.short;
-        few = omega (arith, long, k.few);
-        inside = subst (λ bs. (j : _) → j < length bs → a.size * byte bs j + a.size ≤ length a.new.now) (sym k.are)
-            (chosen-inside a.front.now a.size a.image.now a.new.now a.guard.0 a.shut.now p);
-      },
-      rw long (search (rules, room)),
+put_blocks-requires g c =
+    let u = g.U.BlockUpdate in
+    let x = c.args.update.now in
+    let front = u.front x in
+    let z = u.size x in
+    let listed = g.met.U.BlockUpdate.listed x in
+    let s = c.put_shut-at in
+    let step = command_length front z in
+    let bs = chosen z (u.image x) (u.new_image x) (u.guard x) in
+    let first = c.from.ensures ∙ ap (λ b. bool_byte (not b)) c.is_shut.ensures ∙ shut-count (u.is_shut x) in
+    let many = c.len.ensures.value ∙ ap length c.blocks_to_write-between.ensures in
+    let room : step * (cond (u.is_shut x) 0 1 + length bs + 1) ≤ length c.args.list.now
+    = rw (c.command_length-step.ensures, many, first) at c.if-list-step.false in
+    let whole = whole_length front z (u.image x) (u.new_image x) (u.guard x) (u.shut x) listed (u.is_shut x) in
+    rw (c.as_slice.ensures.value, c.blocks_to_write-between.ensures) (
+      chosen-below front z (u.image x) (u.new_image x) (u.guard x) (u.shut x) listed,
+      search (rules, s.auto.out, s.ensures.next, room, whole),
     )
 
 pub returns : goal.returns
-returns c =
-    let a = c.args in
-    let p = c.requires in
-    let picks = c.blocks_to_write-between in
-    let k = counted a.front.now a.size a.image.now a.new.now a.guard.0 a.shut.now c.requires a.already
-    c.block-end.result.0 picks.result c.one_unless.result picks.new.blocks
-    c.block-end.ensures (search rules) picks.ensures.few picks.ensures.which c.one_unless.ensures in
-    let front = a.front.now in
-    let z = a.size in
-    let i = a.image.now in
-    let new = a.new.now in
-    let g = a.guard.0 in
-    let shut = a.shut.now in
-    let list = a.list.now in
-    let step = command_length front z in
-    let bs = chosen z i new g in
+returns g c =
+    let u = g.U.BlockUpdate in
+    let x = c.args.update.now in
+    let front = u.front x in
+    let z = u.size x in
+    let i = u.image x in
+    let new = u.new_image x in
+    let guard = u.guard x in
+    let shut = u.shut x in
+    let is_shut = u.is_shut x in
+    let listed = g.met.U.BlockUpdate.listed x in
+    let list = c.args.list.now in
     let s = c.put_shut-at in
-    let n = picks.result in
-    let place : s.result ≡ shut_length front z a.already
-    = s.ensures.next ∙ ap (λ z. shut_length front z a.already) p.shut_whole in
-    let room : s.result + step * n + step ≤ length list
-    = omega (arith, place, k.whole_length, c.if-list-step.false) in
-    let first-long : length (shut_command front g shut a.already) ≡ s.result
-    = length-shut front g shut a.already ∙ sym s.ensures.next in
-    let begun : s.new.out ≡ shut_command front g shut a.already ++ drop s.result list
-    = s.ensures.puts ∙ ap (λ n. shut_command front g shut a.already ++ drop n list) (sym s.ensures.next) in
-    let middle-long : length (blocks_bytes front z new bs) ≡ step * n
-    = length-middle front z i new g shut p ∙ ap (λ n. step * n) k.many in
+    let step = command_length front z in
+    let bs = chosen z i new guard in
+    let first : c.from.result ≡ cond is_shut 0 1 = c.from.ensures ∙ ap (λ b. bool_byte (not b)) c.is_shut.ensures ∙ shut-count is_shut in
+    let many : c.len.result ≡ length bs = c.len.ensures.value ∙ ap length c.blocks_to_write-between.ensures in
+    let second : c.command_length-step.result * c.len-2.result ≡ step * length bs
+    = ap (λ k. k * c.len-2.result) c.command_length-step.ensures ∙ ap (λ k. step * k) (c.len-2.ensures.value ∙ ap length c.blocks_to_write-between.ensures) in
+    let room : step * (cond is_shut 0 1 + length bs + 1) ≤ length list
+    = rw (c.command_length-step.ensures, many, first) at c.if-list-step.false in
+    let whole = whole_length front z i new guard shut listed is_shut in
+    let first-long : length (shut_command front guard shut is_shut) ≡ s.result
+    = length-shut front guard shut is_shut ∙ ap (λ n. shut_length front n is_shut) listed.shut_whole ∙ sym s.ensures.next in
+    let begun : s.new.out ≡ shut_command front guard shut is_shut ++ drop s.result list
+    = s.ensures.puts ∙ ap (λ n. shut_command front guard shut is_shut ++ drop n list) (sym s.ensures.next) in
     let rest = take (length s.new.out - s.result) (drop s.result s.new.out) in
-    let middle : c.put_blocks.new.out ≡ blocks_bytes front z new bs ++ drop (step * n) rest
-    = c.put_blocks.ensures
-    ∙ ap (λ x. blocks_bytes front z new x ++ drop (step * length x) rest) k.are
-    ∙ ap (λ n. blocks_bytes front z new bs ++ drop (step * n) rest) k.many in
-    let e = guarded-fits front z i new g shut p a.already (length list) (omega (arith, ap (λ n. step * n) k.total, c.if-list-step.false)) in
-    let end : s.result + step * n + step ≡ length (guarded_bytes front z new bs g shut a.already)
-    = omega (arith, place, ap (λ n. step * n) k.many, guarded-end front z i new g shut p a.already) in (
-      ap gives k.total ∙ sym (ap count_of e),
-      three-laid list s.new.out (shut_command front g shut a.already) (blocks_bytes front z new bs)
-          c.put_blocks.new.out s.result (step * n) step
-          begun s.auto.out first-long middle-long room middle
-          (block_bytes front z new g) _ c.put_block.ensures
-          ∙ ap (λ d. guarded_bytes front z new bs g shut a.already ++ drop d list) end
+    let middle : c.put_blocks.new.out ≡ blocks_bytes front z new bs ++ drop (step * length bs) rest
+    = c.put_blocks.ensures ∙ ap (λ x. blocks_bytes front z new x ++ drop (step * length x) rest) (c.as_slice.ensures.value ∙ c.blocks_to_write-between.ensures) in
+    let e = guarded-fits front z i new guard shut listed is_shut (length list) room in
+    let end : s.result + step * length bs + step ≡ length (guarded_bytes front z new bs guard shut is_shut)
+    = omega (arith, s.ensures.next, guarded-end front z i new guard shut listed is_shut) in
+    let last = rw (second, c.guard.ensures) at c.put_block.ensures in
+    rw second (
+      ap gives (rw (first, many)) ∙ sym (ap count_of e),
+      three-laid list s.new.out (shut_command front guard shut is_shut) (blocks_bytes front z new bs)
+          c.put_blocks.new.out s.result (step * length bs) step
+          begun s.auto.out first-long (length-middle front z i new guard shut listed) (omega (arith, s.ensures.next, whole, room)) middle
+          (block_bytes front z new guard) _ last
+          ∙ ap (λ d. guarded_bytes front z new bs guard shut is_shut ++ drop d list) end
           ∙ sym (ap (output_into list) e),
     )

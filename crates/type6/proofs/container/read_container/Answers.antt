@@ -1,11 +1,17 @@
-use Rattle.std.proofs.Common.{sym}
-use Rattle.type6.proofs.Reading.{fine-long, attested}
+use Rattle.std.proofs.Common.{rules, ◌≡◌}
+use Rattle.tag.specs.Checks.{fine, first_of}
+use Rattle.type6.specs.Container.{checks}
+use Rattle.type6.proofs.Reading.{readable}
 use Rattle.type6.proofs.container.read_container.Goals as goal
 
-pub said-requires : goal.said-requires
-said-requires c =
-    let l = fine-long c.args.image.now (sym c.in-At.ensures.is) in
-    (l.0, c.in-At.ensures.at, l.1, l.2)
-
-pub returns-in-At-clause-known : goal.returns-in-At-clause-known
-returns-in-At-clause-known c = attested c.args.image.now (sym c.in-At.ensures.is) c.said.result c.said.ensures
+pub returns : goal.returns
+returns c =
+    let passes : first_of (checks c.args.image.now) ≡ fine = search rules in
+    readable c.args.image.now passes _ (record {
+      size_is = c.block_size-size.ensures.0;
+      blocks_are = search rules;
+      file_is = search rules;
+      capacity_is = search rules;
+      nlen_is = search rules;
+      writable_is = search rules;
+    })

@@ -1,16 +1,28 @@
-use Rattle.std.proofs.Common.{sym, ap, ◌∙◌}
+use Rattle.std.proofs.Common.{◌≡◌, ◌-◌, ◌*◌, arith, sym, ap, ◌∙◌, length, drop, length-drop}
+use Rattle.std.proofs.lemmas.List.Edits.{sets}
+use lib.Seq.{take_all}
+use Rattle.tag.specs.Bytes.{byte}
 use Rattle.tag.specs.Stores.{tag_after}
+use Rattle.tag.proofs.Storing.{put_sets}
+use Rattle.type6.proofs.Encoding.{stored-bounds}
 use Rattle.type6.proofs.Modelling.{command-malformed, command-formed}
 use Rattle.type6.proofs.model.take_command.Goals as goal
 
-pub returns-then-is_command-clause-stored : goal.returns-then-is_command-clause-stored
-returns-then-is_command-clause-stored c =
+pub returns-then-not-is_command-clause-stored : goal.returns-then-not-is_command-clause-stored
+returns-then-not-is_command-clause-stored c =
     let a = c.args in
-    let w = sym c.is_command.ensures ∙ c.if-is_command.true in
-    c.store_block.ensures ∙ sym (ap (tag_after a.image.now) (command-formed a.size a.blocks a.command.now w))
+    sym (ap (tag_after a.image.now) (command-malformed a.size a.blocks a.command.now (sym c.if-not-is_command.ensures)))
 
 pub returns-clause-stored : goal.returns-clause-stored
 returns-clause-stored c =
     let a = c.args in
-    let w = sym c.is_command.ensures ∙ c.if-is_command.false in
-    sym (ap (tag_after a.image.now) (command-malformed a.size a.blocks a.command.now w))
+    let bs = a.command.now in
+    let w = sym c.if-not-is_command.ensures in
+    let b = stored-bounds a.size a.blocks bs w in
+    let at : c.address-at.result.0 ≡ a.size * byte bs 2 = c.address-at.ensures ∙ ap (λ k. a.size * k) c.from.ensures in
+    put_sets _ _ (drop 3 bs) _ a.image.now
+    (c.copy_from_slice.ensures.after ∙ take_all (length bs - 3) (drop 3 bs) (omega (arith, length-drop 3 bs)))
+    (omega (arith, b.long, length-drop 3 bs))
+    (omega (arith, at, b.long, b.inside, length-drop 3 bs, c.requires))
+    ∙ ap (λ k. sets a.image.now k (drop 3 bs)) at
+    ∙ sym (ap (tag_after a.image.now) (command-formed a.size a.blocks bs w))
