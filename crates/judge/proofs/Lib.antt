@@ -1,2 +1,2 @@
 -- Laws that the proofs of the judge use.
-pub mod Preparing
+pub mod Turning

@@ -1,3 +1,2 @@
 -- Views of the judge. They state what its functions require of each other.
-pub mod Task
-pub mod Type2
+pub mod Steps

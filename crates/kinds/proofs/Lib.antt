@@ -1,2 +1,3 @@
--- What holds of every kind.
-pub mod EachKind
+-- Reading without a gathering buffer, and space on a Type 2 tag.
+pub mod Plain
+pub mod Preparing

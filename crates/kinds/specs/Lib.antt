@@ -1,2 +1,1 @@
--- What a type of tag as a value means in the definitions.
-pub mod Views
+-- No definitions: what the structs of this crate are is said by their ghost fields and by the trait that they implement.

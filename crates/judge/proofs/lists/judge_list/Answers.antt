@@ -1,57 +1,80 @@
-use Rattle.std.proofs.Common.{rules, arith, ◌≡◌, ◌+◌, ◌-◌, length, take, drop, sym, ap, ◌∙◌}
-use Rattle.tag.specs.TagType.{commands}
-use Rattle.tag.specs.Judge.{judge, task}
-use Rattle.tag.proofs.Turns.{turn-stop, turn-next, turn-good, turn-bad}
-use Rattle.kinds.specs.Views.Types.{type_of}
-use Rattle.kinds.proofs.EachKind.{some-span}
+use Rattle.std.proofs.Common.{arith, ◌≡◌, length, rules, Ok, Err, ◌+◌, refl, sym, ap, ◌∙◌}
+use Rattle.std.specs.Prelude.{Result}
+use Rattle.tag.specs.declared.refusals.Refusal.{Refusal}
+use Rattle.tag.specs.TagType.{pieces}
+use Rattle.tag.specs.Judge.{judged}
+use Rattle.tag.specs.Answers.{verdict_as}
+use Rattle.update.proofs.Cutting.{pieces-few}
+use Rattle.judge.proofs.Turning.{rest, rest-all, rest-good, rest-bad, rest-stop, rest-next}
 use Rattle.judge.proofs.lists.judge_list.Goals as goal
 
-pub loop-at-init : goal.loop-at-init
-loop-at-init c =
+pub loop-command-init : goal.loop-command-init
+loop-command-init g c =
     let a = c.args in
-    let T = type_of a.kind a.idm.now in (
-      search rules,
-      search rules,
+    let u = a.update.now in
+    let T = g.U.Update.tag_type in
+    let i = g.U.Update.image in
+    let m = g.U.Update.message in
+    let it = c.into_iter-command-iterator.result in
+    let made = c.new-command-items in
+    let whole : pieces (T it.update.now) (i it.update.now) it.rest.now ≡ pieces (T u) (i u) a.list.now =
+    ap (λ (s : _). pieces (T s.update.now) (i s.update.now) s.rest.now) c.into_iter-command-iterator.ensures.into_iter_gives
+    ∙ ap (λ k. pieces (T k) (i k) made.result.rest.now) made.ensures.update
+    ∙ ap (pieces (T u) (i u)) made.ensures.rest in
+    let shorter = ap length whole in (
+      tt,
+      tt,
+      omega (arith, shorter, pieces-few (T u) (i u) a.list.now),
       ap length c.requires.1,
-      c.requires.2,
-      ap (λ j. judge (task T a.image.now a.message.now) 0 j (commands T a.image.now a.list.now)) (sym c.requires.1),
+      rest-all (T u) (i u) (m u) (g.met.U.Update.ready u) a.list.now
+          ∙ ap (λ j. rest (T u) (i u) (m u) 0 j (pieces (T u) (i u) a.list.now)) (sym c.requires.1)
+          ∙ ap (rest (T u) (i u) (m u) 0 a.work.now) (sym whole),
     )
 
-pub loop-at-preserved : goal.loop-at-preserved
-loop-at-preserved c =
-    let a = c.args in
-    let l = c.loop-at in
-    let p = c.piece_size in
-    let size : l.at + p.result - l.at ≡ p.result = omega arith in
-    let i = a.image.now in (
-      omega (arith, p.ensures.inside),
-      omega (arith, p.ensures.some_bytes),
-      omega (arith, c.step-fault.auto.work, l.invariant.2),
-      omega (arith, c.step-fault.auto.gathered, l.invariant.3),
+pub loop-command-preserved : goal.loop-command-preserved
+loop-command-preserved g c =
+    let u = c.args.update.now in
+    let l = c.loop-command in
+    let s = c.step in
+    let next = c.in-Some.ensures.steps in
+    let shorter = ap length next in
+    let n = c.next.new.self in
+    let after = pieces (g.U.Update.tag_type n.update.now) (g.U.Update.image n.update.now) n.rest.now in
+    let good : s.result ≡ Ok tt = search rules in (
+      tt,
+      tt,
+      omega (arith, shorter),
+      omega (arith, s.auto.work, l.invariant.3),
       l.invariant.4
-          ∙ turn-next (type_of a.kind a.idm.now) i a.list.now (some-span a.kind a.idm.now i) l.at p.result c.loop-at-test.true p.ensures _
-          (ap (λ n. take n (drop l.at a.list.now)) size) a.message.now l.count l.work c.step-fault.result _ c.step-fault.ensures c.if-fault-ne-NONE.false,
+          ∙ rest-next (g.U.Update.tag_type u) (g.U.Update.image u) (g.U.Update.message u) l.count l.work _ _ _ next (sym s.ensures.is ∙ good)
+          ∙ ap (λ j. rest (g.U.Update.tag_type u) (g.U.Update.image u) (g.U.Update.message u) (l.count + 1) j after) (sym s.ensures.stored),
     )
 
-pub returns-then-fault-ne-NONE : goal.returns-then-fault-ne-NONE
-returns-then-fault-ne-NONE c =
-    let a = c.args in
-    let l = c.loop-at in
-    let p = c.piece_size in
-    let size : l.at + p.result - l.at ≡ p.result = omega arith in
-    let i = a.image.now in
-    sym (l.invariant.4
-    ∙ turn-stop (type_of a.kind a.idm.now) i a.list.now (some-span a.kind a.idm.now i) l.at p.result c.loop-at-test.true p.ensures _
-    (ap (λ n. take n (drop l.at a.list.now)) size) a.message.now l.count l.work c.step-fault.result _ c.step-fault.ensures c.if-fault-ne-NONE.true)
+pub returns-in_err-map_err : goal.returns-in_err-map_err
+returns-in_err-map_err g c =
+    let u = c.args.update.now in
+    let l = c.loop-command in
+    let s = c.step in
+    let bad : (r : Result (Unit {0}) Refusal) → s.result ≡ r → judged (g.U.Update.tag_type u) (g.U.Update.image u) (g.U.Update.message u) c.args.list.now ≡ verdict_as c.from_residual.result =
+    elim [
+      | Ok done ↦ λ q. absurd (search (rules, q))
+      | Err e ↦ λ q.
+          let left : c.from_residual.result ≡ Err (record { refusal = e; position = l.count }) = search (rules, q) in
+          l.invariant.4
+          ∙ rest-stop (g.U.Update.tag_type u) (g.U.Update.image u) (g.U.Update.message u) l.count l.work _ _ _ c.in-Some.ensures.steps e (sym s.ensures.is ∙ q)
+          ∙ ap verdict_as (sym left)
+    ] in
+    sym (bad s.result refl)
 
-pub returns-then-holds : goal.returns-then-holds
-returns-then-holds c =
-    let a = c.args in
-    let l = c.loop-at in
-    sym (l.invariant.4 ∙ turn-good (type_of a.kind a.idm.now) a.image.now a.list.now l.at (omega arith) a.message.now l.count l.work (sym c.holds.ensures ∙ c.if-holds.true))
+pub returns-then-not-holds : goal.returns-then-not-holds
+returns-then-not-holds g c =
+    let u = c.args.update.now in
+    let l = c.loop-command in
+    rw (c.at.ensures.0, c.at.ensures.1)
+    (sym (l.invariant.4 ∙ rest-bad (g.U.Update.tag_type u) (g.U.Update.image u) (g.U.Update.message u) l.count l.work _ c.in-None.ensures.steps.0 (sym c.holds.ensures ∙ search rules)))
 
 pub returns : goal.returns
-returns c =
-    let a = c.args in
-    let l = c.loop-at in
-    sym (l.invariant.4 ∙ turn-bad (type_of a.kind a.idm.now) a.image.now a.list.now l.at (omega arith) a.message.now l.count l.work (sym c.holds.ensures ∙ c.if-holds.false))
+returns g c =
+    let u = c.args.update.now in
+    let l = c.loop-command in
+    sym (l.invariant.4 ∙ rest-good (g.U.Update.tag_type u) (g.U.Update.image u) (g.U.Update.message u) l.count l.work _ c.in-None.ensures.steps.0 (sym c.holds.ensures ∙ search rules))

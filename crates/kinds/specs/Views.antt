@@ -1,2 +1,0 @@
--- Views of a type of tag as a value.
-pub mod Types

@@ -1,0 +1,3 @@
+-- What follows from the laws for every type of tag.
+pub mod Held
+pub mod Cutting

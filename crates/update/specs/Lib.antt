@@ -1,0 +1,1 @@
+-- No definitions: the trait names those of the crate `tag`.
