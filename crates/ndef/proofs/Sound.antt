@@ -1,22 +1,17 @@
--- A record that passes its tests, in facts, both ways; and the tests as the code makes them.
+-- A record that passes its tests, in facts, both ways.
 -- Assumes nothing.
-use mathlib.Core.Path.{◌≡◌, refl, ap, ◌∙◌}
+use mathlib.Core.Path.{◌≡◌, refl, ap}
 use mathlib.Core.Bool.{Bool, true, false, not, cond}
-use mathlib.Core.List.{List, [], ◌∷◌}
 use Prim.Native.Nat.{ℕ, ◌+◌, ◌<◌, ◌≤◌}
 use native.Mathlib.Omega.{arith}
-use lib.ListN.{length}
-use lib.Dec.{eqb, leb, ltb}
+use lib.Dec.{eqb, ltb}
 use borrow.Author.Tests.{le-leb, leb-true, eq-eqb, ne_eqb, eqb-true, ltb-true}
-use Rattle.tag.specs.Checks.{check, fine, first_of}
-use Rattle.tag.specs.Views.Faults.{fault_as}
+use Rattle.tag.specs.Checks.{fine, first_of}
 use Rattle.tag.proofs.Checks.{fine-all, all-fine}
 use Rattle.tag.proofs.Logic.{nope}
-use Rattle.ndef.specs.declared.headers.Header.{Header}
 use Rattle.ndef.specs.Record.{tnf_allows}
 use Rattle.ndef.specs.Header.{mb, me, cf, tnf}
-use Rattle.ndef.specs.Message.{checks_by, record_checks}
-use Rattle.ndef.specs.Views.Headers.{Says, length_for, fault_for}
+use Rattle.ndef.specs.Message.{checks_by}
 
 pub record Sound (flags header type id payload size first : ℕ) : Type 0 where
   pub unchunked : cf flags ≡ 0
@@ -72,29 +67,3 @@ module _ (flags header type id payload size first : ℕ) where
           ),
         ),
       )
-
--- ---- the tests as the code makes them
-
--- whatever the six tests are
-chain : (c t l a b e : Bool)
-    → fault_as (cond c (cond t 31 (cond l (cond a (cond b (cond e 0 32) 32) 32) 32)) 31)
-    ≡ first_of (check c 31 ∷ check (not t) 31 ∷ check l 32 ∷ check a 32 ∷ check b 32 ∷ check e 32 ∷ [])
-chain false t l a b e = refl
-chain true true l a b e = refl
-chain true false false a b e = refl
-chain true false true false b e = refl
-chain true false true true false e = refl
-chain true false true true true false = refl
-chain true false true true true true = refl
-
-pub checks-are : (s : List ℕ) (h : Header) (first : ℕ) → Says s h
-    → checks_by h.flags h.len h.rtype h.id h.payload (length s) first ≡ record_checks first s
-unfolding record_checks
-checks-are s h first w = rw (w.flags_are, w.len_is, w.type_is, w.id_is, w.payload_is)
-
-pub fault-is : (s : List ℕ) (h : Header) (first : ℕ) → Says s h → fault_as (fault_for h (length s) first) ≡ first_of (record_checks first s)
-unfolding fault_for checks_by
-fault-is s h first w =
-    chain (eqb (cf h.flags) 0) (eqb (tnf h.flags) 6) (leb (length_for h) (length s)) (tnf_allows (tnf h.flags) h.rtype h.id h.payload)
-    (eqb (mb h.flags) first) (eqb (me h.flags) (cond (eqb (length_for h) (length s)) 1 0))
-    ∙ ap first_of (checks-are s h first w)

@@ -2,7 +2,7 @@
 -- Assumes nothing.
 use mathlib.Core.Path.{◌≡◌, refl, sym, ap, ap₂, ◌∙◌}
 use mathlib.Core.Bool.{Bool, true, false, ◌&&◌}
-use mathlib.Core.List.{List, [], ◌∷◌, ◌++◌, map, append_assoc}
+use mathlib.Core.List.{List, [], ◌∷◌, map}
 use Prim.Native.Nat.{ℕ, zero, suc, ◌+◌, ◌-◌, ◌*◌, ◌/◌, ◌%◌, ◌≤◌}
 use native.Mathlib.Omega.{arith}
 use native.Mathlib.Nat.{add_assoc}
@@ -12,9 +12,10 @@ use lib.Dec.{eqb, leb}
 use borrow.Author.Tests.{eq-eqb, ne_eqb, eqb-true, eqb-false, le-leb}
 use Rattle.tag.specs.Bytes.{byte}
 use Rattle.tag.specs.Checks.{fine, first_of}
-use Rattle.tag.specs.declared.CountAnswer.TheVariants as counted
+use Rattle.std.specs.Prelude.{Err}
+use Rattle.tag.specs.declared.refusals.Refusal as named
 use Rattle.tag.specs.TagType.{refused_output, output}
-use Rattle.tag.specs.Answers.{gives, count_of, count_as}
+use Rattle.tag.specs.Answers.{number_of, count_of, count_as}
 use Rattle.tag.proofs.Logic.{nope}
 use Rattle.ndef.specs.declared.Place.{Place}
 use Rattle.ndef.specs.Record.{Record}
@@ -97,11 +98,6 @@ unfolding table_of numbers_of
 table-long [] = refl
 table-long (p ∷ ps) = omega (arith, length-append (numbers_of p) (table_of ps), table-long ps)
 
-pub table-append : (ps qs : List Place) → table_of (ps ++ qs) ≡ table_of ps ++ table_of qs
-unfolding table_of
-table-append [] qs = refl
-table-append (p ∷ ps) qs = ap (λ t. numbers_of p ++ t) (table-append ps qs) ∙ sym (append_assoc (numbers_of p) (table_of ps) (table_of qs))
-
 places-back : (ps : List Place) → places_in (length ps) (table_of ps) ≡ ps
 unfolding places_in table_of numbers_of first_place
 places-back [] = refl
@@ -145,11 +141,8 @@ refused-reads m r e = go (message_of m) refl e
 
 -- ---- the answer as the code gives it
 
-pub answers-refused : (m : List ℕ) (r : ℕ) → message_of m ≡ refused r → count_as (counted.Refused r) ≡ count_of (read m)
-answers-refused m r e = ap count_of (sym (reads-refused m r e))
-
-pub answers-count : (m : List ℕ) (rs : List Record) (n : ℕ) → message_of m ≡ records rs → length rs ≡ n → count_as (counted.Count n) ≡ count_of (read m)
-answers-count m rs n e l = sym (ap gives l) ∙ ap count_of (sym (reads-output m rs e))
+pub answers-refused : (m : List ℕ) (f : named.Refusal) → message_of m ≡ refused (number_of f) → count_as (Err f) ≡ count_of (read m)
+answers-refused m f e = ap count_of (sym (reads-refused m (number_of f) e))
 
 -- ---- the list
 

@@ -8,12 +8,14 @@ use Prim.Native.Nat.{ℕ, ◌*◌, ◌≤◌, ◌<◌}
 use native.Mathlib.Omega.{arith}
 use lib.ListN.{length, take, drop}
 use lib.Seq.{take-append_seam}
-use Rattle.tag.specs.declared.CountAnswer.{CountAnswer}
-use Rattle.tag.specs.declared.CountAnswer.TheVariants as counted
+use Rattle.std.specs.Prelude.{Result, Ok}
+use Rattle.tag.specs.declared.refusals.Refusal as named
+use Rattle.tag.specs.declared.refusals.Refusal.TheVariants.{UnwritableRecords, ShortBuffer}
 use Rattle.tag.specs.Bytes.{Octets, overwrite}
 use Rattle.tag.specs.TagType.{refused_output, output}
+use Rattle.tag.specs.Answers.{count_of}
 use Rattle.tag.proofs.Logic.{nope}
-use Rattle.tag.proofs.Outputs.{put_all, put-counted, refused-exactly}
+use Rattle.tag.proofs.Outputs.{put_all, put-counted, refused-count-is, refused-exactly}
 use Rattle.ndef.specs.Record.{Record, OctetRecords}
 use Rattle.ndef.specs.Message.{records, message_of}
 use Rattle.ndef.specs.declared.Part.{Part}
@@ -142,8 +144,8 @@ unfolding write
 list_written room t bytes e = rw e
 
 -- reading a message that reads: how many records, and the table's front
-read_answer : (m : List ℕ) (rs : List Record) → message_of m ≡ records rs → (table : List ℕ) (r : CountAnswer) (out : List ℕ) → ReadRecords m table r out
-    → (r ≡ counted.Count (length rs)) × (records_in (take (7 * length rs) out) m ≡ rs)
+read_answer : (m : List ℕ) (rs : List Record) → message_of m ≡ records rs → (table : List ℕ) (r : Result ℕ named.Refusal) (out : List ℕ) → ReadRecords m table r out
+    → (r ≡ Ok (length rs)) × (records_in (take (7 * length rs) out) m ≡ rs)
 read_answer m rs e table r out w =
     let t : List ℕ = table_of (places_of 16 0 m) in
     let a = put_all (λ room. read m) table out r (length rs) t w (reads-output m rs e) in
@@ -152,7 +154,7 @@ read_answer m rs e table r out w =
     (a.0, rw front (table-list m rs e))
 
 -- writing that gave a count: the list can be written, and its message is at the buffer's front
-write-answer : (t bytes buffer : List ℕ) (n : ℕ) (out : List ℕ) → WroteRecords t bytes buffer (counted.Count n) out
+write-answer : (t bytes buffer : List ℕ) (n : ℕ) (out : List ℕ) → WroteRecords t bytes buffer (Ok n) out
     → Listed (records_in t bytes) × (take n out ≡ message_bytes 1 (records_in t bytes)) × (length (message_bytes 1 (records_in t bytes)) ≡ n)
 write-answer t bytes buffer n out w =
     let p = put-counted (λ room. write room t bytes) buffer out n w in
@@ -161,25 +163,25 @@ write-answer t bytes buffer n out w =
     let front : take n out ≡ p.0 = ap (take n) p.2 ∙ front-is p.0 buffer n (sym q.1 ∙ ap length q.2) in
     (q.0, front ∙ sym q.2, q.1)
 
-calls-no-shorter : (t bytes buffer : List ℕ) (n : ℕ) (out m : List ℕ) → WroteRecords t bytes buffer (counted.Count n) out → Octets m → message_of m ≡ records (records_in t bytes)
+calls-no-shorter : (t bytes buffer : List ℕ) (n : ℕ) (out m : List ℕ) → WroteRecords t bytes buffer (Ok n) out → Octets m → message_of m ≡ records (records_in t bytes)
     → (n ≤ length m) × (length m ≡ n → m ≡ take n out)
 calls-no-shorter t bytes buffer n out m w o r =
     let a = write-answer t bytes buffer n out w in
     let l = (message m (records_in t bytes) o r).least in
     (omega (arith, l.small, a.2), λ e. l.same (a.2 ∙ sym e) ∙ sym a.1)
 
-calls-same-list : (t bytes buffer : List ℕ) (n : ℕ) (out table : List ℕ) (r : CountAnswer) (out' : List ℕ)
-    → WroteRecords t bytes buffer (counted.Count n) out → ReadRecords (take n out) table r out'
-    → (k : ℕ) × (r ≡ counted.Count k) × (records_in (take (7 * k) out') (take n out) ≡ records_in t bytes)
+calls-same-list : (t bytes buffer : List ℕ) (n : ℕ) (out table : List ℕ) (r : Result ℕ named.Refusal) (out' : List ℕ)
+    → WroteRecords t bytes buffer (Ok n) out → ReadRecords (take n out) table r out'
+    → (k : ℕ) × (r ≡ Ok k) × (records_in (take (7 * k) out') (take n out) ≡ records_in t bytes)
 calls-same-list t bytes buffer n out table r out' w v =
     let q = write-answer t bytes buffer n out w in
     let reads : message_of (take n out) ≡ records (records_in t bytes) = ap message_of q.1 ∙ list_back (records_in t bytes) q.0 in
     let a = read_answer (take n out) (records_in t bytes) reads table r out' v in
     (length (records_in t bytes), a.0, a.1)
 
-calls-same-bytes : (m table : List ℕ) (k : ℕ) (out buffer : List ℕ) (r : CountAnswer) (out' : List ℕ) → Octets m → length m ≤ length buffer
-    → ReadRecords m table (counted.Count k) out → WroteRecords (take (7 * k) out) m buffer r out'
-    → (n : ℕ) × (r ≡ counted.Count n) × (n ≤ length m) × (is_shortest m ≡ true ↔ take n out' ≡ m)
+calls-same-bytes : (m table : List ℕ) (k : ℕ) (out buffer : List ℕ) (r : Result ℕ named.Refusal) (out' : List ℕ) → Octets m → length m ≤ length buffer
+    → ReadRecords m table (Ok k) out → WroteRecords (take (7 * k) out) m buffer r out'
+    → (n : ℕ) × (r ≡ Ok n) × (n ≤ length m) × (is_shortest m ≡ true ↔ take n out' ≡ m)
 calls-same-bytes m table k out buffer r out' o room w v =
     let p = put-counted (λ n. read m) table out k w in
     let g = given m k p.0 p.1 in
@@ -239,14 +241,15 @@ module _ (room : ℕ) (t bytes : List ℕ) (o : Octets bytes) where
 
 pub calls : Calls
 calls = record {
-  refuses = λ m table r out k w.
-      let e = refused-exactly (read m) r k w.0 in
-      (λ q. refused-reads m k (e.0 q), λ q. e.1 (reads-refused m k q));
+  refuses = λ m table r out k w. (
+    λ q. refused-reads m k ((refused-exactly (read m) r q.0 w.0).0 q.1 ∙ ap refused_output q.2),
+    λ q. refused-count-is r k (w.0 ∙ ap count_of (reads-refused m k q)),
+  );
   unwritable = λ t bytes buffer r out o w.
-      let e = refused-exactly (write (length buffer) t bytes) r 33 w.0 in
+      let e = refused-exactly (write (length buffer) t bytes) r UnwritableRecords w.0 in
       (λ q. none-if-refused (length buffer) t bytes o (e.0 q), λ none. e.1 (refused-if-none (length buffer) t bytes o none));
   too_long = λ t bytes buffer r out o w.
-      let e = refused-exactly (write (length buffer) t bytes) r 12 w.0 in
+      let e = refused-exactly (write (length buffer) t bytes) r ShortBuffer w.0 in
       (λ q. longer-if-refused (length buffer) t bytes o (e.0 q), λ v. e.1 (refused-if-longer (length buffer) t bytes o v.0 v.1 v.2));
   no_shorter = calls-no-shorter;
   same_list = calls-same-list;

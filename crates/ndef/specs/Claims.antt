@@ -1,12 +1,13 @@
 -- What is claimed of reading and writing records. Statements only; `proofs/Theorems.antt` proves them, and states nothing new.
 -- `Octets` asks that bytes are bytes: with larger numbers in a list, 'at least as long' would be false.
 -- Assumes nothing.
-use Rattle.std.specs.Prelude.{◌≡◌, ◌↔◌, true, List, ℕ, ◌*◌, ◌≤◌, ◌<◌, length, take}
-use Rattle.tag.specs.declared.CountAnswer.{CountAnswer}
-use Rattle.tag.specs.declared.CountAnswer.TheVariants as counted
+use Rattle.std.specs.Prelude.{◌≡◌, ◌↔◌, true, List, ℕ, ◌*◌, ◌≤◌, ◌<◌, length, take, Result, Ok, Err}
+use Rattle.tag.specs.declared.refusals.Refusal as named
+use Rattle.tag.specs.declared.refusals.Refusal.TheVariants.{UnwritableRecords, ShortBuffer}
 use Rattle.tag.specs.Bytes.{Octets}
 use Rattle.tag.specs.Refusals.{short_buffer, unwritable_records}
 use Rattle.tag.specs.TagType.{refused_output, output}
+use Rattle.tag.specs.Answers.{number_of}
 use Rattle.ndef.specs.Record.{Record, OctetRecords}
 use Rattle.ndef.specs.Message.{records, refused, message_of}
 use Rattle.ndef.specs.Places.{numbers_each, read}
@@ -62,24 +63,28 @@ pub record TableIsList : Type 0 where
 
 -- ---- of what the code answers
 
+-- the refusal has this number
+abbrev pub RefusedWith : Result ℕ named.Refusal → ℕ → Type 0
+RefusedWith r k = (f : named.Refusal) × (r ≡ Err f) × (number_of f ≡ k)
+
 -- The calls answer as their contracts say. Reading refuses exactly where the definition does. Writing gives 33 exactly if the table is no
 -- list or no message reads as the list, and 12 exactly if some message does and each that does is longer than the buffer. What was
 -- written, read again, has the records that were written; every message that reads the same is at least as long, and one as short is the
 -- same bytes. A message that was read, written again from its table, gets no longer, and is the same bytes exactly if it used the shortest
 -- form.
 pub record Calls : Type 0 where
-  pub refuses : (m table : List ℕ) (r : CountAnswer) (out : List ℕ) (k : ℕ) → ReadRecords m table r out
-      → (r ≡ counted.Refused k) ↔ (message_of m ≡ refused k)
-  pub unwritable : (t bytes buffer : List ℕ) (r : CountAnswer) (out : List ℕ) → Octets bytes → WroteRecords t bytes buffer r out
-      → (r ≡ counted.Refused unwritable_records) ↔ (is_list t bytes ≡ true → (m : List ℕ) → Octets m → message_of m ≡ records (records_in t bytes) → ⊥)
-  pub too_long : (t bytes buffer : List ℕ) (r : CountAnswer) (out : List ℕ) → Octets bytes → WroteRecords t bytes buffer r out
-      → (r ≡ counted.Refused short_buffer)
+  pub refuses : (m table : List ℕ) (r : Result ℕ named.Refusal) (out : List ℕ) (k : ℕ) → ReadRecords m table r out
+      → RefusedWith r k ↔ (message_of m ≡ refused k)
+  pub unwritable : (t bytes buffer : List ℕ) (r : Result ℕ named.Refusal) (out : List ℕ) → Octets bytes → WroteRecords t bytes buffer r out
+      → (r ≡ Err UnwritableRecords) ↔ (is_list t bytes ≡ true → (m : List ℕ) → Octets m → message_of m ≡ records (records_in t bytes) → ⊥)
+  pub too_long : (t bytes buffer : List ℕ) (r : Result ℕ named.Refusal) (out : List ℕ) → Octets bytes → WroteRecords t bytes buffer r out
+      → (r ≡ Err ShortBuffer)
       ↔ ((is_list t bytes ≡ true) × Readable (records_in t bytes) × ((m : List ℕ) → Octets m → message_of m ≡ records (records_in t bytes) → length buffer < length m))
-  pub no_shorter : (t bytes buffer : List ℕ) (n : ℕ) (out m : List ℕ) → WroteRecords t bytes buffer (counted.Count n) out
+  pub no_shorter : (t bytes buffer : List ℕ) (n : ℕ) (out m : List ℕ) → WroteRecords t bytes buffer (Ok n) out
       → Octets m → message_of m ≡ records (records_in t bytes) → (n ≤ length m) × (length m ≡ n → m ≡ take n out)
-  pub same_list : (t bytes buffer : List ℕ) (n : ℕ) (out table : List ℕ) (r : CountAnswer) (out' : List ℕ)
-      → WroteRecords t bytes buffer (counted.Count n) out → ReadRecords (take n out) table r out'
-      → (k : ℕ) × (r ≡ counted.Count k) × (records_in (take (numbers_each * k) out') (take n out) ≡ records_in t bytes)
-  pub same_bytes : (m table : List ℕ) (k : ℕ) (out buffer : List ℕ) (r : CountAnswer) (out' : List ℕ) → Octets m → length m ≤ length buffer
-      → ReadRecords m table (counted.Count k) out → WroteRecords (take (numbers_each * k) out) m buffer r out'
-      → (n : ℕ) × (r ≡ counted.Count n) × (n ≤ length m) × ((is_shortest m ≡ true) ↔ (take n out' ≡ m))
+  pub same_list : (t bytes buffer : List ℕ) (n : ℕ) (out table : List ℕ) (r : Result ℕ named.Refusal) (out' : List ℕ)
+      → WroteRecords t bytes buffer (Ok n) out → ReadRecords (take n out) table r out'
+      → (k : ℕ) × (r ≡ Ok k) × (records_in (take (numbers_each * k) out') (take n out) ≡ records_in t bytes)
+  pub same_bytes : (m table : List ℕ) (k : ℕ) (out buffer : List ℕ) (r : Result ℕ named.Refusal) (out' : List ℕ) → Octets m → length m ≤ length buffer
+      → ReadRecords m table (Ok k) out → WroteRecords (take (numbers_each * k) out) m buffer r out'
+      → (n : ℕ) × (r ≡ Ok n) × (n ≤ length m) × ((is_shortest m ≡ true) ↔ (take n out' ≡ m))

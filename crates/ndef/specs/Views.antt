@@ -1,3 +1,2 @@
 -- Views of the code of `ndef`: nobody has to believe them.
 pub mod Headers
-pub mod Reading

@@ -1,14 +1,14 @@
 -- One record of a table: where its parts lie, whether it can be written, and how long it is.
 -- Assumes nothing.
 use mathlib.Core.Path.{◌≡◌, refl, sym, ◌∙◌}
-use mathlib.Core.Bool.{Bool, true, false, cond}
+use mathlib.Core.Bool.{Bool, true, false, ◌&&◌, cond}
+use Rattle.std.specs.Prelude.{Option, Some, None}
 use mathlib.Core.List.{List, ◌++◌}
 use Prim.Native.Nat.{ℕ, ◌+◌, ◌*◌, ◌≤◌}
 use native.Mathlib.Omega.{arith}
 use lib.ListN.{length}
-use lib.Dec.{eqb, ltb}
 use borrow.Author.Tests.{leb-true}
-use Rattle.tag.proofs.Logic.{and-three}
+use Rattle.tag.proofs.Logic.{nope, and-three}
 use Rattle.ndef.specs.declared.Place.{Place}
 use Rattle.ndef.specs.Record.{tnf_allows}
 use Rattle.ndef.specs.Places.{part_at, part_in, record_at, lies_in}
@@ -78,53 +78,41 @@ module _ (bytes : List ℕ) (p : Place) (w : Inside (length bytes) p) where
 unfoldable pub ok : List ℕ → Place → Bool
 ok bytes p = cond (lies_in (length bytes) p) (is_writable (record_at bytes p)) false
 
--- whatever the tests are: r is the length, and 0 if one fails
-size-by : (l a h : Bool) (n r : ℕ) → (n ≡ 0 → ⊥) → r ≡ cond l (cond h (cond a n 0) 0) 0
-    → ((r ≡ 0 → cond l (cond a h false) false ≡ false) × ((r ≡ 0 → ⊥) → (cond l (cond a h false) false ≡ true) × (r ≡ n)))
-size-by true true true n r f e = (λ z. absurd (f (sym e ∙ z)), λ g. (refl, e))
-size-by true true false n r f e = (λ z. refl, λ g. absurd (g e))
-size-by true false true n r f e = (λ z. refl, λ g. absurd (g e))
-size-by true false false n r f e = (λ z. refl, λ g. absurd (g e))
-size-by false a h n r f e = (λ z. refl, λ g. absurd (g e))
-
-header-some : (id payload : ℕ) → 3 ≤ header_size id payload
-unfolding header_size
-header-some id payload = go (ltb payload 256) (eqb id 0)
-  where
-    go : (a b : Bool) → 3 ≤ cond a (cond b 3 4) (cond b 6 7)
-    go true true = omega arith
-    go true false = omega arith
-    go false true = omega arith
-    go false false = omega arith
-
-module _ (bytes : List ℕ) (p : Place) (r : ℕ) (e : r ≡ size_for (length bytes) p) where
-  ok-is : ok bytes p ≡ cond (lies_in (length bytes) p) (cond (allowed p) (held p) false) false
+module _ (bytes : List ℕ) (p : Place) where
+  ok-is : ok bytes p ≡ lies_in (length bytes) p && held p && allowed p
   unfolding ok
   ok-is = go (lies_in (length bytes) p) refl
     where
-      go : (b : Bool) → lies_in (length bytes) p ≡ b
-          → cond b (is_writable (record_at bytes p)) false ≡ cond b (cond (allowed p) (held p) false) false
-      go true q = writable_is bytes p (inside (length bytes) p q)
+      swap : (a h : Bool) → cond a h false ≡ h && a
+      swap true true = refl
+      swap true false = refl
+      swap false true = refl
+      swap false false = refl
+
+      go : (b : Bool) → lies_in (length bytes) p ≡ b → cond b (is_writable (record_at bytes p)) false ≡ b && held p && allowed p
+      go true q = writable_is bytes p (inside (length bytes) p q) ∙ swap (allowed p) (held p)
       go false q = refl
 
-  decided : ((r ≡ 0 → ok bytes p ≡ false) × ((r ≡ 0 → ⊥) → (ok bytes p ≡ true) × (r ≡ long p)))
-  unfolding size_for
-  decided =
-      rw ok-is
-      (size-by (lies_in (length bytes) p) (allowed p) (held p)
-      (long p) r (omega (arith, header-some p.id.len p.payload.len)) e)
+  pub unfit : size_for (length bytes) p ≡ None → ok bytes p ≡ false
+  unfit e = ok-is ∙ go (lies_in (length bytes) p && held p && allowed p) e
+    where
+      go : (b : Bool) → ◌≡◌ {A = Option ℕ} (cond b (Some (long p)) None) None → b ≡ false
+      go true q = absurd (nope (cc))
+      go false q = refl
 
-  pub unfit : r ≡ 0 → ok bytes p ≡ false
-  unfit z = decided.0 z
+  module _ (n : ℕ) (e : size_for (length bytes) p ≡ Some n) where
+    decided : (b : Bool) → ◌≡◌ {A = Option ℕ} (cond b (Some (long p)) None) (Some n) → (b ≡ true) × (n ≡ long p)
+    decided true q = (refl, cc)
+    decided false q = absurd (nope (cc))
 
-  pub sound-place : (r ≡ 0 → ⊥) → ok bytes p ≡ true
-  sound-place f = (decided.1 f).0
+    pub sound-place : ok bytes p ≡ true
+    sound-place = ok-is ∙ (decided (lies_in (length bytes) p && held p && allowed p) e).0
 
-  pub sized : (r ≡ 0 → ⊥) → (first last : ℕ) → r ≡ length (record_bytes first last (record_at bytes p))
-  unfolding ok
-  sized f first last =
-      let w = both (lies_in (length bytes) p) (is_writable (record_at bytes p)) (sound-place f) in
-      (decided.1 f).1 ∙ sym (record-size bytes p (inside (length bytes) p w.0) first last)
+    pub sized : (first last : ℕ) → n ≡ length (record_bytes first last (record_at bytes p))
+    unfolding ok
+    sized first last =
+        let w = both (lies_in (length bytes) p) (is_writable (record_at bytes p)) sound-place in
+        (decided (lies_in (length bytes) p && held p && allowed p) e).1 ∙ sym (record-size bytes p (inside (length bytes) p w.0) first last)
 
 fit_of : (bytes : List ℕ) (p : Place) → Inside (length bytes) p → is_writable (record_at bytes p) ≡ true → Fit p.tnf p.rtype.len p.id.len p.payload.len
 unfolding record_at

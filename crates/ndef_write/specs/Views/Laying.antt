@@ -4,7 +4,7 @@ use Rattle.std.specs.Prelude.{◌≡◌, true, List, ℕ, ◌+◌, ◌<◌, ◌�
 use Rattle.std.proofs.lemmas.List.Edits.{sets}
 use Rattle.ndef.specs.declared.Place.{Place}
 use Rattle.ndef.specs.Shortest.{message_bytes}
-use Rattle.ndef.specs.Writing.{is_writable_list, is_list, records_in}
+use Rattle.ndef_write.specs.Views.Sizes.{named, is_list_of}
 
 -- xs stand in the buffer from `at` on, and end at r
 pub record PutAt (before after : List ℕ) (at : ℕ) (xs : List ℕ) (r : ℕ) : Type 0 where
@@ -21,8 +21,7 @@ pub record Lays (size : ℕ) (p : Place) : Type 0 where
   pub id_inside : p.id.at + p.id.len ≤ size
   pub payload_inside : p.payload.at + p.payload.len ≤ size
 
--- a table whose records can be written, and whose message fits in `room` bytes
-pub record Fits (t bytes : List ℕ) (room : ℕ) : Type 0 where
-  pub list_ok : is_list t bytes ≡ true
-  pub writable_ok : is_writable_list (records_in t bytes) ≡ true
-  pub enough : length (message_bytes 1 (records_in t bytes)) ≤ room
+-- rows whose records can be written, and whose message fits in `room` bytes
+pub record Fits (bytes : List ℕ) (rows : List (List ℕ)) (room : ℕ) : Type 0 where
+  pub given : is_list_of bytes rows ≡ true
+  pub enough : length (message_bytes 1 (named bytes rows)) ≤ room

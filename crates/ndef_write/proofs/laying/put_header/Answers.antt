@@ -1,42 +1,26 @@
-use Rattle.ndef.proofs.HeaderForms.{header-3, header-4, header-6, header-7}
+use Rattle.ndef_write.proofs.HeaderPut.{short, short-id, long, long-id}
 use Rattle.ndef_write.proofs.laying.put_header.Goals as goal
 
-pub put-requires : goal.put-requires
-put-requires c =
-    let a = c.args in
-    rw (header-3 a.flags a.rtype a.id a.payload c.if-payload-lt256.true c.if-id-eq0.true) at c.requires.room
+pub put_few-requires : goal.put_few-requires
+put_few-requires c = rw (short c.args.flags c.args.rtype c.args.id c.args.payload c.in-true-true.is-0 c.in-true-true.is-1) at c.requires.room
 
-pub returns-then-id-eq0 : goal.returns-then-id-eq0
-returns-then-id-eq0 c =
-    let a = c.args in
-    rw (header-3 a.flags a.rtype a.id a.payload c.if-payload-lt256.true c.if-id-eq0.true) c.put.ensures
+pub returns-in-true-true : goal.returns-in-true-true
+returns-in-true-true c = rw (short c.args.flags c.args.rtype c.args.id c.args.payload c.in-true-true.is-0 c.in-true-true.is-1) (rw c.to_be_bytes.ensures at c.put_few.ensures)
 
-pub put-requires-then-payload-lt256 : goal.put-requires-then-payload-lt256
-put-requires-then-payload-lt256 c =
-    let a = c.args in
-    rw (header-4 a.flags a.rtype a.id a.payload c.if-payload-lt256.true c.if-id-eq0.false) at c.requires.room
+pub put_few-requires-in-true-false : goal.put_few-requires-in-true-false
+put_few-requires-in-true-false c = rw (short-id c.args.flags c.args.rtype c.args.id c.args.payload c.in-true-false.is-0 c.in-true-false.is-1) at c.requires.room
 
-pub returns-then-payload-lt256 : goal.returns-then-payload-lt256
-returns-then-payload-lt256 c =
-    let a = c.args in
-    rw (header-4 a.flags a.rtype a.id a.payload c.if-payload-lt256.true c.if-id-eq0.false) c.put-then-payload-lt256.ensures
+pub returns-in-true-false : goal.returns-in-true-false
+returns-in-true-false c = rw (short-id c.args.flags c.args.rtype c.args.id c.args.payload c.in-true-false.is-0 c.in-true-false.is-1) (rw c.to_be_bytes.ensures at c.put_few-in-true-false.ensures)
 
-pub put-requires-then-id-eq0-2 : goal.put-requires-then-id-eq0-2
-put-requires-then-id-eq0-2 c =
-    let a = c.args in
-    rw (header-6 a.flags a.rtype a.id a.payload c.if-payload-lt256.false c.if-id-eq0-2.true) at c.requires.room
+pub put_few-requires-in-false-true : goal.put_few-requires-in-false-true
+put_few-requires-in-false-true c = rw (long c.args.flags c.args.rtype c.args.id c.args.payload c.in-false-true.is-0 c.in-false-true.is-1) at c.requires.room
 
-pub returns-then-id-eq0-2 : goal.returns-then-id-eq0-2
-returns-then-id-eq0-2 c =
-    let a = c.args in
-    rw (header-6 a.flags a.rtype a.id a.payload c.if-payload-lt256.false c.if-id-eq0-2.true) c.put-then-id-eq0-2.ensures
+pub returns-in-false-true : goal.returns-in-false-true
+returns-in-false-true c = rw (long c.args.flags c.args.rtype c.args.id c.args.payload c.in-false-true.is-0 c.in-false-true.is-1) (rw c.to_be_bytes.ensures at c.put_few-in-false-true.ensures)
 
-pub put-requires-2 : goal.put-requires-2
-put-requires-2 c =
-    let a = c.args in
-    rw (header-7 a.flags a.rtype a.id a.payload c.if-payload-lt256.false c.if-id-eq0-2.false) at c.requires.room
+pub put_few-requires-in-false-false : goal.put_few-requires-in-false-false
+put_few-requires-in-false-false c = rw (long-id c.args.flags c.args.rtype c.args.id c.args.payload c.in-false-false.is-0 c.in-false-false.is-1) at c.requires.room
 
-pub returns : goal.returns
-returns c =
-    let a = c.args in
-    rw (header-7 a.flags a.rtype a.id a.payload c.if-payload-lt256.false c.if-id-eq0-2.false) c.put-2.ensures
+pub returns-in-false-false : goal.returns-in-false-false
+returns-in-false-false c = rw (long-id c.args.flags c.args.rtype c.args.id c.args.payload c.in-false-false.is-0 c.in-false-false.is-1) (rw c.to_be_bytes.ensures at c.put_few-in-false-false.ensures)

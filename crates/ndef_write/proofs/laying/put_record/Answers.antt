@@ -1,39 +1,36 @@
-use Rattle.std.proofs.Common.{arith}
-use Rattle.ndef_write.proofs.Behind.{record-is-long, part-lengths, record-put, same_size}
+use Rattle.std.proofs.Common.{ap, length, arith}
+use Rattle.ndef_write.proofs.Behind.{part-lengths, header-is, header-room, parts-room, record-put, same_size}
 use Rattle.ndef_write.proofs.laying.put_record.Goals as goal
 
-pub put_header-behind_header-requires-clause-room : goal.put_header-behind_header-requires-clause-room
-put_header-behind_header-requires-clause-room c =
+pub put_header-at-requires-clause-room : goal.put_header-at-requires-clause-room
+put_header-at-requires-clause-room c =
     let a = c.args in
-    omega (arith, c.requires.room, record-is-long a.bytes.now a.p c.requires.lays a.first a.last)
+    header-room a.bytes.now a.place c.requires.lays a.first a.last c.from.ensures c.from-2.ensures a.out.now a.at c.requires.room
 
-pub put_part-behind_type-requires-clause-room : goal.put_part-behind_type-requires-clause-room
-put_part-behind_type-requires-clause-room c =
+pub put-at-requires : goal.put-at-requires
+put-at-requires c =
     let a = c.args in
-    let h = c.put_header-behind_header.ensures in
-    omega (arith, h.behind, same_size h, c.requires.room, record-is-long a.bytes.now a.p c.requires.lays a.first a.last)
+    let room = parts-room a.bytes.now a.place c.requires.lays a.first a.last c.from.ensures c.from-2.ensures a.out.now a.at c.requires.room c.put_header-at.ensures in
+    omega (arith, room, part-lengths a.bytes.now a.place c.requires.lays, ap length c.of.ensures)
 
-pub put_part-behind_id-requires-clause-room : goal.put_part-behind_id-requires-clause-room
-put_part-behind_id-requires-clause-room c =
+pub put-at-requires-2 : goal.put-at-requires-2
+put-at-requires-2 c =
     let a = c.args in
-    let w = c.requires.lays in
-    let h = c.put_header-behind_header.ensures in
-    let x = c.put_part-behind_type.ensures in
-    let long = part-lengths a.bytes.now a.p w in
-    omega (arith, h.behind, same_size h, x.behind, same_size x, long, c.requires.room, record-is-long a.bytes.now a.p w a.first a.last)
+    let room = parts-room a.bytes.now a.place c.requires.lays a.first a.last c.from.ensures c.from-2.ensures a.out.now a.at c.requires.room c.put_header-at.ensures in
+    let x = c.put-at.ensures in
+    omega (arith, room, part-lengths a.bytes.now a.place c.requires.lays, ap length c.of.ensures, x.behind, same_size x, ap length c.of-2.ensures)
 
-pub put_part-requires-clause-room : goal.put_part-requires-clause-room
-put_part-requires-clause-room c =
+pub put-requires : goal.put-requires
+put-requires c =
     let a = c.args in
-    let w = c.requires.lays in
-    let h = c.put_header-behind_header.ensures in
-    let x = c.put_part-behind_type.ensures in
-    let y = c.put_part-behind_id.ensures in
-    let long = part-lengths a.bytes.now a.p w in
-    omega (arith, h.behind, same_size h, x.behind, same_size x, y.behind, same_size y, long, c.requires.room, record-is-long a.bytes.now a.p w a.first a.last)
+    let room = parts-room a.bytes.now a.place c.requires.lays a.first a.last c.from.ensures c.from-2.ensures a.out.now a.at c.requires.room c.put_header-at.ensures in
+    let x = c.put-at.ensures in
+    let y = c.put-at-2.ensures in
+    omega (arith, room, part-lengths a.bytes.now a.place c.requires.lays, ap length c.of.ensures, x.behind, same_size x, ap length c.of-2.ensures, y.behind, same_size y, ap length c.of-3.ensures)
 
 pub returns : goal.returns
 returns c =
     let a = c.args in
-    record-put a.bytes.now a.p c.requires.lays a.first a.last
-    c.put_header-behind_header.ensures c.put_part-behind_type.ensures c.put_part-behind_id.ensures c.put_part.ensures
+    record-put a.bytes.now a.place c.requires.lays _ _
+    (rw (header-is a.bytes.now a.place c.requires.lays a.first a.last c.from.ensures c.from-2.ensures) at c.put_header-at.ensures)
+    (rw c.of.ensures at c.put-at.ensures) (rw c.of-2.ensures at c.put-at-2.ensures) (rw c.of-3.ensures at c.put.ensures)

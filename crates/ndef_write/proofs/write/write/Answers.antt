@@ -1,22 +1,26 @@
-use Rattle.ndef_write.proofs.Answering.{answers-unwritable, answers-short, fits, answers-message}
+use Rattle.std.proofs.lemmas.Result.{err_from_is_err_and}
+use Rattle.std.proofs.Common.{◌≡◌, ◌%◌, Err, ap, ◌∙◌, length, arith}
+use Rattle.ndef_write.proofs.Answering.{answers-ragged, answers-unwritable, answers-short, answers-message}
 use Rattle.ndef_write.proofs.write.write.Goals as goal
 
-pub returns-then-n-eq0 : goal.returns-then-n-eq0
-returns-then-n-eq0 c =
-    let n = c.message_size-n in
-    answers-unwritable c.args.table.now c.args.bytes.now c.args.message.now n.result n.ensures c.if-n-eq0.true
+pub returns-in_default : goal.returns-in_default
+returns-in_default c = answers-ragged c.args.table.now c.args.bytes.now c.args.message.now (λ e. omega (arith, c.as_chunks.ensures.back_len))
 
-pub returns-then-message-n : goal.returns-then-message-n
-returns-then-message-n c =
-    let n = c.message_size-n in
-    answers-short c.args.table.now c.args.bytes.now c.args.message.now n.result n.ensures c.if-n-eq0.false c.if-message-n.true
+pub returns-in_err-size : goal.returns-in_err-size
+returns-in_err-size c =
+    let sevens : length c.args.table.now % 7 ≡ 0 = omega (arith, c.as_chunks.ensures.back_len) in
+    let p = err_from_is_err_and c.from_residual.result c.from_residual.ensures.1 in
+    let refused = rw c.in_err-size.ensures.ok_part at c.in_err-size.ensures.value in
+    rw (p.1 ∙ ap Err p.2 ∙ refused)
+    (answers-unwritable c.args.table.now c.args.bytes.now c.args.message.now sevens (rw c.as_chunks.ensures.front at rw c.in_err-size.ensures.ok_part at c.message_size.ensures))
 
-pub put_records-requires : goal.put_records-requires
-put_records-requires c =
-    let n = c.message_size-n in
-    fits c.args.table.now c.args.bytes.now c.args.message.now n.result n.ensures c.if-n-eq0.false c.if-message-n.false
+pub returns-then-message-size : goal.returns-then-message-size
+returns-then-message-size c =
+    let sevens : length c.args.table.now % 7 ≡ 0 = omega (arith, c.as_chunks.ensures.back_len) in
+    answers-short c.args.table.now c.args.bytes.now c.args.message.now sevens c.in_ok-size.size (rw c.as_chunks.ensures.front at rw c.in_ok-size.ensures.ok_part at c.message_size.ensures) c.if-message-size.true
 
 pub returns : goal.returns
 returns c =
-    let n = c.message_size-n in
-    answers-message c.args.table.now c.args.bytes.now c.args.message.now n.result n.ensures c.if-n-eq0.false c.if-message-n.false _ c.put_records.ensures
+    let sevens : length c.args.table.now % 7 ≡ 0 = omega (arith, c.as_chunks.ensures.back_len) in
+    answers-message c.args.table.now c.args.bytes.now c.args.message.now sevens c.in_ok-size.size (rw c.as_chunks.ensures.front at rw c.in_ok-size.ensures.ok_part at c.message_size.ensures) c.if-message-size.false _
+    (rw c.as_chunks.ensures.front at c.put_records.ensures)
