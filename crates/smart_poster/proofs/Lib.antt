@@ -1,7 +1,6 @@
 -- Laws about URIs in messages, and what the code needs of them. Nothing here states a rule.
-pub mod RecordKinds
 pub mod Folding
-pub mod Moving
+pub mod Findings
 pub mod Walking
 pub mod Arms
 pub mod Answering

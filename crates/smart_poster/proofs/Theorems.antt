@@ -14,8 +14,9 @@ use Rattle.tag.specs.Bytes.{overwrite}
 use Rattle.tag.proofs.Logic.{nope}
 use Rattle.ndef.specs.Record.{Record}
 use Rattle.uri.specs.Payload.{uri, uri_of, is_uri}
-use Rattle.smart_poster.specs.declared.UriAnswer.{UriAnswer}
-use Rattle.smart_poster.specs.declared.UriAnswer.TheVariants as code
+use Rattle.std.specs.Prelude.{Result, Ok, Err, Option, Some, None}
+use Rattle.tag.specs.declared.refusals.Refusal.{Refusal}
+use Rattle.tag.specs.Answers.{number_of}
 use Rattle.smart_poster.specs.Records.{uri_record, poster_record}
 use Rattle.smart_poster.specs.Uris.{Uris, uris, refused, of_poster, deepest, uris_of}
 use Rattle.smart_poster.specs.First.{Found, none, found, first_in, in_room, first, found_into, told_of, told_as}
@@ -110,50 +111,50 @@ first-of-all = record {
 -- ---- the claims about the code's answers
 
 -- what was found, where the code answers so
-abbrev Answered : UriAnswer → Found → Type 0
-Answered (code.Refused k) f = f ≡ looked.refused k
-Answered code.Nothing f = f ≡ none
-Answered (code.Found n) f = (u : List ℕ) × (f ≡ found u) × (n ≡ length u)
+abbrev Answered : Result (Option ℕ) Refusal → Found → Type 0
+Answered (Err k) f = f ≡ looked.refused (number_of k)
+Answered (Ok None) f = f ≡ none
+Answered (Ok (Some n)) f = (u : List ℕ) × (f ≡ found u) × (n ≡ length u)
 
-answered : (r : UriAnswer) (f : Found) → told_as r ≡ told_of f → Answered r f
-answered (code.Refused k) (looked.refused j) e = cc
-answered (code.Refused k) none e = absurd (nope (cc))
-answered (code.Refused k) (found u) e = absurd (nope (cc))
-answered code.Nothing (looked.refused j) e = absurd (nope (cc))
-answered code.Nothing none e = refl
-answered code.Nothing (found u) e = absurd (nope (cc))
-answered (code.Found n) (looked.refused j) e = absurd (nope (cc))
-answered (code.Found n) none e = absurd (nope (cc))
-answered (code.Found n) (found u) e = (u, refl, cc)
+answered : (r : Result (Option ℕ) Refusal) (f : Found) → told_as r ≡ told_of f → Answered r f
+answered (Err k) (looked.refused j) e = cc
+answered (Err k) none e = absurd (nope (cc))
+answered (Err k) (found u) e = absurd (nope (cc))
+answered (Ok None) (looked.refused j) e = absurd (nope (cc))
+answered (Ok None) none e = refl
+answered (Ok None) (found u) e = absurd (nope (cc))
+answered (Ok (Some n)) (looked.refused j) e = absurd (nope (cc))
+answered (Ok (Some n)) none e = absurd (nope (cc))
+answered (Ok (Some n)) (found u) e = (u, refl, cc)
 
 module _ (s buffer : List ℕ) where
   abbrev it : Found
   it = first (length buffer) s
 
-  finds : (n : ℕ) (out : List ℕ) → FoundFirst s buffer (code.Found n) out
+  finds : (n : ℕ) (out : List ℕ) → FoundFirst s buffer (Ok (Some n)) out
       → (us : List (List ℕ)) × (uris_of s ≡ uris (take n out ∷ us)) × (length (take n out) ≡ n)
   finds n out (a, b) =
-      let (u, q, z) = answered (code.Found n) it a in
+      let (u, q, z) = answered (Ok (Some n)) it a in
       let (us, e, l) = looked-at (length buffer) s (found u) q in
       let laid : out ≡ overwrite u buffer = b ∙ ap (found_into buffer) q in
       let front : take n out ≡ u = ap (take n) laid ∙ ap (λ k. take k (overwrite u buffer)) z ∙ take-append_seam u (drop (length u) buffer) in
       (us, rw front e, rw front (sym z))
 
-  finds_none : (out : List ℕ) → FoundFirst s buffer code.Nothing out → (uris_of s ≡ uris []) × (out ≡ buffer)
-  finds_none out (a, b) = let q = answered code.Nothing it a in (looked-at (length buffer) s none q, b ∙ ap (found_into buffer) q)
+  finds_none : (out : List ℕ) → FoundFirst s buffer (Ok None) out → (uris_of s ≡ uris []) × (out ≡ buffer)
+  finds_none out (a, b) = let q = answered (Ok None) it a in (looked-at (length buffer) s none q, b ∙ ap (found_into buffer) q)
 
-  module _ (k : ℕ) (out : List ℕ) (w : FoundFirst s buffer (code.Refused k) out) where
-    abbrev is-refusal : it ≡ looked.refused k
-    is-refusal = answered (code.Refused k) it w.0
+  module _ (k : Refusal) (out : List ℕ) (w : FoundFirst s buffer (Err k) out) where
+    abbrev is-refusal : it ≡ looked.refused (number_of k)
+    is-refusal = answered (Err k) it w.0
 
-    abbrev why : Looked (length buffer) (uris_of s) (looked.refused k)
-    why = looked-at (length buffer) s (looked.refused k) is-refusal
+    abbrev why : Looked (length buffer) (uris_of s) (looked.refused (number_of k))
+    why = looked-at (length buffer) s (looked.refused (number_of k)) is-refusal
 
     -- not for want of room
-    with-room : length s + 26 ≤ length buffer → uris_of s ≡ refused k
+    with-room : length s + 26 ≤ length buffer → uris_of s ≡ refused (number_of k)
     with-room h = go why
       where
-        go : Looked (length buffer) (uris_of s) (looked.refused k) → uris_of s ≡ refused k
+        go : Looked (length buffer) (uris_of s) (looked.refused (number_of k)) → uris_of s ≡ refused (number_of k)
         go (inl e) = e
         go (inr (z, u, us, e, l)) = absurd (omega (arith, long-enough s (u ∷ us) e u (inl refl)))
 

@@ -1,11 +1,12 @@
 -- What is claimed of looking for URIs. Statements only; `proofs/Theorems.antt` proves them, and states nothing new.
 -- Assumes nothing.
-use Rattle.std.specs.Prelude.{◌≡◌, ◌↔◌, ◌⊎◌, true, List, [], ◌∷◌, ◌++◌, ℕ, zero, suc, ◌+◌, ◌≤◌, ◌<◌, length, take}
+use Rattle.std.specs.Prelude.{◌≡◌, ◌↔◌, ◌⊎◌, true, List, [], ◌∷◌, ◌++◌, ℕ, zero, suc, ◌+◌, ◌≤◌, ◌<◌, length, take, Ok, Err, Some, None}
+use Rattle.tag.specs.declared.refusals.Refusal.{Refusal}
 use Rattle.tag.specs.Refusals.{short_buffer}
+use Rattle.tag.specs.Answers.{number_of}
 use Rattle.ndef.specs.Record.{Record, ndef}
 use Rattle.ndef.specs.Message.{records, message_of}
 use Rattle.uri.specs.Payload.{uri, uri_of, is_uri}
-use Rattle.smart_poster.specs.declared.UriAnswer.TheVariants as code
 use Rattle.smart_poster.specs.Records.{Kind, uri_record, poster_record, kind_of}
 use Rattle.smart_poster.specs.Uris.{Uris, uris, refused, of_record, of_records, deepest, uris_of}
 use Rattle.smart_poster.specs.First.{first, none, found}
@@ -78,11 +79,11 @@ pub record FirstOfAll : Type 0 where
 -- ---- of what the code answers
 
 pub record Calls : Type 0 where
-  pub finds : (s buffer : List ℕ) (n : ℕ) (out : List ℕ) → FoundFirst s buffer (code.Found n) out
+  pub finds : (s buffer : List ℕ) (n : ℕ) (out : List ℕ) → FoundFirst s buffer (Ok (Some n)) out
       → (us : List (List ℕ)) × (uris_of s ≡ uris (take n out ∷ us)) × (length (take n out) ≡ n)
-  pub finds_none : (s buffer out : List ℕ) → FoundFirst s buffer code.Nothing out → (uris_of s ≡ uris []) × (out ≡ buffer)
-  pub refuses : (s buffer : List ℕ) (k : ℕ) (out : List ℕ) → FoundFirst s buffer (code.Refused k) out
+  pub finds_none : (s buffer out : List ℕ) → FoundFirst s buffer (Ok None) out → (uris_of s ≡ uris []) × (out ≡ buffer)
+  pub refuses : (s buffer : List ℕ) (e : Refusal) (out : List ℕ) → FoundFirst s buffer (Err e) out
       → (out ≡ buffer)
-      × ((uris_of s ≡ refused k) ⊎ ((k ≡ short_buffer) × (u : List ℕ) × (us : List (List ℕ)) × (uris_of s ≡ uris (u ∷ us)) × (length buffer < length u)))
-  pub room_enough : (s buffer : List ℕ) (k : ℕ) (out : List ℕ) → FoundFirst s buffer (code.Refused k) out → length s + 26 ≤ length buffer
-      → uris_of s ≡ refused k
+      × ((uris_of s ≡ refused (number_of e)) ⊎ ((number_of e ≡ short_buffer) × (u : List ℕ) × (us : List (List ℕ)) × (uris_of s ≡ uris (u ∷ us)) × (length buffer < length u)))
+  pub room_enough : (s buffer : List ℕ) (e : Refusal) (out : List ℕ) → FoundFirst s buffer (Err e) out → length s + 26 ≤ length buffer
+      → uris_of s ≡ refused (number_of e)

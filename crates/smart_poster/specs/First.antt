@@ -1,10 +1,10 @@
 -- The first URI of a message.
 -- Assumes nothing.
-use Rattle.std.specs.Prelude.{cond, List, [], ◌∷◌, ℕ, leb, length}
+use Rattle.std.specs.Prelude.{cond, List, [], ◌∷◌, ℕ, leb, length, Result, Ok, Err, Option, Some, None}
 use Rattle.tag.specs.Bytes.{overwrite}
 use Rattle.tag.specs.Refusals.{short_buffer}
-use Rattle.smart_poster.specs.declared.UriAnswer.{UriAnswer}
-use Rattle.smart_poster.specs.declared.UriAnswer.TheVariants as code
+use Rattle.tag.specs.declared.refusals.Refusal.{Refusal}
+use Rattle.tag.specs.Answers.{number_of}
 use Rattle.smart_poster.specs.Uris.{Uris, uris, uris_of}
 use Rattle.smart_poster.specs.Uris as all
 
@@ -47,7 +47,7 @@ told_of (refused r) = refuses r
 told_of none = tells_none
 told_of (found u) = tells (length u)
 
-abbrev pub told_as : UriAnswer → Told
-told_as (code.Refused r) = refuses r
-told_as code.Nothing = tells_none
-told_as (code.Found n) = tells n
+abbrev pub told_as : Result (Option ℕ) Refusal → Told
+told_as (Err e) = refuses (number_of e)
+told_as (Ok None) = tells_none
+told_as (Ok (Some n)) = tells n

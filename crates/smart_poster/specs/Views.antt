@@ -1,2 +1,2 @@
 -- What the code's values stand for.
-pub mod Spots
+pub mod Findings

@@ -12,10 +12,8 @@ use lib.Seq.{take_all}
 use borrow.Author.Tests.{ltb-true, ltb-false, lt-ltb, le-ltb, eqb-true, eqb-false}
 use Rattle.tag.proofs.Logic.{same-eq, true-false}
 use Rattle.tag.proofs.Same.{same-lengths}
-use Rattle.uri.specs.declared.shorten.Choice.{Choice}
 use Rattle.uri.specs.Prefixes.{codes, prefixes, prefix}
 use Rattle.uri.specs.Payload.{begins, longest_of, longest}
-use Rattle.uri.specs.Views.Choosing.{Best}
 
 -- ---- beginnings
 
@@ -113,33 +111,26 @@ module _ (u : List ℕ) where
   pub prefix-rest : prefix (longest u) ++ drop (length (prefix (longest u))) u ≡ u
   prefix-rest = begins-whole (prefix (longest u)) u all-chosen.begins-it
 
--- ---- as the code has it
+  pub longest_inside : length (prefix (longest u)) ≤ length u
+  longest_inside = begins-inside (prefix (longest u)) u all-chosen.begins-it
 
-pub best_none : (u : List ℕ) → Best 0 u (record { code = 0; len = 0 })
-unfolding longest_of prefixes
-best_none u = record { code_is = refl; len_is = refl; code_small = omega arith; inside = omega arith }
+-- ---- as the code goes through them
 
-module _ (n : ℕ) (u : List ℕ) (best : Choice) (w : Best n u best) where
-  as_before : longest_of (suc n) u ≡ longest_of n u → Best (n + 1) u best
-  as_before e = rw add-one record {
-    code_is = w.code_is ∙ sym e;
-    len_is = w.len_is ∙ ap (λ c. length (prefix c)) (sym e);
-    code_small = w.code_small;
-    inside = w.inside;
-  }
+-- the choice among the first n, and the length of its prefix
+abbrev pub Best : ℕ → List ℕ → ℕ → ℕ → Type 0
+Best n u best len = (best ≡ longest_of n u) × (len ≡ length (prefix (longest_of n u)))
 
-  pub best-kept : length (prefix n) ≤ best.len → Best (n + 1) u best
-  best-kept h = as_before (no_longer n u (omega (arith, w.len_is)))
+module _ (n : ℕ) (u : List ℕ) (best len : ℕ) (w : Best n u best len) (p : List ℕ) (e : p ≡ prefix n) where
+  kept : longest_of (suc n) u ≡ longest_of n u → Best (n + 1) u best len
+  kept q = rw (add-one, q) w
 
-  pub best-no-beginning : begins (prefix n) u ≡ false → Best (n + 1) u best
-  best-no-beginning e = as_before (no-beginning n u e)
+  pub best_new : len < length p → begins p u ≡ true → Best (n + 1) u n (length p)
+  best_new h b =
+      let q : longest_of (suc n) u ≡ n = longer n u (ap (λ r. begins r u) (sym e) ∙ b) (omega (arith, w.1, ap length e, h)) in
+      rw (add-one, q) (refl, ap length e)
 
-  pub best-new : n < codes → (len : ℕ) → len ≡ length (prefix n) → best.len < len → begins (prefix n) u ≡ true → Best (n + 1) u (record { code = n; len = len })
-  best-new k len l h e =
-      let now : longest_of (suc n) u ≡ n = longer n u e (omega (arith, w.len_is)) in
-      rw add-one record {
-        code_is = sym now;
-        len_is = l ∙ ap (λ c. length (prefix c)) (sym now);
-        code_small = k;
-        inside = omega (arith, begins-inside (prefix n) u e);
-      }
+  pub best_not_longer : length p ≤ len → Best (n + 1) u best len
+  best_not_longer h = kept (no_longer n u (omega (arith, w.1, ap length e, h)))
+
+  pub best_no_beginning : len < length p → begins p u ≡ false → Best (n + 1) u best len
+  best_no_beginning h b = kept (no-beginning n u (ap (λ r. begins r u) (sym e) ∙ b))

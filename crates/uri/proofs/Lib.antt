@@ -1,9 +1,7 @@
 -- Laws about URIs and their prefixes, and what the code needs of them. Nothing here states a rule.
-pub mod Rows
-pub mod Parts
 pub mod Choosing
 pub mod Expanding
 pub mod Distinct
 pub mod Theorems
 pub mod Specimens
-pub mod Sixteens
+pub mod Table

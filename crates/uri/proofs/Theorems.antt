@@ -11,8 +11,9 @@ use lib.Dec.{ltb, leb}
 use lib.ListN.{length, take, drop, length-append, length-drop}
 use lib.Seq.{take-append_seam, drop-append_seam}
 use borrow.Author.Tests.{ltb-true, ltb-false, le-leb, lt-leb, leb-false}
-use Rattle.tag.specs.declared.CountAnswer.{CountAnswer}
-use Rattle.tag.specs.declared.CountAnswer.TheVariants as counted
+use Rattle.std.specs.Prelude.{Result, Ok}
+use Rattle.tag.specs.declared.refusals.Refusal.{Refusal}
+use Rattle.tag.specs.declared.refusals.Refusal.TheVariants.{BadUri, ShortBuffer}
 use Rattle.tag.specs.TagType.{Output, refused_output, output, fitted}
 use Rattle.tag.specs.PublicContracts.{PutOut}
 use Rattle.tag.proofs.Logic.{nope, same-eq, same_refl}
@@ -177,14 +178,14 @@ refuses-exactly = record {
 -- ---- the claims about the code's answers
 
 -- bytes that fit are counted, and lie at the buffer's front
-put_front : (o : ℕ → Output) (buffer out : List ℕ) (r : CountAnswer) (bs : List ℕ) → PutOut o buffer r out
-    → o (length buffer) ≡ for-room (length buffer) bs → length bs ≤ length buffer → (r ≡ counted.Count (length bs)) × (take (length bs) out ≡ bs)
+put_front : (o : ℕ → Output) (buffer out : List ℕ) (r : Result ℕ Refusal) (bs : List ℕ) → PutOut o buffer r out
+    → o (length buffer) ≡ for-room (length buffer) bs → length bs ≤ length buffer → (r ≡ Ok (length bs)) × (take (length bs) out ≡ bs)
 put_front o buffer out r bs w e h =
     let a = put_all o buffer out r (length bs) bs w (e ∙ fits (length buffer) bs h) in
     (a.0, ap (take (length bs)) a.1 ∙ take-append_seam bs (drop (length bs) buffer))
 
 -- shortening that gave a count: the payload lies at the buffer's front
-shortened : (u buffer : List ℕ) (n : ℕ) (out : List ℕ) → ShortenedTo u buffer (counted.Count n) out → take n out ≡ payload_of u
+shortened : (u buffer : List ℕ) (n : ℕ) (out : List ℕ) → ShortenedTo u buffer (Ok n) out → take n out ≡ payload_of u
 shortened u buffer n out w =
     let p = put-counted (λ room. shorten room u) buffer out n w in
     let g = given (length buffer) (payload_of u) n p.0 p.1 in
@@ -194,7 +195,7 @@ pub calls : Calls
 calls = record {
   there_and_back = λ u buffer n out buffer' r out' h w v.
       put_front (λ room. expand room (take n out)) buffer' out' r u v (rw (shortened u buffer n out w) (ap (expand_by (length buffer')) (back u))) h;
-  bad = λ p buffer r out w. Iff.trans (refused-exactly (expand (length buffer) p) r 34 w.0) (bad-exactly (length buffer) p);
-  too_long = λ p buffer r out w. Iff.trans (refused-exactly (expand (length buffer) p) r 12 w.0) (too_long_exactly (length buffer) p);
+  bad = λ p buffer r out w. Iff.trans (refused-exactly (expand (length buffer) p) r BadUri w.0) (bad-exactly (length buffer) p);
+  too_long = λ p buffer r out w. Iff.trans (refused-exactly (expand (length buffer) p) r ShortBuffer w.0) (too_long_exactly (length buffer) p);
   shortens = λ u buffer r out w h. put_front (λ room. shorten room u) buffer out r (payload_of u) w refl h;
 }

@@ -1,8 +1,8 @@
 -- What is claimed of expanding and shortening. Statements only; `proofs/Theorems.antt` proves them, and states nothing new.
 -- Assumes nothing.
-use Rattle.std.specs.Prelude.{◌≡◌, ◌↔◌, true, List, ◌∷◌, ◌++◌, ℕ, ◌≤◌, ◌<◌, length, take}
-use Rattle.tag.specs.declared.CountAnswer.{CountAnswer}
-use Rattle.tag.specs.declared.CountAnswer.TheVariants as counted
+use Rattle.std.specs.Prelude.{◌≡◌, ◌↔◌, true, List, ◌∷◌, ◌++◌, ℕ, ◌≤◌, ◌<◌, length, take, Result, Ok, Err}
+use Rattle.tag.specs.declared.refusals.Refusal.{Refusal}
+use Rattle.tag.specs.declared.refusals.Refusal.TheVariants.{ShortBuffer, BadUri}
 use Rattle.tag.specs.Refusals.{short_buffer, bad_uri}
 use Rattle.tag.specs.TagType.{refused_output, output, fitted}
 use Rattle.uri.specs.Prefixes.{codes, prefixes, prefix}
@@ -50,11 +50,11 @@ pub record RefusesExactly : Type 0 where
 
 -- What the calls answer by their contracts: a URI shortened and expanded again is the same URI, in every buffer that has room for it.
 pub record Calls : Type 0 where
-  pub there_and_back : (u buffer : List ℕ) (n : ℕ) (out buffer' : List ℕ) (r : CountAnswer) (out' : List ℕ) → length u ≤ length buffer'
-      → ShortenedTo u buffer (counted.Count n) out → ExpandedTo (take n out) buffer' r out' → (r ≡ counted.Count (length u)) × (take (length u) out' ≡ u)
-  pub bad : (p buffer : List ℕ) (r : CountAnswer) (out : List ℕ) → ExpandedTo p buffer r out
-      → (r ≡ counted.Refused bad_uri) ↔ ((u : List ℕ) → StandsFor p u → ⊥)
-  pub too_long : (p buffer : List ℕ) (r : CountAnswer) (out : List ℕ) → ExpandedTo p buffer r out
-      → (r ≡ counted.Refused short_buffer) ↔ ((u : List ℕ) × StandsFor p u × (length buffer < length u))
-  pub shortens : (u buffer : List ℕ) (r : CountAnswer) (out : List ℕ) → ShortenedTo u buffer r out → length (payload_of u) ≤ length buffer
-      → (r ≡ counted.Count (length (payload_of u))) × (take (length (payload_of u)) out ≡ payload_of u)
+  pub there_and_back : (u buffer : List ℕ) (n : ℕ) (out buffer' : List ℕ) (r : Result ℕ Refusal) (out' : List ℕ) → length u ≤ length buffer'
+      → ShortenedTo u buffer (Ok n) out → ExpandedTo (take n out) buffer' r out' → (r ≡ Ok (length u)) × (take (length u) out' ≡ u)
+  pub bad : (p buffer : List ℕ) (r : Result ℕ Refusal) (out : List ℕ) → ExpandedTo p buffer r out
+      → (r ≡ Err BadUri) ↔ ((u : List ℕ) → StandsFor p u → ⊥)
+  pub too_long : (p buffer : List ℕ) (r : Result ℕ Refusal) (out : List ℕ) → ExpandedTo p buffer r out
+      → (r ≡ Err ShortBuffer) ↔ ((u : List ℕ) × StandsFor p u × (length buffer < length u))
+  pub shortens : (u buffer : List ℕ) (r : Result ℕ Refusal) (out : List ℕ) → ShortenedTo u buffer r out → length (payload_of u) ≤ length buffer
+      → (r ≡ Ok (length (payload_of u))) × (take (length (payload_of u)) out ≡ payload_of u)

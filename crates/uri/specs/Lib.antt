@@ -5,4 +5,3 @@ pub mod Payload
 pub mod PublicContracts
 pub mod Specimens
 pub mod Claims
-pub mod Views

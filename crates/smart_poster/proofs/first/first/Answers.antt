@@ -1,34 +1,16 @@
-use Rattle.std.proofs.Common.{sym, ap, ◌∙◌}
-use Rattle.tag.specs.declared.CountAnswer.TheVariants as counted
-use Rattle.smart_poster.specs.Views.Spots.{found_at}
-use Rattle.smart_poster.proofs.Arms.{cut}
-use Rattle.smart_poster.proofs.Answering.{answers-refused, answers-none, answers-uri}
+use Rattle.std.proofs.Common.{Ok, ap, sym, ◌∙◌}
+use Rattle.std.proofs.lemmas.Result.{err_from_is_err_and}
+use Rattle.smart_poster.specs.Views.Findings.{found_of}
+use Rattle.smart_poster.proofs.Answering.{refused-first, found-first}
 use Rattle.smart_poster.proofs.first.first.Goals as goal
 
-pub returns-in-Refused : goal.returns-in-Refused
-returns-in-Refused c =
-    let a = c.args in
-    let m = c.message_uri-spot in
-    answers-refused a.message.now a.buffer.now _ (ap (found_at a.message.now) (sym c.in-Refused.is) ∙ m.ensures.is)
+pub returns-in_err-expand-in-Some : goal.returns-in_err-expand-in-Some
+returns-in_err-expand-in-Some c =
+    let p = err_from_is_err_and c.from_residual-in_err-expand-in-Some.result c.from_residual-in_err-expand-in-Some.ensures.1 in
+    let here = ap (λ o. found_of (Ok o)) (sym c.in-Some.is) ∙ c.in_ok-payload.ensures.is in
+    rw (p.1, p.2) (refused-first c.args.buffer.now c.args.message.now c.in-Some.payload.now here _ _ c.in_err-expand-in-Some.ensures)
 
-pub returns-in-Nothing : goal.returns-in-Nothing
-returns-in-Nothing c =
-    let a = c.args in
-    let m = c.message_uri-spot in
-    answers-none a.message.now a.buffer.now (ap (found_at a.message.now) (sym c.in-Nothing.is) ∙ m.ensures.is)
-
-pub returns-in-Refused-expanded : goal.returns-in-Refused-expanded
-returns-in-Refused-expanded c =
-    let a = c.args in
-    let m = c.message_uri-spot in
-    let x = c.expand-expanded in
-    let w = rw (cut a.message.now c.in-At.at c.in-At.len) at x.ensures in
-    answers-uri a.message.now a.buffer.now m.result _ _ c.in-At.is m.ensures.is x.result (counted.Refused _) _ w c.in-Refused-expanded.is
-
-pub returns-in-Count : goal.returns-in-Count
-returns-in-Count c =
-    let a = c.args in
-    let m = c.message_uri-spot in
-    let x = c.expand-expanded in
-    let w = rw (cut a.message.now c.in-At.at c.in-At.len) at x.ensures in
-    answers-uri a.message.now a.buffer.now m.result _ _ c.in-At.is m.ensures.is x.result (counted.Count _) _ w c.in-Count.is
+pub returns-in_ok-expand-in-Some : goal.returns-in_ok-expand-in-Some
+returns-in_ok-expand-in-Some c =
+    let here = ap (λ o. found_of (Ok o)) (sym c.in-Some.is) ∙ c.in_ok-payload.ensures.is in
+    found-first c.args.buffer.now c.args.message.now c.in-Some.payload.now here _ _ c.in_ok-expand-in-Some.ensures

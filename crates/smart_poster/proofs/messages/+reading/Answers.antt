@@ -1,88 +1,78 @@
-use Rattle.std.proofs.Common.{sym, arith}
-use Rattle.tag.proofs.Octets.{octets-of}
-use Rattle.smart_poster.specs.Uris.{of_poster}
-use Rattle.smart_poster.proofs.Walking.{at-start, at-end, number-there, number_fits, place-lies, place-further, stopped, gone-on}
-use Rattle.smart_poster.proofs.Arms.{cut, other-gives, uri-gives, too-deep, poster-gives, poster-stands, unreadable, readable}
+use Rattle.std.proofs.Common.{◌∙◌, ap, rules, arith, refl}
+use Rattle.std.proofs.lemmas.Result.{err_from_is_err_and}
+use Rattle.smart_poster.specs.Uris.{of_kind, of_poster}
+use Rattle.smart_poster.specs.First.{first_in}
+use Rattle.smart_poster.proofs.Walking.{started, ended, fits, lies, shorter, failed, turned}
+use Rattle.smart_poster.proofs.Arms.{no-uri, too-deep, inside-it, unreadable}
 use Rattle.smart_poster.proofs.messages.+reading.Goals as goal
+use Rattle.smart_poster.proofs.messages.+reading.Goals.{record_uri-in-Uri, record_uri-in-Poster-2+in_ok-found-in-Poster-2, record_uri-in-Other}
 
-pub message_with-records_uri-requires : goal.message_with-records_uri-requires
-message_with-records_uri-requires t c =
-    let a = c.args in
-    let k = c.keep_headers-counted in
-    let o = octets-of a.message.now (λ n. omega (arith, c.type_inv.message n)) in
-    (omega (arith, c.decreases), readable a.message.now k.result k.ensures.is o _ a.kept.now _ c.in-Count.is k.ensures.keeps)
+pub message_uri-returns-in_err-headers-clause-is : goal.message_uri-returns-in_err-headers-clause-is
+message_uri-returns-in_err-headers-clause-is t c =
+    let p = err_from_is_err_and c.from_residual.result c.from_residual.ensures.1 in
+    rw (p.1, p.2) (unreadable (of_poster c.args.posters) c.args.message.now _ c.in_err-headers.ensures)
 
-pub message_with-returns-in-Refused-clause-is : goal.message_with-returns-in-Refused-clause-is
-message_with-returns-in-Refused-clause-is t c =
-    let k = c.keep_headers-counted in
-    unreadable c.args.message.now k.result k.ensures.is (of_poster c.args.posters) _ c.in-Refused.is
+pub message_uri-loop-header-init : goal.message_uri-loop-header-init
+message_uri-loop-header-init t c = started (of_poster c.args.posters) c.args.message.now _ (rw c.deref-header-items.ensures.0 c.in_ok-headers.ensures)
 
-pub record_uri-returns-then-posters-eq0-clause-is : goal.record_uri-returns-then-posters-eq0-clause-is
-record_uri-returns-then-posters-eq0-clause-is t c = too-deep c.args.message.now c.args.p c.args.posters c.in-Poster.ensures c.if-posters-eq0.true
+pub message_uri-place-place-requires : goal.message_uri-place-place-requires
+message_uri-place-place-requires t c = omega (arith, fits c.loop-header.invariant c.loop-header-test.true)
 
-pub record_uri-returns-in-Other-clause-is : goal.record_uri-returns-in-Other-clause-is
-record_uri-returns-in-Other-clause-is t c = other-gives c.args.message.now c.args.p (of_poster c.args.posters) c.in-Other.ensures
+pub message_uri-overflow_add-at : goal.message_uri-overflow_add-at
+message_uri-overflow_add-at t c = omega (arith, fits c.loop-header.invariant c.loop-header-test.true)
 
-pub record_uri-returns-in-Uri-clause-is : goal.record_uri-returns-in-Uri-clause-is
-record_uri-returns-in-Uri-clause-is t c = uri-gives c.args.message.now c.args.p (of_poster c.args.posters) c.in-Uri.ensures _ c.uri_record.ensures.is
+pub message_uri-of-requires : goal.message_uri-of-requires
+message_uri-of-requires t c = (lies c.loop-header.invariant c.loop-header-test.true _ c.place-place.ensures).type_inside
 
-pub record_uri-returns-else-posters-eq0-clause-is : goal.record_uri-returns-else-posters-eq0-clause-is
-record_uri-returns-else-posters-eq0-clause-is t c =
-    let a = c.args in
-    let m = c.message_uri-found in
-    let is = rw (cut a.message.now a.p.payload.at a.p.payload.len) at m.ensures.is in
-    let stands = rw (cut a.message.now a.p.payload.at a.p.payload.len) at m.ensures.stands in
-    rw c.moved.ensures (poster-gives a.message.now a.p a.posters c.in-Poster.ensures c.requires m.result stands c.if-posters-eq0.false is)
+pub message_uri-of-payload-requires : goal.message_uri-of-payload-requires
+message_uri-of-payload-requires t c = (lies c.loop-header.invariant c.loop-header-test.true _ c.place-place.ensures).payload_inside
 
-pub record_uri-returns-else-posters-eq0-clause-stands : goal.record_uri-returns-else-posters-eq0-clause-stands
-record_uri-returns-else-posters-eq0-clause-stands t c =
-    let a = c.args in
-    let m = c.message_uri-found in
-    let stands = rw (cut a.message.now a.p.payload.at a.p.payload.len) at m.ensures.stands in
-    rw c.moved.ensures (poster-stands a.message.now a.p c.requires m.result stands)
+pub message_uri-record_uri-requires : goal.message_uri-record_uri-requires
+message_uri-record_uri-requires t c =
+    let less = shorter c.loop-header.invariant c.loop-header-test.true _ c.place-place.ensures _ c.of-payload.ensures in
+    (omega (arith, c.decreases, less), tt)
 
-pub records_uri-loop-at-init : goal.records_uri-loop-at-init
-records_uri-loop-at-init t c = at-start (of_poster c.args.posters) c.args.message.now c.args.kept.now c.requires
+pub message_uri-returns-in_err-record_uri-clause-is : goal.message_uri-returns-in_err-record_uri-clause-is
+message_uri-returns-in_err-record_uri-clause-is t c =
+    let p = err_from_is_err_and c.from_residual-in_err-record_uri.result c.from_residual-in_err-record_uri.ensures.1 in
+    let here = failed c.loop-header.invariant c.loop-header-test.true _ c.place-place.ensures in
+    rw (p.1, p.2) (here _ (rw c.of.ensures at c.of-kind.ensures) _ c.of-payload.ensures _ c.in_err-record_uri.ensures.is)
 
-pub records_uri-bounds-kept-i : goal.records_uri-bounds-kept-i
-records_uri-bounds-kept-i t c = number-there (of_poster c.args.posters) c.args.message.now c.args.kept.now c.loop-at.invariant c.loop-at-test.true
+pub message_uri-loop-header-preserved : goal.message_uri-loop-header-preserved
+message_uri-loop-header-preserved t c =
+    let on = turned c.loop-header.invariant c.loop-header-test.true _ c.place-place.ensures in
+    let here = on _ (rw c.of.ensures at c.of-kind.ensures) _ c.of-payload.ensures in
+    rw (c.or-first.ensures, c.record_len.ensures) (here _ c.in_ok-record_uri.ensures.is c.in_ok-record_uri.ensures.stands)
 
-pub records_uri-place_by-p-requires : goal.records_uri-place_by-p-requires
-records_uri-place_by-p-requires t c =
-    let a = c.args in
-    omega (arith, number_fits (of_poster a.posters) a.message.now a.kept.now c.loop-at.invariant c.loop-at-test.true)
+pub message_uri-returns-clause-is : goal.message_uri-returns-clause-is
+message_uri-returns-clause-is t c = ended c.loop-header.invariant c.loop-header-test.false
 
-pub records_uri-record_uri-found-requires : goal.records_uri-record_uri-found-requires
-records_uri-record_uri-found-requires t c =
-    let a = c.args in
-    let l = place-lies (of_poster a.posters) a.message.now a.kept.now c.loop-at.invariant c.loop-at-test.true c.place_by-p.result c.place_by-p.ensures in
-    (omega (arith, c.decreases, l.payload_shorter), l)
+pub record_uri-returns-in-Uri-2-clause-is : goal.record_uri-returns-in-Uri-2-clause-is
+unfolding of_kind
+record_uri-returns-in-Uri-2-clause-is t c = rw c.in-Uri-2.is (no-uri c.args.payload.now (search rules))
 
-pub records_uri-returns-then-is_refused-clause-is : goal.records_uri-returns-then-is_refused-clause-is
-records_uri-returns-then-is_refused-clause-is t c =
-    let a = c.args in
-    let p = c.place_by-p in
-    let r = c.record_uri-found in
-    stopped (of_poster a.posters) a.message.now a.kept.now c.loop-at.invariant c.loop-at-test.true p.result p.ensures r.result r.ensures.is (sym c.if-is_refused.ensures)
+pub record_uri-returns-in-Poster-clause-is : goal.record_uri-returns-in-Poster-clause-is
+unfolding of_kind
+record_uri-returns-in-Poster-clause-is t c = rw c.in-Poster.is (too-deep c.args.payload.now c.args.posters c.if-posters-eq0.true)
 
-pub records_uri-overflow_add-at : goal.records_uri-overflow_add-at
-records_uri-overflow_add-at t c =
-    let a = c.args in
-    omega (arith, (place-lies (of_poster a.posters) a.message.now a.kept.now c.loop-at.invariant c.loop-at-test.true c.place_by-p.result c.place_by-p.ensures).payload_inside)
+pub record_uri-returns-in_err-found-in-Poster-2-clause-is : goal.record_uri-returns-in_err-found-in-Poster-2-clause-is
+unfolding of_kind
+record_uri-returns-in_err-found-in-Poster-2-clause-is t c =
+    let p = err_from_is_err_and c.from_residual.result c.from_residual.ensures.1 in
+    rw (p.1, p.2, c.in-Poster-2.is) (c.in_err-found-in-Poster-2.ensures.is ∙ ap first_in (inside-it c.args.payload.now c.args.posters c.if-posters-eq0.false))
 
-pub records_uri-loop-at-smaller : goal.records_uri-loop-at-smaller
-records_uri-loop-at-smaller t c =
-    let a = c.args in
-    let further = place-further (of_poster a.posters) a.message.now a.kept.now c.loop-at.invariant c.loop-at-test.true c.place_by-p.result c.place_by-p.ensures in
-    omega (arith, c.loop-at-test.true, further)
+pub record_uri-returns-clause-is : goal.record_uri-returns-clause-is
+unfolding of_kind first_in
+record_uri-returns-clause-is t c = elim c.match-kind.branch [
+  | record_uri-in-Uri w ↦ rw (w.found-is, w.in-Uri.is) refl
+  | record_uri-in-Poster-2+in_ok-found-in-Poster-2 w ↦
+      rw (w.found-is, w.in-Poster-2.is) (w.in_ok-found-in-Poster-2.ensures.is ∙ ap first_in (inside-it c.args.payload.now c.args.posters w.if-posters-eq0.false))
+  | record_uri-in-Other w ↦ rw (w.found-is, w.in-Other.is) refl
+]
 
-pub records_uri-loop-at-preserved : goal.records_uri-loop-at-preserved
-records_uri-loop-at-preserved t c =
-    let a = c.args in
-    let p = c.place_by-p in
-    let r = c.record_uri-found in
-    rw c.earlier-first.ensures
-    (gone-on (of_poster a.posters) a.message.now a.kept.now c.loop-at.invariant c.loop-at-test.true p.result p.ensures r.result r.ensures.is (sym c.if-is_refused.ensures) r.ensures.stands)
-
-pub records_uri-returns-clause-is : goal.records_uri-returns-clause-is
-records_uri-returns-clause-is t c = at-end (of_poster c.args.posters) c.args.message.now c.args.kept.now c.loop-at.invariant (omega arith)
+pub record_uri-returns-clause-stands : goal.record_uri-returns-clause-stands
+record_uri-returns-clause-stands t c = elim c.match-kind.branch [
+  | record_uri-in-Uri w ↦ rw w.found-is (search rules)
+  | record_uri-in-Poster-2+in_ok-found-in-Poster-2 w ↦ rw w.found-is w.in_ok-found-in-Poster-2.ensures.stands
+  | record_uri-in-Other w ↦ rw w.found-is tt
+]

@@ -1,3 +1,0 @@
--- What the code's values stand for.
-pub mod Rows
-pub mod Choosing
