@@ -8,17 +8,10 @@ ghost use Rattle.std.specs.Prelude.{◌≡◌, length};
 ghost use Rattle.tag.specs.Bytes.{Octets};
 ghost use Rattle.demands.specs.Code2.{codec2, codec3, codec6};
 
-use tag::Block;
-use type3_commands::commands;
-
 // The elements of a slice of bytes are octets.
 pub fn octets(bytes: &[u8])
     ensures { Octets bytes.now }
-{
-    if bytes.len() > 0 {
-        let _first = bytes[0];
-    }
-}
+{}
 
 // The IDm that a caller of Type 3 states has eight bytes.
 pub fn eight(idm: &[u8; 8])
@@ -34,13 +27,6 @@ pub fn whole_type2(command: type2::Command, blocks: usize)
 
 pub fn whole_type3(command: type3_commands::Command, idm: &[u8; 8], nbw: usize, nmaxb: usize)
     ensures { (codec3 idm.now nbw nmaxb).Whole command }
-{
-    let blocks = command.blocks;
-    eight_blocks(blocks);
-}
-
-fn eight_blocks(blocks: [Block; commands::MOST_BLOCKS])
-    ensures { length blocks ≡ 8 }
 {}
 
 pub fn whole_type6(command: type6::Command, size: usize, blocks: usize)

@@ -3,6 +3,7 @@
 
 #![tactic(auto)]
 
+mod images;
 mod print;
 mod type2_tags;
 mod type3_tags;
@@ -13,30 +14,30 @@ use std::io;
 // Four skipped bytes inside the message; 38 usable bytes follow the type byte.
 fn interrupted(rt: &impl Print) -> io::Result<()> {
     let front = b"\xE1\x10\x06\x00\x02\x03\x18\x04\x04\x03\x03\xD0\x11\x22\x33\x44\x00\x00\xFE";
-    type2_tags::read(rt, b"interrupted", front)?;
+    type2_tags::read(rt, "interrupted", front)?;
     let fits = [0xD0u8; 37];
-    type2_tags::write(rt, b"interrupted, 37 bytes", front, &fits)?;
+    type2_tags::write(rt, "interrupted, 37 bytes", front, &fits)?;
     let too_long = [0xD0u8; 38];
-    type2_tags::write(rt, b"interrupted, 38 bytes", front, &too_long)
+    type2_tags::write(rt, "interrupted, 38 bytes", front, &too_long)
 }
 
 // In C.7 and C.8 the document stops before address 28. By 01 the lock area is address 24 alone, so the next type byte is at 27.
 fn appendix_c(rt: &impl Print) -> io::Result<()> {
-    type2_tags::read(rt, b"C.2.1", b"\xE1\x10\x06\x00\x03\x03\xD0\x00\x00\xFE")?;
-    type2_tags::read(rt, b"C.2.2", b"\xE1\x10\x06\x00\x03\x00\xFE")?;
+    type2_tags::read(rt, "C.2.1", b"\xE1\x10\x06\x00\x03\x03\xD0\x00\x00\xFE")?;
+    type2_tags::read(rt, "C.2.2", b"\xE1\x10\x06\x00\x03\x00\xFE")?;
     type2_tags::read(
         rt,
-        b"C.7, then D0 00 00 FE",
+        "C.7, then D0 00 00 FE",
         b"\xE1\x10\x0C\x00\x01\x03\xC0\x01\x31\x02\x03\xC1\x0F\x30\x03\x03\xD0\x00\x00\xFE",
     )?;
     type2_tags::read(
         rt,
-        b"C.7, then 00",
+        "C.7, then 00",
         b"\xE1\x10\x0C\x00\x01\x03\xC0\x01\x31\x02\x03\xC1\x0F\x30\x03\x03\x00",
     )?;
     type2_tags::read(
         rt,
-        b"C.8, then FE",
+        "C.8, then FE",
         b"\xE1\x10\x0C\x00\x01\x03\xC0\x01\x31\x02\x03\xC1\x0F\x30\x03\x00\xFE",
     )
 }
@@ -46,13 +47,13 @@ fn lengths(rt: &impl Print) -> io::Result<()> {
     let message = [0xD0u8; 35];
     type3_tags::write(
         rt,
-        b"35 bytes, Nbw 1",
+        "35 bytes, Nbw 1",
         b"\x10\x04\x01\x00\x0D\x00\x00\x00\x00\x00\x01\x00\x00\x23\x00\x46",
         &message,
     )?;
     type3_tags::write(
         rt,
-        b"35 bytes, Nbw 4",
+        "35 bytes, Nbw 4",
         b"\x10\x04\x04\x00\x0D\x00\x00\x00\x00\x00\x01\x00\x00\x23\x00\x49",
         &message,
     )
@@ -62,14 +63,14 @@ fn lengths(rt: &impl Print) -> io::Result<()> {
 fn empty_lists(rt: &impl Print) -> io::Result<()> {
     type2_tags::judge(
         rt,
-        b"empty list, message there",
+        "empty list, message there",
         b"\xE1\x10\x06\x00\x03\x03\xD0\x00\x00\xFE",
         b"\xD0\x00\x00",
         b"",
     )?;
     type2_tags::judge(
         rt,
-        b"empty list, another tag",
+        "empty list, another tag",
         b"\xE1\x10\x06\x00\x03\x00\xFE",
         b"\xD0\x00\x00",
         b"",
@@ -77,14 +78,14 @@ fn empty_lists(rt: &impl Print) -> io::Result<()> {
     let attributes = b"\x10\x04\x01\x00\x0D\x00\x00\x00\x00\x00\x01\x00\x00\x03\x00\x26";
     type3_tags::judge(
         rt,
-        b"Type 3, empty list, message there",
+        "Type 3, empty list, message there",
         attributes,
         b"\x00\x00\x00",
         b"",
     )?;
     type3_tags::judge(
         rt,
-        b"Type 3, empty list, another tag",
+        "Type 3, empty list, another tag",
         attributes,
         b"\xD0\x00\x00",
         b"",
@@ -92,7 +93,7 @@ fn empty_lists(rt: &impl Print) -> io::Result<()> {
 }
 
 // Judges a list that is to write D0 00 01 to the empty tag.
-fn judge_foreign(rt: &impl Print, name: &[u8], list: &[u8]) -> io::Result<()> {
+fn judge_foreign(rt: &impl Print, name: &str, list: &[u8]) -> io::Result<()> {
     type2_tags::judge(
         rt,
         name,
@@ -106,88 +107,88 @@ fn judge_foreign(rt: &impl Print, name: &[u8], list: &[u8]) -> io::Result<()> {
 fn foreign_lists(rt: &impl Print) -> io::Result<()> {
     judge_foreign(
         rt,
-        b"block 5 first",
+        "block 5 first",
         b"\xA2\x05\x01\xFE\x00\x00\xA2\x04\x03\x03\xD0\x00",
     )?;
     judge_foreign(
         rt,
-        b"block 3 named",
+        "block 3 named",
         b"\xA2\x05\x01\xFE\x00\x00\xA2\x03\xE1\x10\x06\x00",
     )?;
-    judge_foreign(rt, b"block 6 changed", b"\xA2\x06\x01\x00\x00\x00")?;
+    judge_foreign(rt, "block 6 changed", b"\xA2\x06\x01\x00\x00\x00")?;
     judge_foreign(
         rt,
-        b"length first",
+        "length first",
         b"\xA2\x04\x03\x03\xD0\x00\xA2\x05\x01\xFE\x00\x00",
     )?;
-    judge_foreign(rt, b"broken off", b"\xA2\x05\x01\xFE\x00\x00")
+    judge_foreign(rt, "broken off", b"\xA2\x05\x01\xFE\x00\x00")
 }
 
 // E1: versions on each side of the limits. A Type 3 tag's checksum is tested first.
 fn versions(rt: &impl Print) -> io::Result<()> {
     type2_tags::read(
         rt,
-        b"version 00h",
+        "version 00h",
         b"\xE1\x00\x06\x00\x03\x03\xD0\x00\x00\xFE",
     )?;
     type2_tags::read(
         rt,
-        b"version 01h",
+        "version 01h",
         b"\xE1\x01\x06\x00\x03\x03\xD0\x00\x00\xFE",
     )?;
     type2_tags::read(
         rt,
-        b"version 0Fh",
+        "version 0Fh",
         b"\xE1\x0F\x06\x00\x03\x03\xD0\x00\x00\xFE",
     )?;
     type2_tags::read(
         rt,
-        b"version 11h",
+        "version 11h",
         b"\xE1\x11\x06\x00\x03\x03\xD0\x00\x00\xFE",
     )?;
     type2_tags::read(
         rt,
-        b"version 1Fh",
+        "version 1Fh",
         b"\xE1\x1F\x06\x00\x03\x03\xD0\x00\x00\xFE",
     )?;
     type2_tags::read(
         rt,
-        b"version 20h",
+        "version 20h",
         b"\xE1\x20\x06\x00\x03\x03\xD0\x00\x00\xFE",
     )?;
     type3_tags::read(
         rt,
-        b"Type 3, version 00h",
+        "Type 3, version 00h",
         b"\x00\x04\x01\x00\x0D\x00\x00\x00\x00\x00\x01\x00\x00\x03\x00\x16",
     )?;
     type3_tags::read(
         rt,
-        b"Type 3, version 01h",
+        "Type 3, version 01h",
         b"\x01\x04\x01\x00\x0D\x00\x00\x00\x00\x00\x01\x00\x00\x03\x00\x17",
     )?;
     type3_tags::read(
         rt,
-        b"Type 3, version 0Fh",
+        "Type 3, version 0Fh",
         b"\x0F\x04\x01\x00\x0D\x00\x00\x00\x00\x00\x01\x00\x00\x03\x00\x25",
     )?;
     type3_tags::read(
         rt,
-        b"Type 3, version 11h",
+        "Type 3, version 11h",
         b"\x11\x04\x01\x00\x0D\x00\x00\x00\x00\x00\x01\x00\x00\x03\x00\x27",
     )?;
     type3_tags::read(
         rt,
-        b"Type 3, version 1Fh",
+        "Type 3, version 1Fh",
         b"\x1F\x04\x01\x00\x0D\x00\x00\x00\x00\x00\x01\x00\x00\x03\x00\x35",
     )?;
     type3_tags::read(
         rt,
-        b"Type 3, version 20h",
+        "Type 3, version 20h",
         b"\x20\x04\x01\x00\x0D\x00\x00\x00\x00\x00\x01\x00\x00\x03\x00\x36",
     )?;
     type3_tags::read(
         rt,
-        b"Type 3, version 20h, wrong checksum",
+        "Type 3, version 20h, wrong checksum",
         b"\x20\x04\x01\x00\x0D\x00\x00\x00\x00\x00\x01\x00\x00\x03\x00\x37",
     )
 }
@@ -196,27 +197,27 @@ fn versions(rt: &impl Print) -> io::Result<()> {
 fn cards(rt: &impl Print) -> io::Result<()> {
     type6_tags::read(
         rt,
-        b"A.1",
+        "A.1",
         128,
         b"NDE\x10\x1F\x03\x00\x1E\x03\x00\xD0\x00\x00",
     )?;
     type6_tags::read(
         rt,
-        b"A.2",
+        "A.2",
         128,
         b"NDE\x10\x1F\x03\x00\x1E\x12\x00\xD1\x01\x0E\x55\x01nfc-forum.org",
     )?;
-    type6_tags::read(rt, b"7 bytes", 7, b"NDE\x10\x1F\x03\x00")?;
-    type6_tags::read(rt, b"NDF", 128, b"NDF\x10\x1F\x03\x00\x1E")?;
-    type6_tags::read(rt, b"Type 6, version 11h", 128, b"NDE\x11\x1F\x03\x00\x1E")?;
-    type6_tags::read(rt, b"access 0Fh", 128, b"NDE\x10\x1F\x03\x0F\x1E")?;
-    type6_tags::read(rt, b"one block short", 124, b"NDE\x10\x1F\x03\x00\x1E")?;
-    type6_tags::read(rt, b"MAX_LEN 31 of 30", 128, b"NDE\x10\x1F\x03\x00\x1F")?;
-    type6_tags::read(rt, b"MAX_LEN 0", 128, b"NDE\x10\x1F\x03\x00\x00")?;
-    type6_tags::read(rt, b"NLEN over m", 128, b"NDE\x10\x1F\x03\x00\x1E\x77\x00")?;
+    type6_tags::read(rt, "7 bytes", 7, b"NDE\x10\x1F\x03\x00")?;
+    type6_tags::read(rt, "NDF", 128, b"NDF\x10\x1F\x03\x00\x1E")?;
+    type6_tags::read(rt, "Type 6, version 11h", 128, b"NDE\x11\x1F\x03\x00\x1E")?;
+    type6_tags::read(rt, "access 0Fh", 128, b"NDE\x10\x1F\x03\x0F\x1E")?;
+    type6_tags::read(rt, "one block short", 124, b"NDE\x10\x1F\x03\x00\x1E")?;
+    type6_tags::read(rt, "MAX_LEN 31 of 30", 128, b"NDE\x10\x1F\x03\x00\x1F")?;
+    type6_tags::read(rt, "MAX_LEN 0", 128, b"NDE\x10\x1F\x03\x00\x00")?;
+    type6_tags::read(rt, "NLEN over m", 128, b"NDE\x10\x1F\x03\x00\x1E\x77\x00")?;
     type6_tags::read(
         rt,
-        b"blocks of 3",
+        "blocks of 3",
         15,
         b"NDE\x10\x04\x02\x00\x02\xAA\x01\x00\xBB",
     )
@@ -226,9 +227,9 @@ fn cards(rt: &impl Print) -> io::Result<()> {
 fn card_lengths(rt: &impl Print) -> io::Result<()> {
     let card = b"NDE\x10\x1F\x03\x00\x1E";
     let fits = [0xD0u8; 118];
-    type6_tags::write(rt, b"118 bytes of 118", 128, card, &fits)?;
+    type6_tags::write(rt, "118 bytes of 118", 128, card, &fits)?;
     let too_long = [0xD0u8; 119];
-    type6_tags::write(rt, b"119 bytes of 118", 128, card, &too_long)
+    type6_tags::write(rt, "119 bytes of 118", 128, card, &too_long)
 }
 
 // Writing to cards with blocks of one byte, and judging lists.
@@ -236,42 +237,42 @@ fn card_lists(rt: &impl Print) -> io::Result<()> {
     let card = b"NDE\x10\x1F\x03\x00\x1E";
     type6_tags::write(
         rt,
-        b"blocks of 1, too long",
+        "blocks of 1, too long",
         11,
         b"NDE\x10\x0A\x00\x00\x03",
         b"\xD0\xD0",
     )?;
     type6_tags::write(
         rt,
-        b"blocks of 1, read-only",
+        "blocks of 1, read-only",
         11,
         b"NDE\x10\x0A\x00\xFF\x03",
         b"\xD0",
     )?;
     type6_tags::judge(
         rt,
-        b"one command",
+        "one command",
         card,
         b"\xD0\x01",
         b"\x02\x21\x02\x02\x00\xD0\x01",
     )?;
     type6_tags::judge(
         rt,
-        b"flags 04h",
+        "flags 04h",
         card,
         b"\xD0\x01",
         b"\x04\x21\x02\x02\x00\xD0\x01",
     )?;
     type6_tags::judge(
         rt,
-        b"container changed",
+        "container changed",
         card,
         b"\xD0\x01",
         b"\x02\x21\x00NDF\x10",
     )?;
     type6_tags::judge(
         rt,
-        b"another length",
+        "another length",
         card,
         b"\xD0\x01",
         b"\x02\x21\x02\x01\x00\xD0\x01",
@@ -291,30 +292,26 @@ fn capacities_by_room(rt: &impl Print) -> io::Result<()> {
 
 // The capacity of read-only tags, of one being written, and of a card with blocks of one byte.
 fn capacities_by_state(rt: &impl Print) -> io::Result<()> {
-    type2_tags::read(
-        rt,
-        b"read-only",
-        b"\xE1\x10\x06\x0F\x03\x03\xD0\x00\x00\xFE",
-    )?;
+    type2_tags::read(rt, "read-only", b"\xE1\x10\x06\x0F\x03\x03\xD0\x00\x00\xFE")?;
     type3_tags::read(
         rt,
-        b"Type 3, read-only",
+        "Type 3, read-only",
         b"\x10\x04\x01\x00\x0D\x00\x00\x00\x00\x00\x00\x00\x00\x03\x00\x25",
     )?;
     type3_tags::read(
         rt,
-        b"Type 3, WriteFlag 0Fh",
+        "Type 3, WriteFlag 0Fh",
         b"\x10\x04\x01\x00\x0D\x00\x00\x00\x00\x0F\x01\x00\x00\x03\x00\x35",
     )?;
     type6_tags::read(
         rt,
-        b"Type 6, read-only",
+        "Type 6, read-only",
         128,
         b"NDE\x10\x1F\x03\xFF\x1E\x03\x00\xD0\x00\x00",
     )?;
     type6_tags::read(
         rt,
-        b"Type 6, blocks of 1",
+        "Type 6, blocks of 1",
         11,
         b"NDE\x10\x0A\x00\x00\x03\x01\x00\xD0",
     )

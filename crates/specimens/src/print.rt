@@ -1,81 +1,43 @@
 // Prints one line for each answer.
 
-use printing::{number, refusal, text};
+use printing::Hex;
 use std::io;
-use tag::{Content, CountAnswer, JudgeAnswer, ReadAnswer, Report};
+use tag::{Content, Fault, Refusal, Report};
 
-// The beginning of the line.
-pub fn name(rt: &impl Print, s: &[u8]) -> io::Result<()> {
-    text(rt, s)?;
-    text(rt, b": ")
-}
-
-// The beginning of the line for a tag with `u` usable bytes after the type byte.
-pub fn room(rt: &impl Print, u: usize) -> io::Result<()> {
-    text(rt, b"u = ")?;
-    number(rt, u)?;
-    text(rt, b": ")
-}
-
-fn message(rt: &impl Print, report: Report, shown: &[u8]) -> io::Result<()> {
-    text(rt, b"message at ")?;
-    number(rt, report.address.0)?;
-    text(rt, b", ")?;
-    number(rt, report.length)?;
-    if report.interrupted {
-        text(rt, b" bytes, interrupted, capacity ")?;
-    } else {
-        text(rt, b" bytes, capacity ")?;
-    }
-    number(rt, report.capacity)?;
-    text(rt, b": ")?;
-    printing::line(rt, shown)
-}
-
-// A tag without a message.
-fn without(rt: &impl Print, content: &[u8], capacity: usize) -> io::Result<()> {
-    text(rt, content)?;
-    text(rt, b", capacity ")?;
-    number(rt, capacity)?;
-    text(rt, b"\n")
-}
-
-fn report(rt: &impl Print, report: Report, shown: &[u8]) -> io::Result<()> {
-    let content = report.content;
+pub fn reading(rt: &impl Print, answer: Result<Report, Refusal>, shown: &[u8]) -> io::Result<()> {
+    let report = match answer {
+        Ok(report) => report,
+        Err(refusal) => return println!(rt; "refused {refusal}"),
+    };
     let capacity = report.capacity;
-    match content {
-        Content::Message => message(rt, report, shown),
-        Content::Empty => without(rt, b"empty", capacity),
-        Content::BeingWritten => without(rt, b"being written", capacity),
-    }
-}
-
-pub fn reading(rt: &impl Print, answer: ReadAnswer, shown: &[u8]) -> io::Result<()> {
-    match answer {
-        ReadAnswer::Refused(r) => refusal(rt, r),
-        ReadAnswer::Reads(p) => report(rt, p, shown),
-    }
-}
-
-pub fn count(rt: &impl Print, answer: CountAnswer) -> io::Result<()> {
-    match answer {
-        CountAnswer::Refused(r) => refusal(rt, r),
-        CountAnswer::Count(n) => printing::commands(rt, n),
-    }
-}
-
-pub fn verdict(rt: &impl Print, answer: JudgeAnswer) -> io::Result<()> {
-    match answer {
-        JudgeAnswer::Refused(r, position) => {
-            text(rt, b"refused ")?;
-            number(rt, r as usize)?;
-            text(rt, b" at ")?;
-            number(rt, position)?;
-            text(rt, b"\n")
+    match report.content {
+        Content::Message {
+            address,
+            length,
+            interrupted,
+        } => {
+            let interrupted = if interrupted { " interrupted," } else { "" };
+            println!(rt;
+                "message at {}, {length} bytes,{interrupted} capacity {capacity}: {}",
+                address.0,
+                Hex(shown)
+            )
         }
-        JudgeAnswer::Accepted(n) => {
-            text(rt, b"accepted, ")?;
-            printing::commands(rt, n)
-        }
+        Content::Empty => println!(rt; "empty, capacity {capacity}"),
+        Content::BeingWritten => println!(rt; "being written, capacity {capacity}"),
+    }
+}
+
+pub fn count(rt: &impl Print, answer: Result<usize, Refusal>) -> io::Result<()> {
+    match answer {
+        Ok(count) => println!(rt; "{count} commands"),
+        Err(refusal) => println!(rt; "refused {refusal}"),
+    }
+}
+
+pub fn verdict(rt: &impl Print, answer: Result<usize, Fault>) -> io::Result<()> {
+    match answer {
+        Ok(count) => println!(rt; "accepted, {count} commands"),
+        Err(Fault { refusal, position }) => println!(rt; "refused {refusal} at {position}"),
     }
 }

@@ -1,64 +1,44 @@
 // Type 6 tags of at most 128 bytes, given by their length and their first bytes. All other bytes are 00h.
+// Each type has its own: Type 3's calls take an IDm, and Type 6's images have any length.
 
-use crate::print;
+use crate::{images, print};
 use std::io;
-use tag::slices;
 
-fn lay(front: &[u8], image: &mut [u8]) {
-    if image.len() < front.len() {
-        return;
-    }
-    slices::store(front, 0, image);
+fn tag(front: &[u8]) -> [u8; 128] {
+    images::image(0, front)
 }
 
-fn read_part(rt: &impl Print, n: usize, image: &[u8]) -> io::Result<()> {
-    if image.len() < n {
-        return Ok(());
+pub fn read(rt: &impl Print, name: &str, n: usize, front: &[u8]) -> io::Result<()> {
+    print!(rt; "{name}: ")?;
+    if let Some(image) = tag(front).get(..n) {
+        let answer = type6::read::read(image);
+        print::reading(rt, answer, type6::read::shown(image, answer))?;
     }
-    let answer = type6::read::read(&image[..n]);
-    print::reading(rt, answer, type6::read::shown(&image[..n], answer))
-}
-
-pub fn read(rt: &impl Print, name: &[u8], n: usize, front: &[u8]) -> io::Result<()> {
-    let mut image = [0u8; 128];
-    lay(front, &mut image);
-    print::name(rt, name)?;
-    read_part(rt, n, &image)
-}
-
-fn write_part(rt: &impl Print, n: usize, image: &[u8], message: &[u8]) -> io::Result<()> {
-    if image.len() < n {
-        return Ok(());
-    }
-    let mut list = [0u8; 1024];
-    print::count(
-        rt,
-        type6_write::write::write(&image[..n], message, &mut list),
-    )
+    Ok(())
 }
 
 pub fn write(
     rt: &impl Print,
-    name: &[u8],
+    name: &str,
     n: usize,
     front: &[u8],
     message: &[u8],
 ) -> io::Result<()> {
-    let mut image = [0u8; 128];
-    lay(front, &mut image);
-    print::name(rt, name)?;
-    write_part(rt, n, &image, message)
+    let mut list = [0u8; 1024];
+    print!(rt; "{name}: ")?;
+    if let Some(image) = tag(front).get(..n) {
+        print::count(rt, type6_write::write::write(image, message, &mut list))?;
+    }
+    Ok(())
 }
 
 pub fn judge(
     rt: &impl Print,
-    name: &[u8],
+    name: &str,
     front: &[u8],
     message: &[u8],
     list: &[u8],
 ) -> io::Result<()> {
-    let mut image = [0u8; 128];
-    lay(front, &mut image);
-    print::name(rt, name)?;
-    print::verdict(rt, judge::type6_lists::judge(&image, message, list))
+    print!(rt; "{name}: ")?;
+    print::verdict(rt, judge::type6_lists::judge(&tag(front), message, list))
 }

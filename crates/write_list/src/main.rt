@@ -7,11 +7,11 @@
 
 ghost use Rattle.std.specs.Prelude.{◌≡◌, ◌≤◌, length, take};
 
+use printing::Hex;
 use std::fs::File;
 use std::io;
 use std::io::Read;
 use std::rt::Files;
-use tag::CountAnswer;
 use type2::{commands, container};
 
 // One byte more than the longest image.
@@ -19,25 +19,17 @@ const IMAGE: usize = container::LONGEST_IMAGE + 1;
 
 // Prints how many commands the list has, and the first `count` commands, one a line.
 fn print_list(rt: &impl Print, list: &[u8], count: usize) -> io::Result<()> {
-    printing::commands(rt, count)?;
-    let mut at = 0usize;
-    let mut left = count;
-    while 0 < left {
-        // `write` counts only commands that the list holds. No contract here says so, and therefore it is tested.
-        if list.len() - at < commands::LENGTH {
-            return Ok(());
-        }
-        printing::line(rt, &list[at..at + commands::LENGTH])?;
-        at += commands::LENGTH;
-        left -= 1;
+    println!(rt; "{count} commands")?;
+    for command in list.chunks_exact(commands::LENGTH).take(count) {
+        println!(rt; "{}", Hex(command))?;
     }
     Ok(())
 }
 
 fn print_answer(rt: &impl Print, image: &[u8], message: &[u8], list: &mut [u8]) -> io::Result<()> {
     match type2_write::write::write(image, message, list) {
-        CountAnswer::Refused(number) => printing::refusal(rt, number),
-        CountAnswer::Count(count) => print_list(rt, list, count),
+        Ok(count) => print_list(rt, list, count),
+        Err(refusal) => println!(rt; "refused {refusal}"),
     }
 }
 
@@ -47,6 +39,7 @@ fn fill(input: &mut impl Read, buf: &mut [u8]) -> usize
     ensures prefix { result ≡ length (take result buf.new) }
 {
     let mut done = 0usize;
+    // No heap for read_to_end, and read_exact does not say how much it has read.
     while done < buf.len() {
         match input.read(&mut buf[done..]) {
             Ok(0) => return done,
@@ -69,6 +62,7 @@ fn load(rt: &impl Files, path: &str, buf: &mut [u8]) -> usize
 }
 
 fn main(rt: HostRuntime) -> io::Result<()> {
+    // No heap: a file is read into a fixed array, and load answers how much of it is used.
     let mut image = [0u8; IMAGE];
     let n = load(&rt, "tag.bin", &mut image);
     let mut message = [0u8; 2048];

@@ -2,12 +2,11 @@
 
 ghost use Rattle.std.specs.Prelude.{◌≡◌, []};
 ghost use Rattle.tag.specs.Refusals.{refusal_at};
-ghost use Rattle.tag.specs.Answers.{content_of, read_as, count_as, verdict_as, model_as};
+ghost use Rattle.tag.specs.Answers.{number_of, read_as, count_as, verdict_as, model_as};
 ghost use Rattle.smart_poster.specs.First.{told_as};
-ghost use Rattle.zanfirotta.specs.Packed.{above, packed_refusal, packed_count, packed_verdict, packed_storing, packed_read, content_number, flag_of, report_into, packed_told, flag_into};
+ghost use Rattle.zanfirotta.specs.Packed.{above, packed_refusal, packed_count, packed_verdict, packed_storing, packed_read, report_into, packed_told, flag_into};
 
-use smart_poster::UriAnswer;
-use tag::{Content, CountAnswer, JudgeAnswer, ModelAnswer, ReadAnswer, Report};
+use tag::{Content, Fault, Refusal, Report};
 
 // 2^56: a count below it fits above the low byte.
 const COUNTS: usize = 72057594037927936;
@@ -20,104 +19,80 @@ fn above(n: usize) -> u64
 }
 
 // A refusal of a call that takes one command at most: its position is 0.
-pub(crate) fn refusal(r: u8) -> u64
-    ensures { result ≡ packed_refusal (refusal_at r 0) }
+pub(crate) fn refusal(refusal: Refusal) -> u64
+    ensures { result ≡ packed_refusal (refusal_at (number_of refusal) 0) }
 {
-    r as u64 + above(0)
+    u64::from(u8::from(refusal))
 }
 
-pub(crate) fn count(answer: CountAnswer) -> u64
+pub(crate) fn count(answer: Result<usize, Refusal>) -> u64
     ensures { result ≡ packed_count (count_as answer) }
 {
-    match answer {
-        CountAnswer::Refused(r) => refusal(r),
-        CountAnswer::Count(n) => above(n),
-    }
+    answer.map_or_else(refusal, above)
 }
 
-pub(crate) fn verdict(answer: JudgeAnswer) -> u64
+pub(crate) fn verdict(answer: Result<usize, Fault>) -> u64
     ensures { result ≡ packed_verdict (verdict_as answer) }
 {
     match answer {
-        JudgeAnswer::Refused(r, position) => r as u64 + above(position),
-        JudgeAnswer::Accepted(n) => above(n),
+        Ok(n) => above(n),
+        Err(fault) => refusal(fault.refusal) + above(fault.position),
     }
 }
 
-pub(crate) fn storing(answer: ModelAnswer) -> u64
+pub(crate) fn storing(answer: Result<(), Refusal>) -> u64
     ensures { result ≡ packed_storing (model_as answer) }
 {
-    match answer {
-        ModelAnswer::Refused(r) => refusal(r),
-        ModelAnswer::Stored => 0,
-    }
-}
-
-fn content_number(content: Content) -> u64
-    ensures { result ≡ content_number (content_of content) }
-{
-    match content {
-        Content::Message => 1,
-        Content::Empty => 2,
-        Content::BeingWritten => 3,
-    }
-}
-
-fn flag(b: bool) -> u64
-    ensures { result ≡ flag_of b }
-{
-    if b { 1 } else { 0 }
+    answer.map_or_else(refusal, |()| 0)
 }
 
 // What a tag that reads says of itself, as six numbers.
-fn report(p: Report) -> [u64; 6]
-    ensures { result ≡ report_into [] (read_as (ReadAnswer.Reads p)) }
+fn six_numbers(report: Report) -> [u64; 6]
+    ensures { result ≡ report_into [] (read_as (Ok report)) }
 {
-    let content = p.content;
-    let interrupted = p.interrupted;
-    let writable = p.writable;
-    let address = p.address.0;
-    let length = p.length;
-    let capacity = p.capacity;
+    let (content, address, length, interrupted) = match report.content {
+        Content::Message {
+            address,
+            length,
+            interrupted,
+        } => (1, address.0, length, interrupted),
+        Content::Empty => (2, 0, 0, false),
+        Content::BeingWritten => (3, 0, 0, false),
+    };
     [
-        content_number(content),
+        content,
         address as u64,
         length as u64,
-        flag(interrupted),
-        flag(writable),
-        capacity as u64,
+        u64::from(interrupted),
+        u64::from(report.writable),
+        report.capacity as u64,
     ]
 }
 
 // Reading's answer; what the tag says of itself goes to `out`.
-pub(crate) fn reading(answer: ReadAnswer, out: &mut [u64; 6]) -> u64
+pub(crate) fn reading(answer: Result<Report, Refusal>, out: &mut [u64; 6]) -> u64
     ensures is { result ≡ packed_read (read_as answer) }
     ensures stored { out.new ≡ report_into out.old (read_as answer) }
 {
     match answer {
-        ReadAnswer::Refused(r) => r as u64,
-        ReadAnswer::Reads(p) => {
-            let six = report(p);
-            *out = six;
+        Ok(report) => {
+            *out = six_numbers(report);
             0
         }
+        Err(unread) => refusal(unread),
     }
 }
 
 // The answer of looking for the first URI; whether there is one goes to `found`.
-pub(crate) fn first_uri(answer: UriAnswer, found: &mut u64) -> u64
+pub(crate) fn first_uri(answer: Result<Option<usize>, Refusal>, found: &mut u64) -> u64
     ensures is { result ≡ packed_told (told_as answer) }
     ensures stored { found.new ≡ flag_into found.old (told_as answer) }
 {
     match answer {
-        UriAnswer::Refused(r) => r as u64,
-        UriAnswer::Nothing => {
-            *found = 0;
-            0
+        Ok(length) => {
+            *found = u64::from(length.is_some());
+            length.map_or(0, above)
         }
-        UriAnswer::Found(n) => {
-            *found = 1;
-            above(n)
-        }
+        Err(r) => refusal(r),
     }
 }

@@ -8,39 +8,35 @@ ghost use Rattle.type2.specs.Codec.{encode, decode};
 ghost use Rattle.zanfirotta.specs.Packed.{PutOutToC, ReadToC, TookToC, packed_verdict, packed_decoded2, block_into, data_into};
 
 use crate::answers;
-use tag::{Block, refusals};
+use tag::Block;
 use type2::{Command, commands, container};
 
 #[unsafe(no_mangle)]
 pub extern "C" fn zan_type2_read(image: &[u8], gathered: &mut [u8], out: &mut [u64; 6]) -> u64
     ensures { ReadToC (type2.reading image.now) gathered.old out.old result gathered.new out.new }
 {
-    let answer = type2::read::read(image, gathered);
-    answers::reading(answer, out)
+    answers::reading(type2::read::read(image, gathered), out)
 }
 
 #[unsafe(no_mangle)]
 pub extern "C" fn zan_type2_write(image: &[u8], message: &[u8], list: &mut [u8]) -> u64
     ensures { PutOutToC (λ room. write type2 room image.now message.now) list.old result list.new }
 {
-    let answer = type2_write::write::write(image, message, list);
-    answers::count(answer)
+    answers::count(type2_write::write::write(image, message, list))
 }
 
 #[unsafe(no_mangle)]
 pub extern "C" fn zan_type2_judge(image: &[u8], message: &[u8], list: &[u8]) -> u64
     ensures { result ≡ packed_verdict (judged type2 image.now message.now list.now) }
 {
-    let answer = judge::type2_lists::judge(image, message, list);
-    answers::verdict(answer)
+    answers::verdict(judge::type2_lists::judge(image, message, list))
 }
 
 #[unsafe(no_mangle)]
 pub extern "C" fn zan_type2_model(image: &mut [u8], command: &[u8]) -> u64
     ensures { TookToC type2 image.old command.now result image.new }
 {
-    let answer = type2::model::model(image, command);
-    answers::storing(answer)
+    answers::storing(type2::model::model(image, command))
 }
 
 #[unsafe(no_mangle)]
@@ -52,13 +48,11 @@ pub extern "C" fn zan_type2_encode(
 ) -> u64
     ensures { PutOutToC (encode blocks block blockdata.now) bytes.old result bytes.new }
 {
-    let bytes4 = *blockdata;
     let command = Command {
         block: Block(block as usize),
-        bytes: bytes4,
+        bytes: *blockdata,
     };
-    let answer = commands::encode(command, blocks as usize, bytes);
-    answers::count(answer)
+    answers::count(commands::encode(command, blocks as usize, bytes))
 }
 
 #[unsafe(no_mangle)]
@@ -72,14 +66,13 @@ pub extern "C" fn zan_type2_decode(
     ensures number { block.new ≡ block_into block.old (decode blocks bytes.now) }
     ensures carried { blockdata.new ≡ data_into blockdata.old (decode blocks bytes.now) }
 {
-    let decoded = commands::decode(bytes, blocks as usize);
-    let refusal = decoded.refusal;
-    if refusal != refusals::NONE {
-        return answers::refusal(refusal);
+    match commands::decode(bytes, blocks as usize) {
+        Ok(command) => {
+            let bytes = command.bytes;
+            *block = command.block.0 as u64;
+            *blockdata = bytes;
+            0
+        }
+        Err(r) => answers::refusal(r),
     }
-    let number = decoded.command.block.0;
-    let carried = decoded.command.bytes;
-    *block = number as u64;
-    *blockdata = carried;
-    0
 }

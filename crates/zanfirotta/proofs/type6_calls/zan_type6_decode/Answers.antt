@@ -1,9 +1,8 @@
--- `type6_calls::zan_type6_decode`: a command that was decoded has at most 32 bytes.
+use Rattle.std.proofs.Common.{◌≡◌, rules, ◌≤◌}
 use Rattle.zanfirotta.proofs.Decoded.{size_small}
 use Rattle.zanfirotta.proofs.type6_calls.zan_type6_decode.Goals as goal
 
-pub deliver-requires : goal.deliver-requires
-deliver-requires c =
-    let a = c.args in
-    let d = c.decode-decoded in
-    size_small a.size a.blocks a.bytes.now d.result d.ensures c.if-refusal-ne-NONE.false
+pub slice_bounds-copy_from_slice-end : goal.slice_bounds-copy_from_slice-end
+slice_bounds-copy_from_slice-end c =
+    let small = size_small c.args.size c.args.blocks c.args.bytes.now c.in-Ok.command c.in-Ok.ensures.0 in
+    search (rules, small)

@@ -1,9 +1,0 @@
--- `line`: i is at most the number of bytes.
-use Rattle.std.proofs.Common.{◌≤◌, ◌-◌, length}
-use Rattle.printing.proofs.line.Given as goal
-
-abbrev pub invariant-loop-i : goal.invariant-loop-i
-invariant-loop-i g l = l.i ≤ length l.bytes
-
-abbrev pub decreases-loop-i : goal.decreases-loop-i
-decreases-loop-i g l = length l.bytes - l.i
