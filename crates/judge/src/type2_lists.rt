@@ -10,6 +10,7 @@ use tlv::table::SkipTable;
 use type2::container;
 
 // Judges a list that is to write the message to the tag. The list is the bytes of its commands, laid end to end.
+// Each type has its own: the longest images differ, and Type 3's call takes an IDm.
 pub fn judge(image: &[u8], message: &[u8], list: &[u8]) -> Result<usize, Fault>
     ensures { Judged type2 image.now message.now list.now result }
 {

@@ -9,6 +9,7 @@ use tag::Fault;
 use type3::read;
 
 // Judges a list that is to write the message to the tag. The list is the bytes of its commands, laid end to end.
+// Each type has its own: the longest images differ, and Type 3's call takes an IDm.
 pub fn judge(image: &[u8], message: &[u8], idm: &[u8; 8], list: &[u8]) -> Result<usize, Fault>
     ensures { Judged (type3 idm.now) image.now message.now list.now result }
 {

@@ -22,6 +22,7 @@ pub fn headers(message: &[u8], headers: &mut ArrayVec<Header, MOST>) -> Result<(
     }
     headers.clear();
     let mut rest = message;
+    // A loop: where a record starts is known only from the header before it.
     while !rest.is_empty() {
         if headers.is_full() {
             return Err(Refusal::TooManyRecords);

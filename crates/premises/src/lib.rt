@@ -20,7 +20,7 @@ pub fn eight(idm: &[u8; 8])
     octets(idm);
 }
 
-// The arrays of a command have their lengths, for each type.
+// The arrays of a command have their lengths. Each type has its own function: their commands have different arrays.
 pub fn whole_type2(command: type2::Command, blocks: usize)
     ensures { (codec2 blocks).Whole command }
 {}

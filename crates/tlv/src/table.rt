@@ -44,7 +44,7 @@ impl SkipTable {
         SkipTable { entries: [0; 1024] }
     }
 
-    // The entries, for sweeps that look at each of them.
+    // The entries, for sweeps that look at each of them. 0 and no Option: a sweep over 16-bit numbers treats many at once.
     pub fn entries(&self) -> &[u16]
         ensures { (result.now ≡ self.now) × (length result.now ≡ 1024) }
     {

@@ -1,4 +1,5 @@
 // The library's answers, each as one number: a refusal in the low byte, and a count or a position above it.
+// Numbers, because C has neither Option nor Result.
 
 ghost use Rattle.std.specs.Prelude.{◌≡◌, []};
 ghost use Rattle.tag.specs.Refusals.{refusal_at};

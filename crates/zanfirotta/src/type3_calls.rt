@@ -1,4 +1,5 @@
 // The C functions for Type 3 tags.
+// Each type has its own: C calls each by name, with the arguments that its type needs.
 
 ghost use Rattle.std.specs.Prelude.{◌≡◌, [], ◌*◌, ◌≤◌, take};
 ghost use Rattle.tag.specs.Bytes.{overwrite};

@@ -1,4 +1,5 @@
 // The C functions for Type 6 tags.
+// Each type has its own: C calls each by name, with the arguments that its type needs.
 
 ghost use Rattle.std.specs.Prelude.{◌≡◌, [], ◌≤◌};
 ghost use Rattle.tag.specs.TagType.{write};
