@@ -11,29 +11,15 @@ ghost use Rattle.ndef_write.specs.Views.Laying.{PutAt, Lays, Fits};
 
 use ndef::flags::{ID_LENGTH, MESSAGE_BEGIN, MESSAGE_END, SHORT_RECORD};
 use ndef::{NUMBERS, Place};
+use tag::slices;
 
-// Writes a few bytes to the buffer from `at` on, and returns where they end. Tried, and slower: `copy_from_slice`, which is a call.
-fn put_few(from: &[u8], out: &mut [u8], at: usize) -> usize
-    requires { at + length from.now ≤ length out.old }
-    ensures { PutAt out.old out.new at from.now result }
-{
-    for (k, byte) in from.iter().enumerate() {
-        out[at + k] = *byte;
-    }
-    at + from.len()
-}
-
-// The same for any number of bytes.
+// Writes bytes to the buffer from `at` on, and returns where they end.
 fn put(from: &[u8], out: &mut [u8], at: usize) -> usize
     requires { at + length from.now ≤ length out.old }
     ensures { PutAt out.old out.new at from.now result }
 {
-    if from.len() < 4 {
-        return put_few(from, out, at);
-    }
-    let end = at + from.len();
-    out[at..end].copy_from_slice(from);
-    end
+    slices::store(from, at, out);
+    at + from.len()
 }
 
 // Writes a header: SR if the payload has at most 255 bytes, IL if there is an ID.
@@ -44,10 +30,10 @@ fn put_header(flags: u8, rtype: u8, id: u8, payload: u32, out: &mut [u8], at: us
 {
     let [p3, p2, p1, p0] = payload.to_be_bytes();
     match (payload < 256, id == 0) {
-        (true, true) => put_few(&[flags + SHORT_RECORD, rtype, p0], out, at),
-        (true, false) => put_few(&[flags + SHORT_RECORD + ID_LENGTH, rtype, p0, id], out, at),
-        (false, true) => put_few(&[flags, rtype, p3, p2, p1, p0], out, at),
-        (false, false) => put_few(&[flags + ID_LENGTH, rtype, p3, p2, p1, p0, id], out, at),
+        (true, true) => put(&[flags + SHORT_RECORD, rtype, p0], out, at),
+        (true, false) => put(&[flags + SHORT_RECORD + ID_LENGTH, rtype, p0, id], out, at),
+        (false, true) => put(&[flags, rtype, p3, p2, p1, p0], out, at),
+        (false, false) => put(&[flags + ID_LENGTH, rtype, p3, p2, p1, p0, id], out, at),
     }
 }
 

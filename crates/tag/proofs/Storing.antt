@@ -6,7 +6,7 @@ use Prim.Native.Nat.{ℕ, suc, ◌+◌, ◌<◌, ◌≤◌}
 use native.Mathlib.Numerals.{add-one}
 use native.Mathlib.Nat.{add-zero}
 use native.Mathlib.Omega.{arith}
-use lib.ListN.{length, take, drop, set, drop_of_length-le}
+use lib.ListN.{length, take, drop, set, drop_of_length-le, length-append}
 use lib.Seq.{sets, sets-eq, take-suc, length-take-le, drop-drop}
 use borrow.Rule.Slice.PartMut.{put_mid}
 use Rattle.tag.specs.Bytes.{byte, run, overlay, overwrite}
@@ -36,6 +36,20 @@ sets-front y t h = sets-eq y t 0 (omega arith) ∙ rw zero-add
   where
     zero-add : 0 + length y ≡ length y
     zero-add = omega arith
+
+-- two parts stored one behind the other
+pub both_stored : (x y t : List ℕ) → length x + length y ≤ length t → sets (sets t 0 x) (length x) y ≡ overwrite (x ++ y) t
+both_stored x y t h = sym (rw (zero-add x) at (sets-append x y t 0)) ∙ sets-front (x ++ y) t (omega (arith, length-append x y))
+  where
+    zero-add : (x : List ℕ) → 0 + length x ≡ length x
+    zero-add x = omega arith
+
+-- and nothing of the buffer is left
+pub both_laid : (x y t : List ℕ) → length x + length y ≡ length t → sets (sets t 0 x) (length x) y ≡ x ++ y
+both_laid x y t e =
+    both_stored x y t (omega arith)
+    ∙ ap (λ r. x ++ y ++ r) (drop_of_length-le t {i = length (x ++ y)} (omega (arith, length-append x y)))
+    ∙ append-nil (x ++ y)
 
 -- a whole buffer stored over: a copy
 pub copied : (image work : List ℕ) → length work ≡ length image → sets work 0 image ≡ image

@@ -1,6 +1,7 @@
-// The part of two lent slices that shows a tag's message.
+// Slices: the part of two lent ones that shows a tag's message, and storing one in another.
 
-ghost use Rattle.std.specs.Prelude.{◌≡◌};
+ghost use Rattle.std.specs.Prelude.{◌≡◌, ◌+◌, ◌≤◌, length};
+ghost use Rattle.std.proofs.lemmas.List.Edits.{sets};
 ghost use Rattle.tag.specs.Reading.{part, shown};
 ghost use Rattle.tag.specs.Answers.{read_as};
 ghost use Rattle.tag.specs.PublicContracts.{Showed};
@@ -47,5 +48,16 @@ pub fn shown<'a>(image: &'a [u8], gathered: &'a [u8], answer: Result<Report, Ref
     match answer {
         Ok(report) => report.shown(image, gathered),
         Err(_) => &[],
+    }
+}
+
+// Stores the bytes of `from` in `to`, from `at` on. A loop: where the number of bytes is known only then, `copy_from_slice` is a call of
+// `memmove`, which whoever links the archive for C would have to bring.
+pub fn store(from: &[u8], at: usize, to: &mut [u8])
+    requires { at + length from.now ≤ length to.old }
+    ensures { to.new ≡ sets to.old at from.now }
+{
+    for (k, byte) in from.iter().enumerate() {
+        to[at + k] = *byte;
     }
 }

@@ -10,11 +10,14 @@ use Rattle.tag.specs.Refusals.{positioned, malformed_command}
 use Rattle.tag.specs.Checks.{fine, fault, first_of}
 use Rattle.tag.specs.Stores.{malformed, stores, formed, tag_after}
 use Rattle.tag.specs.Views.Judging.{Applied}
-use Rattle.tag.specs.Model.{refused_storing, stored, given, model_by, model}
+use Rattle.tag.specs.Answers.{refuses_one, storing_of}
+use Rattle.tag.specs.Model.{image_after, refused_storing, stored, given, model_by, model}
 use Rattle.tag.proofs.Checks.{fine-all}
+use Rattle.type6.specs.declared.container.Container.{Container}
 use Rattle.type6.specs.Container.{tag_block_size, block_count, checks}
 use Rattle.type6.specs.Codec.{well_formed, undecoded, decoded, decode, command_of}
 use Rattle.type6.specs.Type6.{command_by, type6}
+use Rattle.type6.specs.Views.Container.{Readable}
 use Rattle.type6.proofs.Message.{unread, passes-reads}
 
 -- ---- commands by their form
@@ -65,3 +68,21 @@ module _ (i bs : List ℕ) where
     model-stored w =
         let f = command-formed z blocks bs w in
         model-given e ∙ ap (given i) (sym by ∙ f) ∙ ap (λ c. stored (tag_after i c)) (sym f)
+
+-- ---- the same, as the search takes them: by the refusal, or by the container that was read
+
+module _ (i bs : List ℕ) where
+  pub unread_answer : {r : ℕ} → first_of (checks i) ≡ fault r → storing_of (model type6 i bs) ≡ refuses_one r
+  unread_answer {r} e = ap storing_of (model-refused i bs r e)
+
+  pub unread_image : {r : ℕ} → first_of (checks i) ≡ fault r → image_after i (model type6 i bs) ≡ i
+  unread_image {r} e = ap (image_after i) (model-refused i bs r e)
+
+  pub read_malformed : {c : Container} → Readable i c → well_formed c.size c.blocks bs ≡ false → model type6 i bs ≡ refused_storing malformed_command
+  read_malformed {c} k w = model-malformed i bs c.size c.blocks k.known.says.size_is k.known.says.blocks_are k.passes w
+
+  pub read_stored : {c : Container} → Readable i c → well_formed c.size c.blocks bs ≡ true
+      → model type6 i bs ≡ stored (tag_after i (command_by c.size c.blocks bs))
+  read_stored {c} k w = model-stored i bs c.size c.blocks k.known.says.size_is k.known.says.blocks_are k.passes w
+
+pub ruleset by_test = (command-malformed, unread_answer, unread_image, read_malformed, read_stored)

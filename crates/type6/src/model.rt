@@ -7,7 +7,7 @@ ghost use Rattle.type6.specs.Codec.{well_formed};
 ghost use Rattle.type6.specs.Type6.{command_by, type6};
 
 use crate::{commands, container};
-use tag::{Block, Refusal};
+use tag::{Block, Refusal, slices};
 
 // Stores what the command says if it is well formed, else nothing, and answers whether it is well formed.
 // A bool: the clause Applied states it.
@@ -21,12 +21,13 @@ pub fn take_command(image: &mut [u8], command: &[u8], size: usize, blocks: usize
         return false;
     }
     let at = Block(usize::from(command[2])).address(size).0;
-    image[at..at + size].copy_from_slice(&command[commands::DATA..]);
+    slices::store(&command[commands::DATA..], at, image);
     true
 }
 
 // Takes one command. Gives reading's refusals, then 20; else stores the block that the command names, protected or not.
 // Each type has its own: a generic one would put a trait and an `impl` a type in front of these lines.
+#[tactic(auto, using(crate::proofs::Modelling::by_test))]
 pub fn model(image: &mut [u8], command: &[u8]) -> Result<(), Refusal>
     ensures { Took type6 image.old command.now result image.new }
 {

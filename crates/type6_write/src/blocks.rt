@@ -8,7 +8,7 @@ ghost use Rattle.one_block_write.specs.Views.Listing.{Listed};
 ghost use Rattle.type6_write.specs.Views.Listing.{front, shut_bytes};
 
 use one_block_write::BlockUpdate;
-use tag::{Address, Block};
+use tag::{Address, Block, slices};
 use type6::commands;
 use type6::container::{Container, NLEN};
 
@@ -81,12 +81,12 @@ impl BlockUpdate for Blocks<'_> {
     }
 
     fn put_command(&self, block: Block, held: &[u8], command: &mut [u8]) {
-        command[..commands::DATA].copy_from_slice(&[
-            commands::FLAGS,
-            commands::CODE,
-            block.0 as u8,
-        ]);
-        command[commands::DATA..].copy_from_slice(held);
+        slices::store(
+            &[commands::FLAGS, commands::CODE, block.0 as u8],
+            0,
+            command,
+        );
+        slices::store(held, commands::DATA, command);
     }
 
     // The image's bytes, with NLEN zero.

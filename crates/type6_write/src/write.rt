@@ -24,5 +24,5 @@ pub fn write(image: &[u8], message: &[u8], list: &mut [u8]) -> Result<usize, Ref
         new,
         container,
     };
-    list::put_list(&blocks, list)
+    list::put_update(&blocks, list)
 }

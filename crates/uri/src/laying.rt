@@ -4,7 +4,7 @@ ghost use Rattle.std.specs.Prelude.{◌++◌, length};
 ghost use Rattle.tag.specs.TagType.{fitted};
 ghost use Rattle.tag.specs.PublicContracts.{PutOut};
 
-use tag::Refusal;
+use tag::{Refusal, slices};
 
 // Stores a front and a rest at the front of a buffer; the count is that of their bytes. Without room for both the buffer keeps what it
 // held, and the refusal is 12.
@@ -16,7 +16,7 @@ pub(crate) fn put_both(front: &[u8], rest: &[u8], out: &mut [u8]) -> Result<usiz
         return Err(Refusal::ShortBuffer);
     }
     let len = front.len() + rest.len();
-    out[..front.len()].copy_from_slice(front);
-    out[front.len()..len].copy_from_slice(rest);
+    slices::store(front, 0, out);
+    slices::store(rest, front.len(), out);
     Ok(len)
 }

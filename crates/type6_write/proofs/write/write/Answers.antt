@@ -34,6 +34,6 @@ invariant_of-blocks c =
 pub returns : goal.returns
 returns c =
     let a = c.args in
-    let l = c.put_list in
+    let l = c.put_update in
     let e = output a.image.now a.message.now _ c.in_ok-container.ensures (sym c.in_ok-check.ensures) _ c.lay.ensures (length a.list.now) in
     (l.ensures.0 ∙ ap count_of e, l.ensures.1 ∙ ap (output_into a.list.now) e)
