@@ -5,12 +5,11 @@ use mathlib.Core.List.{List}
 use Prim.Native.Nat.{ℕ, zero, suc, ◌+◌, ◌<◌, ◌≤◌}
 use native.Mathlib.Decide.{dec_lt}
 use native.Mathlib.Omega.{arith}
-use lib.ListN.{length, get_or, replicate, length-replicate}
+use lib.ListN.{length, get_or}
 use Rattle.tag.specs.Bytes.{byte, run}
 use Rattle.tag.proofs.Runs.{run-nth}
 use Rattle.tlv.specs.Views.Table.{unskipped}
-use Rattle.tlv.specs.Views.Areas.{SkipsSet}
-use Rattle.tlv.specs.Views.Counted.{OneMore, Added, TableOf, Entries}
+use Rattle.tlv.specs.Views.Counted.{OneMore, Added, TableOf}
 use Rattle.tlv.proofs.Skipping.{unskipped-all}
 
 pub none-added : (first end : ℕ) (t : List ℕ) → Added first end 0 t t
@@ -20,22 +19,6 @@ none-added first end t = refl
 pub one-added : (n : ℕ) (t : List ℕ) {first end : ℕ} {s u : List ℕ} → Added first end n t s → OneMore first end s u → Added first end (suc n) t u
 unfolding Added
 one-added n t {first} {end} {s} {u} a o = (s, a, o)
-
--- ---- skip tables
-
--- one that skips nothing
-pub blank-entries : Entries (replicate 1024 0)
-blank-entries = sized 1024 refl
-  where
-    sized : (m : ℕ) → m ≡ 1024 → Entries (replicate m 0)
-    sized m e = record { size = length-replicate m 0 ∙ e; made = (0, rw (length-replicate {A = ℕ} m 0) (none-added 0 1024 (replicate m 0))) }
-
--- one area more
-pub more-entries : {t u : List ℕ} (first stop : ℕ) → Entries t → SkipsSet t u first stop → stop ≤ 1024 → Entries u
-more-entries {t} {u} first stop p m l = record {
-  size = m.same_length ∙ p.size;
-  made = (suc p.made.0, rw m.same_length (one-added p.made.0 (replicate (length t) 0) p.made.1 (record { from = first; to = stop; late = omega arith; inside = l; skips = m })));
-}
 
 -- ---- the addresses that count
 

@@ -3,32 +3,30 @@
 ghost use Rattle.std.specs.Prelude.{◌≡◌, ◌<◌, ◌≤◌, length};
 ghost use Rattle.tlv.specs.Areas.{without};
 ghost use Rattle.tlv.specs.Walk.{control_value, pass_control};
-ghost use Rattle.tlv.specs.Views.Walks.{ahead, rule_of, Onward};
+ghost use Rattle.tlv.specs.Views.Walks.{ahead, rule_of, Within, Onward};
 ghost use Rattle.tlv.specs.Views.Areas.{control_as, area_as};
 ghost use Rattle.tlv.specs.Views.Passing.{passed_as, PassedPlaced};
 
 use crate::area::{Area, Control};
-use crate::table::SkipTable;
+use crate::table;
 use crate::walk::Walk;
 use tag::{Address, Refusal};
 
 impl Walk {
     // Skips, from here on, the area's addresses that are still to come, and counts one area more. The part past the data area's end
     // is cut off first, so the end fits into a table entry.
-    pub(crate) fn skip_area(self, area: Area, table: &mut SkipTable) -> Walk
-        requires { self.areas < self.at.0 }
+    pub(crate) fn skip_area(self, area: Area, table: &mut [u16]) -> Walk
+        requires { Within table.old self × (self.areas < self.at.0) }
         ensures is { ahead table.new result ≡ without (area_as area) (ahead table.old self) }
         ensures placed { Onward table.old table.new 1 self result }
         ensures stays { result.at.0 ≡ self.at.0 }
     {
         let from = area.start.max(self.at);
         let to = Address(area.start.0 + area.size).min(self.end);
-        table.skip(from, to);
-        // No `..self`, as in `moved_to`.
+        table::skip(table, from, to);
         Walk {
-            at: self.at,
-            end: self.end,
             areas: self.areas + 1,
+            ..self
         }
     }
 
@@ -39,9 +37,9 @@ impl Walk {
         first: Address,
         kind: Control,
         image: &[u8],
-        table: &mut SkipTable,
+        table: &mut [u16],
     ) -> Result<Walk, Refusal>
-        requires { self.end.0 ≤ length image.now }
+        requires { (self.end.0 ≤ length image.now) × Within table.old self }
         ensures is { passed_as table.new result ≡ control_value (rule_of image.now first) (control_as kind) image.now (ahead table.old self) }
         ensures placed { PassedPlaced table.old table.new 1 self result }
     {
@@ -65,9 +63,9 @@ impl Walk {
         first: Address,
         kind: Control,
         image: &[u8],
-        table: &mut SkipTable,
+        table: &mut [u16],
     ) -> Result<Walk, Refusal>
-        requires { self.end.0 ≤ length image.now }
+        requires { (self.end.0 ≤ length image.now) × Within table.old self }
         ensures is { passed_as table.new result ≡ pass_control (rule_of image.now first) (control_as kind) image.now (ahead table.old self) }
         ensures placed { PassedPlaced table.old table.new 1 self result }
     {

@@ -2,11 +2,11 @@
 
 ghost use Rattle.std.specs.Prelude.{◌≡◌, ◌-◌, ◌≤◌, length};
 ghost use Rattle.tlv.specs.Walk.{kind_of, step_at, find};
-ghost use Rattle.tlv.specs.Views.Walks.{ahead, rule_of, Counted, TakenPlaced};
+ghost use Rattle.tlv.specs.Views.Walks.{ahead, rule_of, Within, TakenPlaced};
 ghost use Rattle.tlv.specs.Views.Finding.{TypeTaken, stepped_as, TypePlaced, found_as, FoundPlaced};
 
 use crate::area::Control;
-use crate::table::SkipTable;
+use crate::table;
 use crate::walk::Walk;
 use tag::{Address, Refusal};
 
@@ -27,9 +27,9 @@ impl Walk {
         byte: u8,
         place: Address,
         image: &[u8],
-        table: &mut SkipTable,
+        table: &mut [u16],
     ) -> Result<Step, Refusal>
-        requires { (self.end.0 ≤ length image.now) × Counted table.old self }
+        requires { (self.end.0 ≤ length image.now) × Within table.old self }
         ensures is { stepped_as table.new result ≡ step_at (rule_of image.now first) (kind_of byte) image.now place.0 (ahead table.old self) }
         ensures placed { TypePlaced table.old table.new self place.0 result }
     {
@@ -49,19 +49,19 @@ impl Walk {
 
     // The next usable byte other than 00h, as `take_byte` gives it. The NULL TLVs before it are passed here and not step by step: unused
     // space is full of them, and this loop hands no walk on.
-    fn take_type(self, image: &[u8], table: &SkipTable) -> Option<(u8, Address, Walk)>
-        requires { self.end.0 ≤ length image.now }
+    fn take_type(self, image: &[u8], table: &[u16]) -> Option<(u8, Address, Walk)>
+        requires { (self.end.0 ≤ length image.now) × Within table.now self }
         ensures is { TypeTaken image.now table.now self result }
         ensures placed { TakenPlaced table.now self result }
     {
-        let mut at = table.next_usable(self.at, self.end);
+        let mut at = table::next_usable(table, self.at, self.end);
         while at.0 < self.end.0 {
             let byte = image[at.0];
             let next = Address(at.0 + 1);
             if byte != 0x00 {
                 return Some((byte, at, self.moved_to(next)));
             }
-            at = table.next_usable(next, self.end);
+            at = table::next_usable(table, next, self.end);
         }
         None
     }
@@ -73,9 +73,9 @@ impl Walk {
         self,
         first: Address,
         image: &[u8],
-        table: &mut SkipTable,
+        table: &mut [u16],
     ) -> Result<(Address, Walk), Refusal>
-        requires { (self.end.0 ≤ length image.now) × Counted table.old self }
+        requires { (self.end.0 ≤ length image.now) × Within table.old self }
         ensures is { found_as table.new result ≡ find (rule_of image.now first) (self.end.0 - self.at.0) image.now (ahead table.old self) }
         ensures placed { FoundPlaced table.old table.new self result }
     {

@@ -2,18 +2,17 @@
 
 ghost use Rattle.std.specs.Prelude.{◌≡◌, ◌≤◌, length};
 ghost use Rattle.tlv.specs.Walk.{len, long_of, length_of, pass_value};
-ghost use Rattle.tlv.specs.Views.Walks.{ahead, Counted};
+ghost use Rattle.tlv.specs.Views.Walks.{ahead, Within};
 ghost use Rattle.tlv.specs.Views.Passing.{field_as, FieldPlaced, passed_as, PassedPlaced};
 
-use crate::table::SkipTable;
 use crate::walk::Walk;
 use tag::{Address, Refusal};
 
 impl Walk {
     // The number in the two bytes after FFh, high first: 255 to 65,534. And the walk past them.
     #[tactic(auto, unfolding(crate::specs::Walk::long_by))]
-    fn take_long(self, image: &[u8], table: &SkipTable) -> Option<(usize, Walk)>
-        requires { self.end.0 ≤ length image.now }
+    fn take_long(self, image: &[u8], table: &[u16]) -> Option<(usize, Walk)>
+        requires { (self.end.0 ≤ length image.now) × Within table.now self }
         ensures is { field_as table.now result ≡ long_of image.now (ahead table.now self) }
         ensures placed { FieldPlaced table.now self result }
     {
@@ -28,8 +27,8 @@ impl Walk {
 
     // The number in a length field, one byte 00h to FEh or three, and the walk past it. None: a bad field.
     #[tactic(auto, unfolding(crate::specs::Walk::length_by))]
-    pub fn take_length(self, image: &[u8], table: &SkipTable) -> Option<(usize, Walk)>
-        requires { self.end.0 ≤ length image.now }
+    pub fn take_length(self, image: &[u8], table: &[u16]) -> Option<(usize, Walk)>
+        requires { (self.end.0 ≤ length image.now) × Within table.now self }
         ensures is { field_as table.now result ≡ length_of image.now (ahead table.now self) }
         ensures placed { FieldPlaced table.now self result }
     {
@@ -42,8 +41,8 @@ impl Walk {
 
     // Passes over the next `n` usable bytes.
     #[tactic(auto, unfolding(crate::specs::Walk::pass_value))]
-    pub(crate) fn pass_value(self, n: usize, table: &SkipTable) -> Result<Walk, Refusal>
-        requires { Counted table.now self }
+    pub(crate) fn pass_value(self, n: usize, table: &[u16]) -> Result<Walk, Refusal>
+        requires { Within table.now self }
         ensures is { passed_as table.now result ≡ pass_value (len n (ahead table.now self)) }
         ensures placed { PassedPlaced table.now table.now 0 self result }
     {
@@ -59,8 +58,8 @@ impl Walk {
 
     // Passes a TLV of another type, after its type byte: its length and its value.
     #[tactic(auto, unfolding(crate::specs::Walk::pass_value))]
-    pub fn pass_other(self, image: &[u8], table: &SkipTable) -> Result<Walk, Refusal>
-        requires { (self.end.0 ≤ length image.now) × Counted table.now self }
+    pub fn pass_other(self, image: &[u8], table: &[u16]) -> Result<Walk, Refusal>
+        requires { (self.end.0 ≤ length image.now) × Within table.now self }
         ensures is { passed_as table.now result ≡ pass_value (length_of image.now (ahead table.now self)) }
         ensures placed { PassedPlaced table.now table.now 0 self result }
     {

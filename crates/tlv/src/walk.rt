@@ -1,12 +1,12 @@
 // The walk over the TLVs of a data area. Each method takes the place reached by value and hands it back moved on.
 //
 // Image and table are arguments: each step copies a `Walk`, and a table that is written can't be a field of it.
-// Which table goes with the walk is a clause, `Counted`: the table changes, and the walk is copied.
+// Which table goes with the walk is a clause, `Within`: the table changes, and the walk is copied.
 
 ghost use Rattle.std.specs.Prelude.{◌≡◌, ◌≤◌, length, get_or};
 ghost use Rattle.tlv.specs.Walk.{take_byte};
 
-use crate::table::SkipTable;
+use crate::table;
 use tag::Address;
 
 // The place reached: the next address to look at, the data area's end, and how many areas were declared on the way.
@@ -15,19 +15,13 @@ pub struct Walk {
     pub at: Address,
     pub end: Address,
     pub areas: usize,
-    ghost ordered: { at.0 ≤ end.0 },
-    ghost in_table: { end.0 ≤ 1024 },
-    // declaring an area takes bytes
-    ghost few: { areas ≤ at.0 },
 }
 
 impl Walk {
-    ghost use Rattle.tlv.specs.Views.Walks.{ahead, Counted, taken_as, TakenPlaced};
+    ghost use Rattle.tlv.specs.Views.Walks.{ahead, Within, taken_as, TakenPlaced};
 
-    // The walk over the data area from `first` up to `end`, before its first byte. The bounds are a clause, because a walk that breaks them can't be
-    // made.
+    // The walk over the data area from `first` up to `end`, before its first byte.
     pub fn new(first: Address, end: Address) -> Walk
-        requires { (first.0 ≤ end.0) × (end.0 ≤ 1024) }
         ensures { (result.at.0 ≡ first.0) × (result.end.0 ≡ end.0) × (result.areas ≡ 0) }
     {
         Walk {
@@ -42,21 +36,16 @@ impl Walk {
         requires { (self.at.0 ≤ at.0) × (at.0 ≤ self.end.0) }
         ensures { (result.at.0 ≡ at.0) × (result.end.0 ≡ self.end.0) × (result.areas ≡ self.areas) }
     {
-        // The language refuses `..self` in a struct with ghost fields.
-        Walk {
-            at,
-            end: self.end,
-            areas: self.areas,
-        }
+        Walk { at, ..self }
     }
 
     // The next usable byte: its value, its address, and the walk past it; or none is left.
-    pub(crate) fn take_byte(self, image: &[u8], table: &SkipTable) -> Option<(u8, Address, Walk)>
-        requires { self.end.0 ≤ length image.now }
+    pub(crate) fn take_byte(self, image: &[u8], table: &[u16]) -> Option<(u8, Address, Walk)>
+        requires { (self.end.0 ≤ length image.now) × Within table.now self }
         ensures is { taken_as table.now result ≡ take_byte image.now (ahead table.now self) }
         ensures placed { TakenPlaced table.now self result }
     {
-        let place = table.next_usable(self.at, self.end);
+        let place = table::next_usable(table, self.at, self.end);
         if place == self.end {
             return None;
         }
@@ -66,9 +55,9 @@ impl Walk {
     // The usable address that comes after `k` others, or the end if there are at most `k`. Without areas nothing is skipped. With
     // some, mostly nothing is skipped on the way there, so the code tests that first: one sweep is quicker than going from each usable
     // address to the next.
-    // The end stands for none, as in `SkipTable::search`.
-    pub fn nth(self, k: usize, table: &SkipTable) -> Address
-        requires { Counted table.now self }
+    // The end stands for none, as in `table::search`.
+    pub fn nth(self, k: usize, table: &[u16]) -> Address
+        requires { Within table.now self }
         ensures is { result.0 ≡ get_or (ahead table.now self) k self.end.0 }
         ensures within { (self.at.0 ≤ result.0) × (result.0 ≤ self.end.0) }
     {
@@ -76,16 +65,16 @@ impl Walk {
             return self.end;
         }
         let direct = Address(self.at.0 + k);
-        if self.areas == 0 || table.none_skipped(self.at, Address(direct.0 + 1)) {
+        if self.areas == 0 || table::none_skipped(table, self.at, Address(direct.0 + 1)) {
             return direct;
         }
-        let mut at = table.next_usable(self.at, self.end);
+        let mut at = table::next_usable(table, self.at, self.end);
         // Not through `take_byte`: it needs an image, and is slower in such loops (D53).
         for _ in 0..k {
             if at == self.end {
                 return at;
             }
-            at = table.next_usable(Address(at.0 + 1), self.end);
+            at = table::next_usable(table, Address(at.0 + 1), self.end);
         }
         at
     }

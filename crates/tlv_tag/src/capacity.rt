@@ -1,11 +1,10 @@
 // How long a message may be on a tag that has a TLV area.
 
 ghost use Rattle.std.specs.Prelude.{◌≡◌, ◌<◌, length};
-ghost use Rattle.tlv.specs.Views.Walks.{ahead, Counted};
+ghost use Rattle.tlv.specs.Views.Walks.{ahead, Within};
 ghost use Rattle.tlv_tag.specs.Message.{capacity_in};
 
 use crate::read::Located;
-use tlv::table::SkipTable;
 use tlv_value::value;
 
 // The greatest length that fits, with its length field, in `u` usable bytes. A length up to 254 takes one byte, any other three.
@@ -24,8 +23,8 @@ fn capacity_in(u: usize) -> usize
 impl Located {
     // The greatest length that fits. Reading reports it, and writing refuses what is longer. Where areas are declared, it takes a sweep
     // over the skip table.
-    pub fn capacity(self, table: &SkipTable) -> usize
-        requires { Counted table.now self.field × (0 < length (ahead table.now self.field)) }
+    pub fn capacity(self, table: &[u16]) -> usize
+        requires { Within table.now self.field × (0 < length (ahead table.now self.field)) }
         ensures { result ≡ capacity_in (length (ahead table.now self.field)) }
     {
         capacity_in(value::count(self.field, table))

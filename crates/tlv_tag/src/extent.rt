@@ -1,7 +1,5 @@
 // Where the bytes to set lie on a tag with a TLV area.
 
-ghost use Rattle.std.specs.Prelude.{◌≤◌};
-
 use tag::Address;
 
 // The bytes to set lie at the usable addresses from `first` up to `stop`.
@@ -11,6 +9,4 @@ pub struct Extent {
     pub stop: Address,
     // an address in between is skipped; found once, so that the judge does not sweep the table after each command
     pub skips: bool,
-    ghost ordered: { first.0 ≤ stop.0 },
-    ghost in_table: { stop.0 ≤ 1024 },
 }

@@ -10,7 +10,7 @@ ghost use Rattle.tlv_tag.specs.Views.Update.{PreparedIn, LeftAlone};
 
 use crate::{space, update};
 use tag::{Address, Refusal};
-use tlv::table::SkipTable;
+use tlv::table;
 
 // Finds the space in the data area from `first` up to `end`, with refusals 6 to 11, and prepares the list for it: makes the new
 // image, and returns the address of the first length byte.
@@ -22,7 +22,7 @@ pub fn prepare(
     first: Address,
     end: Address,
     writable: bool,
-    table: &mut SkipTable,
+    table: &mut [u16],
     new: &mut [u8],
 ) -> Result<Address, Refusal>
     requires { BlankArea image.now table.old first.0 end.0 × (length new.old ≡ length image.now) }
@@ -33,5 +33,5 @@ pub fn prepare(
     let walk = space::find_space(image, message.len(), table, first, end, writable)?;
     new.copy_from_slice(image);
     update::set_tlv_bytes(walk, message, table, new);
-    Ok(table.next_usable(walk.at, walk.end))
+    Ok(table::next_usable(table, walk.at, walk.end))
 }

@@ -7,13 +7,12 @@ ghost use Rattle.tag.specs.Reading.{reads};
 ghost use Rattle.tag.specs.PublicContracts.{ReadOf};
 ghost use Rattle.tlv.specs.Views.Counted.{Declared};
 ghost use Rattle.tlv.specs.Walk.{length_of};
-ghost use Rattle.tlv.specs.Views.Walks.{ahead, Counted};
+ghost use Rattle.tlv.specs.Views.Walks.{ahead, Within};
 ghost use Rattle.tlv_tag.specs.Message.{locate_by, report_of};
 ghost use Rattle.tlv_tag.specs.Views.BlankArea.{BlankArea};
 ghost use Rattle.tlv_tag.specs.Views.Reading.{area_located, located_as, Held, value_addresses, Placed, LocatedAt, LocatedPlaced};
 
 use tag::{Address, Content, Refusal, Report};
-use tlv::table::SkipTable;
 use tlv::walk::Walk;
 use tlv_value::value;
 
@@ -29,8 +28,8 @@ pub struct Located {
 }
 
 // What a value of `n` bytes from the walk's place on holds. A value of length 0 reads as empty.
-fn content_of(walk: Walk, n: usize, table: &SkipTable) -> Result<Content, Refusal>
-    requires { Counted table.now walk }
+fn content_of(walk: Walk, n: usize, table: &[u16]) -> Result<Content, Refusal>
+    requires { Within table.now walk }
     ensures { MatchResult result (λ content. Held (ahead table.now walk) n content) (λ refusal. (number_of refusal ≡ bad_length) × (length (ahead table.now walk) < n)) }
 {
     if n == 0 {
@@ -46,8 +45,8 @@ fn content_of(walk: Walk, n: usize, table: &SkipTable) -> Result<Content, Refusa
 
 // The message TLV whose type byte the walk has just passed.
 #[tactic(auto, unfolding(crate::specs::Message::locate_by))]
-fn locate_at(field: Walk, image: &[u8], table: &SkipTable) -> Result<Located, Refusal>
-    requires { (field.end.0 ≤ length image.now) × Counted table.now field }
+fn locate_at(field: Walk, image: &[u8], table: &[u16]) -> Result<Located, Refusal>
+    requires { (field.end.0 ≤ length image.now) × Within table.now field }
     ensures is { located_as table.now result ≡ locate_by (ahead table.now field) (length_of image.now (ahead table.now field)) }
     ensures placed { LocatedAt image.now table.now field result }
 {
@@ -60,11 +59,11 @@ fn locate_at(field: Walk, image: &[u8], table: &SkipTable) -> Result<Located, Re
     })
 }
 
-// Locates the message in the data area from `first` up to `end`. The skip table passed in skips nothing yet.
+// Locates the message in the data area from `first` up to `end`. The skip table passed in is all zeros.
 #[tactic(auto, using(crate::proofs::Fitting::from_start))]
 pub fn locate(
     image: &[u8],
-    table: &mut SkipTable,
+    table: &mut [u16],
     first: Address,
     end: Address,
 ) -> Result<Located, Refusal>
@@ -83,7 +82,7 @@ impl Located {
     pub fn report(
         self,
         image: &[u8],
-        table: &SkipTable,
+        table: &[u16],
         gathered: &mut [u8],
         writable: bool,
         capacity: usize,

@@ -8,7 +8,6 @@ ghost use Rattle.tlv_tag.specs.Views.Reading.{area_located};
 
 use crate::read;
 use tag::{Address, Refusal};
-use tlv::table::SkipTable;
 use tlv::walk::Walk;
 
 // The space for a message of `n` bytes in the data area from `first` up to `end`: the walk past the message TLV's type byte, where
@@ -19,7 +18,7 @@ use tlv::walk::Walk;
 pub fn find_space(
     image: &[u8],
     n: usize,
-    table: &mut SkipTable,
+    table: &mut [u16],
     first: Address,
     end: Address,
     writable: bool,

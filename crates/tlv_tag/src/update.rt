@@ -3,19 +3,18 @@
 
 ghost use Rattle.std.specs.Prelude.{◌≡◌, ◌≤◌, length, drop};
 ghost use Rattle.tag.specs.Bytes.{overlay};
-ghost use Rattle.tlv.specs.Views.Walks.{ahead, Along};
+ghost use Rattle.tlv.specs.Views.Walks.{ahead, Within, Along};
 ghost use Rattle.tlv_tag.specs.Update.{length_field, tlv_bytes};
 ghost use Rattle.tlv_tag.specs.Views.Update.{tlv_bytes_length};
 
-use tlv::table::SkipTable;
 use tlv::walk::Walk;
 use tlv_value::value;
 
 // Sets the length in its shortest form, and returns the walk past it.
 #[tactic(auto, unfolding(crate::specs::Update::length_field))]
 // Why `n ≤ 65534` is a clause: see `extent_of`.
-fn set_length(walk: Walk, n: usize, table: &SkipTable, image: &mut [u8]) -> Walk
-    requires { (walk.end.0 ≤ length image.old) × (n ≤ 65534) }
+fn set_length(walk: Walk, n: usize, table: &[u16], image: &mut [u8]) -> Walk
+    requires { (walk.end.0 ≤ length image.old) × Within table.now walk × (n ≤ 65534) }
     ensures sets { image.new ≡ overlay (ahead table.now walk) (length_field n) image.old }
     ensures past { ahead table.now result ≡ drop (length (length_field n)) (ahead table.now walk) }
     ensures placed { Along table.now walk result }
@@ -29,8 +28,8 @@ fn set_length(walk: Walk, n: usize, table: &SkipTable, image: &mut [u8]) -> Walk
 
 // Sets length, message and FEh in the image. Why the length has a bound: see `extent_of`.
 #[tactic(auto, using(crate::proofs::TlvBytes::in_parts))]
-pub(crate) fn set_tlv_bytes(walk: Walk, message: &[u8], table: &SkipTable, image: &mut [u8])
-    requires { (walk.end.0 ≤ length image.old) × (length message.now ≤ 65534) }
+pub(crate) fn set_tlv_bytes(walk: Walk, message: &[u8], table: &[u16], image: &mut [u8])
+    requires { (walk.end.0 ≤ length image.old) × Within table.now walk × (length message.now ≤ 65534) }
     ensures { image.new ≡ overlay (ahead table.now walk) (tlv_bytes message.now) image.old }
 {
     let after_length = set_length(walk, message.len(), table, image);

@@ -5,11 +5,11 @@
 ghost use Rattle.std.specs.Prelude.{◌≡◌, map, ◌-◌, ◌<◌, ◌≤◌, length, take, drop};
 ghost use Rattle.tag.specs.Bytes.{byte, overlay, overwrite};
 ghost use Rattle.tlv.specs.Views.Table.{unskipped};
-ghost use Rattle.tlv.specs.Views.Walks.{ahead, Counted, Along};
+ghost use Rattle.tlv.specs.Views.Walks.{ahead, Within, Along};
 ghost use Rattle.tlv_value.specs.Views.Values.{measured, value_as, ValueRoom};
 
 use tag::Address;
-use tlv::table::SkipTable;
+use tlv::table;
 use tlv::walk::Walk;
 
 // A value of a given length: the address of its first byte, and whether it is interrupted.
@@ -19,23 +19,23 @@ pub struct Value {
     pub interrupted: bool,
 }
 
-// How many of the addresses from `at` up to `end` are usable. As in `SkipTable::none_skipped`, a compiler can treat many addresses at once.
+// How many of the addresses from `at` up to `end` are usable. As in `table::none_skipped`, a compiler can treat many addresses at once.
 // Two addresses, which a bare range can't bound.
-fn count_usable(table: &SkipTable, at: Address, end: Address) -> usize
-    requires { (at.0 ≤ end.0) × (end.0 ≤ 1024) }
+fn count_usable(table: &[u16], at: Address, end: Address) -> usize
+    requires { (at.0 ≤ end.0) × (end.0 ≤ length table.now) × (end.0 ≤ 1024) }
     ensures is { result ≡ length (unskipped table.now at.0 (end.0 - at.0)) }
     ensures few { result ≤ end.0 - at.0 }
 {
     let mut n = 0;
-    for entry in &table.entries()[at.0..end.0] {
+    for entry in &table[at.0..end.0] {
         n += u16::from(*entry == 0);
     }
     usize::from(n)
 }
 
 // How many usable bytes are still to come. Where no area is declared, every byte is usable.
-pub fn count(walk: Walk, table: &SkipTable) -> usize
-    requires { Counted table.now walk }
+pub fn count(walk: Walk, table: &[u16]) -> usize
+    requires { Within table.now walk }
     ensures is { result ≡ length (ahead table.now walk) }
     ensures few { result ≤ 1024 }
 {
@@ -47,8 +47,8 @@ pub fn count(walk: Walk, table: &SkipTable) -> usize
 
 // The next `n` usable bytes as a value, unless fewer are left. Their addresses rise, so they are consecutive exactly if the first and
 // the last are `n - 1` apart.
-pub fn measure(walk: Walk, n: usize, table: &SkipTable) -> Option<Value>
-    requires { (1 ≤ n) × Counted table.now walk }
+pub fn measure(walk: Walk, n: usize, table: &[u16]) -> Option<Value>
+    requires { (1 ≤ n) × Within table.now walk }
     ensures is { value_as result ≡ measured n (ahead table.now walk) }
     ensures room { ValueRoom n (ahead table.now walk) result }
 {
@@ -56,7 +56,7 @@ pub fn measure(walk: Walk, n: usize, table: &SkipTable) -> Option<Value>
     if last == walk.end {
         return None;
     }
-    let address = table.next_usable(walk.at, walk.end);
+    let address = table::next_usable(table, walk.at, walk.end);
     Some(Value {
         address,
         interrupted: address.0 + (n - 1) < last.0,
@@ -64,36 +64,36 @@ pub fn measure(walk: Walk, n: usize, table: &SkipTable) -> Option<Value>
 }
 
 // Copies the next `n` usable bytes, or as many as there are, to the front of `out`.
-pub fn gather(walk: Walk, n: usize, image: &[u8], table: &SkipTable, out: &mut [u8])
-    requires { (walk.end.0 ≤ length image.now) × (n ≤ length out.old) }
+pub fn gather(walk: Walk, n: usize, image: &[u8], table: &[u16], out: &mut [u8])
+    requires { (walk.end.0 ≤ length image.now) × Within table.now walk × (n ≤ length out.old) }
     ensures { out.new ≡ overwrite (map (byte image.now) (take n (ahead table.now walk))) out.old }
 {
-    let mut at = table.next_usable(walk.at, walk.end);
+    let mut at = table::next_usable(table, walk.at, walk.end);
     // Tried, and slower: through `Walk::take_byte` (D53).
     for slot in &mut out[..n] {
         if at == walk.end {
             return;
         }
         *slot = image[at.0];
-        at = table.next_usable(Address(at.0 + 1), walk.end);
+        at = table::next_usable(table, Address(at.0 + 1), walk.end);
     }
 }
 
 // Sets the next usable bytes to `bytes` until either runs out, and returns the walk past them.
-pub fn set_bytes(walk: Walk, bytes: &[u8], table: &SkipTable, image: &mut [u8]) -> Walk
-    requires { walk.end.0 ≤ length image.old }
+pub fn set_bytes(walk: Walk, bytes: &[u8], table: &[u16], image: &mut [u8]) -> Walk
+    requires { (walk.end.0 ≤ length image.old) × Within table.now walk }
     ensures sets { image.new ≡ overlay (ahead table.now walk) bytes.now image.old }
     ensures past { ahead table.now result ≡ drop (length bytes.now) (ahead table.now walk) }
     ensures placed { Along table.now walk result }
 {
-    let mut at = table.next_usable(walk.at, walk.end);
+    let mut at = table::next_usable(table, walk.at, walk.end);
     // Tried, and slower: through `Walk::take_byte`, 2.27 µs for a message of 1,000 bytes in place of 1.73 µs (D53).
     for byte in bytes {
         if at == walk.end {
             break;
         }
         image[at.0] = *byte;
-        at = table.next_usable(Address(at.0 + 1), walk.end);
+        at = table::next_usable(table, Address(at.0 + 1), walk.end);
     }
     walk.moved_to(at)
 }

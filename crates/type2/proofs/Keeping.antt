@@ -23,7 +23,7 @@ use Rattle.type2.specs.Views.Kept.{Covered}
 pub covered : (i m table : List ℕ) (w : Walk) (e : Extent) → Room i table (length m) w → ahead table w ≡ (type2.plan i m).addresses
     → Extends table (ahead table w) (length m) e → Bounded table w.end.0 e → Covered i m table e
 covered i m table w e room us extends b = record {
-  bounded = record { below = omega (arith, b.below, room.in_image); skips_is = b.skips_is };
+  bounded = record { ordered = b.ordered; below = omega (arith, b.below, room.in_image); in_table = b.in_table; skips_is = b.skips_is };
   sets_are = λ a. ap (λ vs. is_set vs (tlv_bytes m) a) (sym us) ∙ extends (tlv_bytes m) a (length-tlv-bytes m);
 }
 

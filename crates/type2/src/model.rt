@@ -8,7 +8,6 @@ ghost use Rattle.type2.specs.Type2.{type2};
 
 use crate::{commands, container, read};
 use tag::{Address, Refusal};
-use tlv::table::SkipTable;
 
 // Stores what the command says if it is well formed, else nothing, and answers whether it is well formed.
 #[tactic(auto, using(tag::proofs::Storing::put_sets), unfolding(crate::specs::Codec::decode))]
@@ -32,7 +31,7 @@ pub fn take_command(image: &mut [u8], command: &[u8]) -> bool
 pub fn model(image: &mut [u8], command: &[u8]) -> Result<(), Refusal>
     ensures { Took type2 image.old command.now result image.new }
 {
-    let mut table = SkipTable::new();
+    let mut table = [0; container::LONGEST_IMAGE];
     read::locate(image, &mut table)?;
     if !take_command(image, command) {
         return Err(Refusal::MalformedCommand);

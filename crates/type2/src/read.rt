@@ -10,14 +10,13 @@ ghost use Rattle.type2.specs.Views.Reading.{located_as, LocatedHere};
 
 use crate::container;
 use tag::{Address, Refusal, Report, slices};
-use tlv::table::SkipTable;
 use tlv_tag::read::Located;
 
 // The message TLV, and whether the tag is writable; or one of the refusals 1 to 8, in this order. The skip table passed in
-// skips nothing yet.
+// is all zeros.
 #[tactic(auto, using(crate::proofs::Reading::by_container))]
 // A pair: `Located` is any tag's with a TLV area, and this type's container says whether it is writable.
-pub(crate) fn locate(image: &[u8], table: &mut SkipTable) -> Result<(Located, bool), Refusal>
+pub(crate) fn locate(image: &[u8], table: &mut [u16]) -> Result<(Located, bool), Refusal>
     requires { table.old ≡ replicate 1024 0 }
     ensures is { located_as table.new result ≡ locate memory image.now }
     ensures here { LocatedHere image.now table.new result }
@@ -32,7 +31,7 @@ pub(crate) fn locate(image: &[u8], table: &mut SkipTable) -> Result<(Located, bo
 pub fn read(image: &[u8], gathered: &mut [u8]) -> Result<Report, Refusal>
     ensures { Read type2.reading image.now gathered.old result gathered.new }
 {
-    let mut table = SkipTable::new();
+    let mut table = [0; container::LONGEST_IMAGE];
     let (located, writable) = locate(image, &mut table)?;
     let capacity = located.capacity(&table);
     located.report(image, &table, gathered, writable, capacity)
@@ -44,7 +43,7 @@ pub fn read(image: &[u8], gathered: &mut [u8]) -> Result<Report, Refusal>
 pub fn read_held(image: &[u8], gathered: &mut [u8]) -> Result<Report, Refusal>
     ensures { Read (λ i. with_capacity 0 (type2.reading i)) image.now gathered.old result gathered.new }
 {
-    let mut table = SkipTable::new();
+    let mut table = [0; container::LONGEST_IMAGE];
     let (located, writable) = locate(image, &mut table)?;
     located.report(image, &table, gathered, writable, 0)
 }

@@ -6,7 +6,6 @@ ghost use Rattle.type2.specs.Type2.{type2};
 use crate::blocks::Blocks;
 use one_block_write::list;
 use tag::{Address, Refusal};
-use tlv::table::SkipTable;
 use tlv_tag::prepare;
 use type2::container;
 
@@ -16,7 +15,7 @@ pub fn write(image: &[u8], message: &[u8], list: &mut [u8]) -> Result<usize, Ref
     ensures { Wrote type2 image.now message.now list.old result list.new }
 {
     let area = container::data_area(image)?;
-    let mut table = SkipTable::new();
+    let mut table = [0; container::LONGEST_IMAGE];
     let mut new = [0u8; container::LONGEST_IMAGE];
     let new = &mut new[..image.len()];
     let first = prepare::prepare(
@@ -28,5 +27,5 @@ pub fn write(image: &[u8], message: &[u8], list: &mut [u8]) -> Result<usize, Ref
         &mut table,
         new,
     )?;
-    list::put_list(&Blocks { image, new, first }, list)
+    list::put_update(&Blocks { image, new, first }, list)
 }

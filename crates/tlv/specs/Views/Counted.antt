@@ -27,8 +27,3 @@ TableOf end n table = Added 0 end n (replicate (length table) 0) table
 -- a table that areas made, however many
 abbrev pub TableOfAreas : ℕ → List ℕ → Type 0
 TableOfAreas end table = (n : ℕ) × TableOf end n table
-
--- the entries of a skip table: one for each address of the largest image, and areas made them
-pub record Entries (table : List ℕ) : Type 0 where
-  pub size : length table ≡ 1024
-  pub made : TableOfAreas 1024 table

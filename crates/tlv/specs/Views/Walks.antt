@@ -16,12 +16,18 @@ ahead table w = unskipped table w.at.0 (w.end.0 - w.at.0)
 abbrev pub rule_of : List ℕ → Address → Area → Bool
 rule_of image first = allowed_area first.0 (length image)
 
--- the table is that of as many areas as the walk counts
-abbrev pub Counted : List ℕ → Walk → Type 0
-Counted table w = TableOf w.end.0 w.areas table
+-- the walk lies inside the table, and the table is that of as many areas as the walk counts
+pub record Within (table : List ℕ) (w : Walk) : Type 0 where
+  pub ordered : w.at.0 ≤ w.end.0
+  pub in_table : w.end.0 ≤ length table
+  pub short : length table ≤ 1024
+  -- declaring an area takes bytes
+  pub few : w.areas ≤ w.at.0
+  pub declared : TableOf w.end.0 w.areas table
 
--- the walk has moved on from v; n areas were declared on the way, and they turned t into u
+-- the walk has moved on from v and lies inside the table; n areas were declared on the way, and they turned t into u
 pub record Onward (t u : List ℕ) (n : ℕ) (v w : Walk) : Type 0 where
+  pub within : Within u w
   pub farther : v.at.0 ≤ w.at.0
   pub same_end : w.end.0 ≡ v.end.0
   pub counted : w.areas ≡ v.areas + n

@@ -5,6 +5,7 @@ use Rattle.std.specs.Prelude.{◌≡◌, List, ℕ, ◌≤◌, length, replicate
 -- the data area lies inside the image and the table
 pub record BlankArea (image table : List ℕ) (first end : ℕ) : Type 0 where
   pub ordered : first ≤ end
-  pub in_table : end ≤ 1024
+  pub in_table : end ≤ length table
   pub in_image : end ≤ length image
-  pub blank : table ≡ replicate 1024 0
+  pub short : length table ≤ 1024
+  pub zeros : table ≡ replicate (length table) 0

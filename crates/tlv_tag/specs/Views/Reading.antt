@@ -9,7 +9,7 @@ use Rattle.tag.specs.Answers.{number_of}
 use Rattle.tlv.specs.Areas.{allowed_area}
 use Rattle.tlv.specs.Walk.{find}
 use Rattle.tlv.specs.declared.walk.Walk.{Walk}
-use Rattle.tlv.specs.Views.Walks.{ahead, Counted}
+use Rattle.tlv.specs.Views.Walks.{ahead, Within}
 use Rattle.tlv_value.specs.Views.Values.{at, measured}
 use Rattle.tlv_tag.specs.declared.read.Located as code
 use Rattle.tlv_tag.specs.Message.{Located, refuse, located, locate_from}
@@ -38,10 +38,11 @@ abbrev pub located_as : List ℕ → Result code.Located refusals.Refusal → Lo
 located_as table (Err e) = refuse (number_of e)
 located_as table (Ok l) = located (ahead table l.field) (value_addresses table l)
 
--- the message TLV lies inside the image, the table is that of the areas before it, and the content is its own
+-- the message TLV lies inside the image and the table, the table is that of the areas before it, and the content is its own
 pub record Placed (image table : List ℕ) (l : code.Located) : Type 0 where
   pub in_image : l.field.end.0 ≤ length image
-  pub counted : Counted table l.field
+  pub within : Within table l.field
+  pub value_within : Within table l.value
   pub same_end : l.value.end.0 ≡ l.field.end.0
   pub some_room : 0 < length (ahead table l.field)
   pub held : Held (ahead table l.value) (size l.content) l.content

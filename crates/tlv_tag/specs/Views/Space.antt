@@ -6,7 +6,7 @@ use Rattle.tag.specs.declared.refusals.Refusal as refusals
 use Rattle.tag.specs.Answers.{number_of}
 use Rattle.tag.specs.Refusals.{empty_message, not_writable, message_too_long}
 use Rattle.tlv.specs.declared.walk.Walk.{Walk}
-use Rattle.tlv.specs.Views.Walks.{ahead, Counted}
+use Rattle.tlv.specs.Views.Walks.{ahead, Within}
 use Rattle.tlv_tag.specs.Message.{Located, refuse, located, capacity_in}
 
 -- a refusal; or the usable addresses after the message TLV's type byte, which have room
@@ -31,7 +31,7 @@ space_as table (Ok w) = space (ahead table w)
 -- a walk with room for a message of n bytes from its place on
 pub record Room (image table : List ℕ) (n : ℕ) (w : Walk) : Type 0 where
   pub in_image : w.end.0 ≤ length image
-  pub counted : Counted table w
+  pub within : Within table w
   pub enough : n < length (ahead table w)
   pub few : length (ahead table w) ≤ 1024
 

@@ -5,4 +5,4 @@ use Rattle.tlv_tag.proofs.kept.skipped_changed.Goals as goal
 pub loop-k-preserved : goal.loop-k-preserved
 loop-k-preserved c =
     let a = c.args in
-    rw (c.loop-k.invariant) (changed-more a.image.now a.work.now c.entries-entries.result.now a.extent.first.0 c.loop-k.k (omega arith))
+    rw (c.loop-k.invariant) (changed-more a.image.now a.work.now a.table.now a.extent.first.0 c.loop-k.k (omega arith))

@@ -9,5 +9,5 @@ returns-then-walk-eq0-clause-is c =
     let t = c.args.table.now in
     let at = c.args.walk.at.0 in
     let end = c.args.walk.end.0 in
-    let none = subst (λ n. TableOf end n t) c.if-walk-eq0.true c.requires in
+    let none = subst (λ n. TableOf end n t) c.if-walk-eq0.true c.requires.declared in
     sym (ap length (none-declared end t none at (end - at)) ∙ length_run (end - at) at)

@@ -33,7 +33,7 @@ returns-then-eq c =
     let u : from t l.at.0 e ≡ [] = from_end t l.at.0 e (omega arith) in
     let none : take (a.n - l.slot-index) (from t l.at.0 e) ≡ [] = rw u (take-nil (a.n - l.slot-index)) in
     ap (λ s. s ++ drop a.n a.out.now) (set-get_or l.slot-items l.slot-index 0)
-    ∙ gathered (byte a.image.now) l.slot-index a.n (from t l.at.0 e) (from t c.next_usable-at.result.0 e) l.slot-items a.out.now none l.invariant.gathers (c.requires.1)
+    ∙ gathered (byte a.image.now) l.slot-index a.n (from t l.at.0 e) (from t c.next_usable-at.result.0 e) l.slot-items a.out.now none l.invariant.gathers c.requires.2
     ∙ ap (λ us. overwrite (map (byte a.image.now) (take a.n us)) a.out.now) (sym c.next_usable-at.ensures.left)
 
 pub loop-slot-preserved : goal.loop-slot-preserved
@@ -60,5 +60,5 @@ returns c =
     let l = c.loop-slot in
     let z : a.n - l.slot-index ≡ 0 = omega (arith, l.invariant.long) in
     let none : take (a.n - l.slot-index) (from t l.at.0 e) ≡ [] = rw z in
-    gathered (byte a.image.now) l.slot-index a.n (from t l.at.0 e) (from t c.next_usable-at.result.0 e) l.slot-items a.out.now none l.invariant.gathers (c.requires.1)
+    gathered (byte a.image.now) l.slot-index a.n (from t l.at.0 e) (from t c.next_usable-at.result.0 e) l.slot-items a.out.now none l.invariant.gathers c.requires.2
     ∙ ap (λ us. overwrite (map (byte a.image.now) (take a.n us)) a.out.now) (sym c.next_usable-at.ensures.left)

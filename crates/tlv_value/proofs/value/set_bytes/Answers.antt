@@ -68,4 +68,4 @@ returns-clause-past c =
     rw (c.moved_to.ensures.0, c.moved_to.ensures.1) (sym rest ∙ l.invariant.past ∙ ap (drop n) (sym c.next_usable-at.ensures.left))
 
 pub returns-clause-placed : goal.returns-clause-placed
-returns-clause-placed c = moved (omega (arith, c.loop-byte.invariant.farther, c.moved_to.ensures.0)) c.moved_to.ensures.1 c.moved_to.ensures.2
+returns-clause-placed c = moved c.requires.1 (omega (arith, c.loop-byte.invariant.farther, c.moved_to.ensures.0)) (omega (arith, c.loop-byte.invariant.here.within, c.moved_to.ensures.0, c.moved_to.ensures.1)) c.moved_to.ensures.1 c.moved_to.ensures.2

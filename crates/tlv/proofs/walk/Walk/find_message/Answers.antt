@@ -4,17 +4,17 @@ use Rattle.tag.specs.Answers.{number_of}
 use Rattle.tag.specs.Refusals.{no_message_tlv}
 use Rattle.tlv.specs.Views.Walks.{ahead, rule_of}
 use Rattle.tlv.proofs.Fuel.{walk_more, walk-stop, walk-hit}
-use Rattle.tlv.proofs.Steps.{stay, onward, counted-on}
+use Rattle.tlv.proofs.Steps.{stay, onward}
 use Rattle.tlv.proofs.Finding.{stepped, no-step, fuel-enough, walked_on}
 use Rattle.tlv.proofs.walk.Walk.find_message.Goals as goal
 
 pub loop-byte-init : goal.loop-byte-init
-loop-byte-init c = record { finds = refl; walked = (0, stay) }
+loop-byte-init c = record { finds = refl; walked = (0, stay c.requires.1) }
 
 pub pass_by_type-requires : goal.pass_by_type-requires
 pass_by_type-requires c =
     let p = onward c.loop-byte.invariant.walked.1 c.in-Some.ensures.placed.0 in
-    (omega (arith, p.same_end, c.requires.0), counted-on p c.requires.1)
+    (omega (arith, p.same_end, c.requires.0), p.within)
 
 pub returns-in_err-next-clause-is : goal.returns-in_err-next-clause-is
 returns-in_err-next-clause-is c =

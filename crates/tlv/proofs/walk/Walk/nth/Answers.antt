@@ -24,7 +24,7 @@ returns-then-self-eq0-clause-is c =
     let w = a.self in
     elim c.then-self-eq0.branch [
       | then-self-eq0-via-then-self-eq0 b ↦
-          let none = subst (λ n. TableOf w.end.0 n t) b.if-self-eq0.true c.requires in
+          let none = subst (λ n. TableOf w.end.0 n t) b.if-self-eq0.true c.requires.declared in
           sym (none-nth w.end.0 t none w.at.0 (w.end.0 - w.at.0) a.k w.end.0 (omega arith))
       | then-self-eq0-via-else-self-eq0+then-none_skipped b ↦
           let s : w.at.0 + a.k + 1 - w.at.0 ≡ suc a.k = omega arith in
@@ -49,7 +49,7 @@ overflow_add-at c = let apart : (c.loop.at.0 ≡ c.args.self.end.0 → ⊥) = se
 pub next_usable-at-requires-in-loop : goal.next_usable-at-requires-in-loop
 next_usable-at-requires-in-loop c =
     let apart : (c.loop.at.0 ≡ c.args.self.end.0 → ⊥) = search rules in
-    (omega (arith, c.loop.invariant.here.within), c.args.self.in_table)
+    (omega (arith, c.loop.invariant.here.within), c.requires.in_table, (_, c.requires.declared))
 
 pub loop-preserved : goal.loop-preserved
 loop-preserved c =

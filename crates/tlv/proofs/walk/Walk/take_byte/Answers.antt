@@ -31,4 +31,4 @@ returns-clause-placed c =
     let f = c.next_usable-place.result.0 in
     let e = c.args.self.end.0 in
     let apart : (f ≡ e → ⊥) = search rules in
-    (moved (omega (arith, c.moved_to.ensures.0)) c.moved_to.ensures.1 c.moved_to.ensures.2, omega arith, omega (arith, c.moved_to.ensures.0))
+    (moved c.requires.1 (omega (arith, c.moved_to.ensures.0)) (omega (arith, c.moved_to.ensures.0, c.moved_to.ensures.1)) c.moved_to.ensures.1 c.moved_to.ensures.2, omega arith, omega (arith, c.moved_to.ensures.0))

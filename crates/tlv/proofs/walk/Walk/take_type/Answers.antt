@@ -22,7 +22,7 @@ returns-then-byte-ne0-clause-is c =
 
 pub returns-then-byte-ne0-clause-placed : goal.returns-then-byte-ne0-clause-placed
 returns-then-byte-ne0-clause-placed c =
-    (moved (omega (arith, c.loop-at.invariant.farther, c.moved_to.ensures.0)) c.moved_to.ensures.1 c.moved_to.ensures.2, omega (arith, c.loop-at.invariant.farther), omega (arith, c.moved_to.ensures.0))
+    (moved c.requires.1 (omega (arith, c.loop-at.invariant.farther, c.moved_to.ensures.0)) (omega (arith, c.moved_to.ensures.0, c.moved_to.ensures.1)) c.moved_to.ensures.1 c.moved_to.ensures.2, omega (arith, c.loop-at.invariant.farther), omega (arith, c.moved_to.ensures.0))
 
 pub loop-at-preserved : goal.loop-at-preserved
 loop-at-preserved c =
