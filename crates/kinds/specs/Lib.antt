@@ -1,1 +1,2 @@
--- No definitions: what the structs of this crate are is said by their ghost fields and by the trait that they implement.
+-- What a type of tag as a value means in the definitions. The structs of this crate need none: their ghost fields and the trait say it.
+pub mod Views

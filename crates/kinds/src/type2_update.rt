@@ -7,7 +7,6 @@ ghost use Rattle.type2.specs.Type2.{type2};
 ghost use Rattle.type2.specs.Views.Kept.{Covered};
 
 use tag::{Address, Refusal, Report};
-use tlv::table::SkipTable;
 use tlv_tag::kept::Extent;
 use tlv_tag::{kept, space};
 use type2::container;
@@ -18,7 +17,7 @@ use update::Update;
 pub struct Type2Update<'a> {
     image: &'a [u8],
     message: &'a [u8],
-    table: &'a SkipTable,
+    table: &'a [u16],
     extent: Extent,
     ghost covered: { Covered image.now message.now table.now extent },
     ghost planned: { writing type2 image.now message.now ≡ written (type2.plan image.now message.now) },
@@ -26,11 +25,11 @@ pub struct Type2Update<'a> {
 }
 
 impl<'a> Type2Update<'a> {
-    // Refusals 1 to 11, as writing gives them. The skip table skips nothing yet.
+    // Refusals 1 to 11, as writing gives them. The skip table is all zeros.
     pub fn new(
         image: &'a [u8],
         message: &'a [u8],
-        table: &'a mut SkipTable,
+        table: &'a mut [u16],
     ) -> Result<Type2Update<'a>, Refusal>
         requires { table.old ≡ replicate 1024 0 }
         ensures { MatchResult result (λ u. (u.image.now ≡ image.now) × (u.message.now ≡ message.now)) (λ e. writing type2 image.now message.now ≡ refused_write (number_of e)) }

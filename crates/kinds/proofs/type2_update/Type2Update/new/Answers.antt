@@ -1,8 +1,15 @@
+use Rattle.std.proofs.Common.{arith}
 use Rattle.std.proofs.lemmas.Result.{err_from_is_err_and}
+use Rattle.tlv_tag.proofs.Fitting.{blank_area}
 use Rattle.type2.proofs.Deciding.{refused-writing, no-space-writing}
 use Rattle.type2.proofs.Keeping.{covered}
 use Rattle.kinds.proofs.Preparing.{writing-at, addresses-at}
 use Rattle.kinds.proofs.type2_update.Type2Update.new.Goals as goal
+
+pub find_space-requires : goal.find_space-requires
+find_space-requires c =
+    let p = c.in_ok-area.ensures in
+    blank_area 1024 c.requires (omega arith) (omega (arith, p.ends)) (omega (arith, p.inside, p.short)) (omega (arith, p.inside))
 
 pub returns-in_err-area : goal.returns-in_err-area
 returns-in_err-area c =

@@ -1,0 +1,2 @@
+-- Views of a type of tag as a value.
+pub mod Types
