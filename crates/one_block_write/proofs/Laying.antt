@@ -1,4 +1,4 @@
--- The bytes of write commands: one command, the command of a block, and the commands of several blocks.
+-- The bytes of write commands: one command as the code lays it, the command of a block, and the commands of several blocks.
 -- Assumes nothing.
 use mathlib.Core.Path.{◌≡◌, refl, sym, ap, ◌∙◌}
 use mathlib.Core.List.{List, [], ◌∷◌, ◌++◌, append-nil, append_assoc}
@@ -7,12 +7,12 @@ use native.Mathlib.Nat.{mul-le-mul_left, mul-div_cancel_left}
 use native.Mathlib.Numerals.{add-one}
 use native.Mathlib.Omega.{arith}
 use borrow.Rule.Slice.PartMut.{put_mid}
-use lib.ListN.{length, take, drop, length-append}
-use lib.Seq.{length-take-le, take-suc, get_or-take}
+use lib.ListN.{length, get_or, set, take, drop, length-append, length-take, length-drop, drop_of_length-le}
+use lib.Seq.{drop-cons, drop_at, set_at, length-take-le, take-suc, get_or-take}
 use Rattle.tag.specs.Bytes.{byte}
 use Rattle.tag.specs.Plan.{block_of}
 use Rattle.tag.proofs.Blocks.{block-length}
-use Rattle.tag.proofs.Filling.{lay-part}
+use Rattle.tag.proofs.Filling.{lent, lay-part}
 use Rattle.one_block_write.specs.Views.Listing.{command_length, command_bytes, block_bytes, blocks_bytes, store_bytes}
 
 -- a block below n of n blocks
@@ -24,6 +24,38 @@ module _ (front : List ℕ) where
 
   pub length-command : (b : ℕ) (bytes : List ℕ) → length (command_bytes front b bytes) ≡ command_length front (length bytes)
   length-command b bytes = length-append front (b ∷ bytes) ∙ omega arith
+
+  -- laid in three steps: the bytes, in a borrowed part; the front; and the block's number between them
+  pub command-laid : (out bytes : List ℕ) (b : ℕ) → command_length front (length bytes) ≤ length out
+      → set (front ++ drop (length front) (put_mid (length front + 1) (length front + 1 + length bytes - (length front + 1)) out bytes)) (length front) b
+      ≡ command_bytes front b bytes ++ drop (command_length front (length bytes)) out
+  command-laid out bytes b l =
+      let n = length front in
+      let a = length front + 1 in
+      let k = length bytes in
+      let x = put_mid a (a + k - a) out bytes in
+      let rest = drop (a + k) out in
+      let none : length (take (a + k - a) (drop a out)) ≤ k = rw (length-take, length-drop) (omega arith) in
+      let first : length (take a out) ≡ a = length-take-le a out (omega arith) in
+      let is : x ≡ take a out ++ (bytes ++ rest)
+      = lent out bytes bytes a (a + k) k (omega arith) (omega arith)
+      (sym (ap (λ ys. bytes ++ ys) (drop_of_length-le (take (a + k - a) (drop a out)) none) ∙ append-nil bytes)) in
+      let long : n < length x = omega (arith, ap length is, length-append (take a out) (bytes ++ rest), first) in
+      let tail : drop (suc n) x ≡ bytes ++ rest
+      = ap (λ d. drop d x) (sym (add-one n)) ∙ ap (drop a) is ∙ drop_at (take a out) (bytes ++ rest) a first in
+      ap (λ ys. set (front ++ ys) n b) (drop-cons x n 0 long)
+      ∙ set_at front (get_or x n 0) (drop (suc n) x) b n refl
+      ∙ ap (λ ys. front ++ b ∷ ys) tail
+      ∙ sym (append_assoc front (b ∷ bytes) rest)
+
+  -- the same where the command takes all there is
+  pub command-whole : (out bytes : List ℕ) (b : ℕ) → length out ≡ command_length front (length bytes)
+      → set (front ++ drop (length front) (put_mid (length front + 1) (length front + 1 + length bytes - (length front + 1)) out bytes)) (length front) b
+      ≡ command_bytes front b bytes
+  command-whole out bytes b l =
+      command-laid out bytes b (omega (arith, l))
+      ∙ ap (λ ys. command_bytes front b bytes ++ ys) (drop_of_length-le out (omega (arith, l)))
+      ∙ append-nil (command_bytes front b bytes)
 
   module _ (z : ℕ) where
     pub length-block : (i : List ℕ) (b : ℕ) → z * b + z ≤ length i → length (block_bytes front z i b) ≡ command_length front z

@@ -4,6 +4,7 @@
 #![tactic(auto)]
 
 mod between;
+mod blocks;
 pub mod list;
 
 ghost use Rattle.std.specs.Prelude.{◌≡◌, ◌<◌, Bool, List, ℕ, length};

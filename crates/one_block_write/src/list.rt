@@ -3,8 +3,9 @@
 
 ghost use Rattle.std.specs.Prelude.{◌≡◌, ◌++◌, ◌*◌, ◌<◌, ◌≤◌, ◌/◌, length, drop};
 ghost use Rattle.tag.specs.PublicContracts.{PutOut};
-ghost use Rattle.one_block_write.specs.Views.Listing.{command_length, block_bytes, blocks_bytes, shut_command, shut_length, guarded_output, BlocksAsked};
+ghost use Rattle.one_block_write.specs.Views.Listing.{command_length, block_bytes, blocks_bytes, shut_command, shut_length, guarded_output, BlocksAsked, Listed};
 
+use crate::blocks::Blocks;
 use crate::{BlockUpdate, between};
 use tag::{Block, Refusal};
 
@@ -47,7 +48,7 @@ fn put_shut<U: BlockUpdate>(update: &U, out: &mut [u8]) -> usize
 
 // Writes the list that turns the tag into its new image to the front of `list`, and answers the number of commands. Refuses with 12 if
 // the list is longer than its buffer.
-pub fn put_list<U: BlockUpdate>(update: &U, list: &mut [u8]) -> Result<usize, Refusal>
+pub fn put_update<U: BlockUpdate>(update: &U, list: &mut [u8]) -> Result<usize, Refusal>
     ensures { PutOut (λ room. guarded_output room (U.front update.now) (U.size update.now) (U.image update.now) (U.new_image update.now) (U.guard update.now) (U.shut update.now) (U.is_shut update.now)) list.old result list.new }
 {
     let between = between::blocks_to_write(update);
@@ -64,4 +65,32 @@ pub fn put_list<U: BlockUpdate>(update: &U, list: &mut [u8]) -> Result<usize, Re
         &mut list[at + step * between.len()..],
     );
     Ok(count)
+}
+
+// Writes the list that turns `image` into `new` to the front of `list`, and answers the number of commands. A command is the bytes of
+// `front`, the block's number, and the `size` bytes of the block. The guard block is shut with the bytes of `shut`, unless it is shut
+// `already`; all else is stored from the new image. Refuses with 12 if the list is longer than its buffer.
+pub fn put_list(
+    front: &[u8],
+    size: usize,
+    image: &[u8],
+    new: &[u8],
+    guard: Block,
+    shut: &[u8],
+    already: bool,
+    list: &mut [u8],
+) -> Result<usize, Refusal>
+    requires { Listed front.now size image.now new.now guard.0 shut.now }
+    ensures { PutOut (λ room. guarded_output room front.now size image.now new.now guard.0 shut.now already) list.old result list.new }
+{
+    let blocks = Blocks {
+        front,
+        size,
+        image,
+        new,
+        guard,
+        shut,
+        already,
+    };
+    put_update(&blocks, list)
 }

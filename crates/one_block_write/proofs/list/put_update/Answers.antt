@@ -5,7 +5,7 @@ use Rattle.tag.specs.Answers.{gives, count_of}
 use Rattle.tag.proofs.Filling.{three-laid}
 use Rattle.one_block_write.specs.Views.Listing.{command_length, block_bytes, blocks_bytes, shut_command, shut_length, chosen, guarded_bytes}
 use Rattle.one_block_write.proofs.Guarding.{shut-count, chosen-below, length-shut, length-middle, guarded-short, guarded-fits, whole_length, guarded-end}
-use Rattle.one_block_write.proofs.list.put_list.Goals as goal
+use Rattle.one_block_write.proofs.list.put_update.Goals as goal
 
 pub returns-then-list-step : goal.returns-then-list-step
 returns-then-list-step g c =
