@@ -6,7 +6,7 @@ use Rattle.tag.specs.Bytes.{byte}
 use Rattle.type3.specs.AttributeInformation.{attribute_information}
 
 -- one byte more; past the end it is 0
-sum-more : (i : List ℕ) (n : ℕ) → sum (take (suc n) i) ≡ sum (take n i) + byte i n
+pub sum-more : (i : List ℕ) (n : ℕ) → sum (take (suc n) i) ≡ sum (take n i) + byte i n
 sum-more [] zero = refl
 sum-more [] (suc n) = refl
 sum-more (a ∷ i) zero = omega arith

@@ -1,6 +1,6 @@
 // Reading a Type 3 tag: the tests of its attribute information, in the order of their refusals, and what it says of a message.
 
-ghost use Rattle.std.specs.Prelude.{◌≡◌, not, ◌&&◌, ◌||◌, [], ◌*◌, ◌^◌, ◌<◌, ◌≤◌, eqb, length, sum, IfOk, Ok};
+ghost use Rattle.std.specs.Prelude.{◌≡◌, not, ◌&&◌, ◌||◌, [], ◌*◌, ◌^◌, ◌<◌, ◌≤◌, eqb, length, take, sum, IfOk, Ok};
 ghost use Rattle.tag.specs.Checks.{first_of};
 ghost use Rattle.tag.specs.Answers.{read_as};
 ghost use Rattle.tag.specs.PublicContracts.{Read, Showed};
@@ -41,11 +41,18 @@ pub struct AttributeInformation {
 }
 
 // The sum of a few bytes. Sixteen bits hold it, and the compiler then adds eight bytes at once.
-pub fn sum(bytes: &[u8]) -> u16
+fn sum_few(bytes: &[u8]) -> u16
     requires { length bytes.now ≤ 16 }
     ensures { result ≡ sum bytes.now }
 {
     bytes.iter().map(|b| u16::from(*b)).sum()
+}
+
+// The sum of a block's bytes, or of those of a part of it. What follows the sixteenth is not added.
+pub fn sum(bytes: &[u8]) -> u16
+    ensures { result ≡ sum (take 16 bytes.now) }
+{
+    sum_few(&bytes[..bytes.len().min(BLOCK_SIZE)])
 }
 
 // Do Nbr, WriteFlag and RWFlag have defined values?
@@ -73,7 +80,9 @@ fn ln(image: &[u8]) -> usize
 }
 
 // Does a tag pass the tests of its attribute information? If not: the first of the refusals 1 to 5 and 7. This does not give the
-// attribute information as well: that would be returned through memory, which takes more time than to read block 0 again.
+// attribute information as well: that would be returned through memory, which takes more time than to read block 0 again. Never
+// inlined, so that `attribute_information` stays small enough to be.
+#[inline(never)]
 #[tactic(auto, using(crate::proofs::Summing::sum_is))]
 fn check(image: &[u8]) -> Result<(), Refusal>
     ensures { checked_as result ≡ first_of (attribute_checks (length image.now) (attribute_information image.now)) }
@@ -81,7 +90,7 @@ fn check(image: &[u8]) -> Result<(), Refusal>
     if image.len() < BLOCK_SIZE || LONGEST_IMAGE < image.len() || image.len() % BLOCK_SIZE != 0 {
         return Err(Refusal::ImageSize);
     }
-    if sum(&image[..CHECKSUM]) != u16::from_be_bytes([image[14], image[15]]) {
+    if sum_few(&image[..CHECKSUM]) != u16::from_be_bytes([image[14], image[15]]) {
         return Err(Refusal::NotNdef);
     }
     if !version::is_known(image[0]) {
@@ -91,7 +100,8 @@ fn check(image: &[u8]) -> Result<(), Refusal>
         return Err(Refusal::BadAccess);
     }
     let nmaxb = nmaxb(image);
-    if image.len() < BLOCK_SIZE * (1 + nmaxb) {
+    let end = Block(1 + nmaxb).address(BLOCK_SIZE);
+    if image.len() < end.0 {
         return Err(Refusal::BadDataArea);
     }
     if BLOCK_SIZE * nmaxb < ln(image) {
@@ -100,8 +110,8 @@ fn check(image: &[u8]) -> Result<(), Refusal>
     Ok(())
 }
 
-// What block 0 says.
-fn said(image: &[u8]) -> AttributeInformation
+// What block 0 says, of any image that has one.
+pub fn said(image: &[u8]) -> AttributeInformation
     requires { 16 ≤ length image.now }
     ensures { Says image.now result }
 {
@@ -114,7 +124,8 @@ fn said(image: &[u8]) -> AttributeInformation
     }
 }
 
-// What block 0 says, or the first of the refusals 1 to 5 and 7.
+// What block 0 says, or the first of the refusals 1 to 5 and 7. Inlined: a call returns it through memory, and each caller uses a part.
+#[inline]
 pub fn attribute_information(image: &[u8]) -> Result<AttributeInformation, Refusal>
     ensures is { checked_as result ≡ first_of (attribute_checks (length image.now) (attribute_information image.now)) }
     ensures known { IfOk result (Readable image.now) }

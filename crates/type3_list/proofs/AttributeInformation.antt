@@ -13,11 +13,17 @@ use Rattle.tag.proofs.Runs.{map-run}
 use Rattle.type3.specs.AttributeInformation.{steady_sum}
 use Rattle.type3.specs.Update.{ln_sum}
 use Rattle.type3.proofs.Codec.{length-command}
+use Rattle.type3.proofs.Summing.{sum-more}
 use Rattle.type3_list.specs.Views.Listing.{attribute_information_block, attribute_command, shut_command, shut_length}
 
 -- block 0 of an image is its sixteen bytes
 pub sixteen : (j : List ℕ) → 16 ≤ length j → take 16 j ≡ map (byte j) (run 0 16)
 sixteen j l = sym (map-run 16 0 j (omega arith))
+
+-- the sum of the bytes of block 0 that writing keeps
+pub sum-steady : (i : List ℕ) → sum (take 9 i) + byte i 10 ≡ steady_sum i
+sum-steady i =
+    omega (arith, sum-more i 0, sum-more i 1, sum-more i 2, sum-more i 3, sum-more i 4, sum-more i 5, sum-more i 6, sum-more i 7, sum-more i 8)
 
 -- block 0 with WriteFlag and Ln set
 abbrev pub set-flag : List ℕ → ℕ → ℕ → List ℕ

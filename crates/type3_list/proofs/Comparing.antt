@@ -15,7 +15,7 @@ use Rattle.tag.specs.Views.Picked.{picked}
 use Rattle.tag.proofs.Counts.{counted-most}
 use Rattle.tag.proofs.Picks.{length-picked, picked_next}
 use Rattle.type3.specs.Update.{blocks_for}
-use Rattle.type3_list.specs.Views.Blocks.{filled, message_block, is_changed}
+use Rattle.type3_list.specs.Views.Blocks.{filled, message_block, is_changed, changed_blocks}
 use Rattle.type3_list.proofs.Cutting.{next-chunk}
 use Rattle.type3_list.proofs.MessageBlocks.{part_filled}
 
@@ -64,3 +64,6 @@ picked-more t n r ps e q =
 -- at most as many as are compared
 pub picked-most : (t : ℕ → Bool) (n : ℕ) (ps : List ℕ) → ps ≡ picked t 1 n → length ps ≤ n
 picked-most t n ps q = omega (arith, ap length q, length-picked t 1 n, counted-most t n 1)
+
+pub few_changed : (i m : List ℕ) → length (changed_blocks i m) ≤ blocks_for (length m)
+few_changed i m = picked-most (is_changed i m) (blocks_for (length m)) (changed_blocks i m) refl

@@ -3,6 +3,7 @@
 ghost use Rattle.std.specs.Prelude.{◌≡◌, ◌++◌, ◌-◌, ◌*◌, ◌<◌, ◌≤◌, length, drop};
 ghost use Rattle.type3_list.specs.Views.Blocks.{filled, blocks_bytes, Chosen};
 
+use tag::Block;
 use type3::read::BLOCK_SIZE;
 
 // One block of the message, passed as a part that starts at the block's offset: sixteen bytes, 00h past the end. Blocks that are
@@ -21,11 +22,11 @@ pub(crate) fn fill_block(part: &[u8]) -> [u8; BLOCK_SIZE]
 }
 
 // Where in the message a block's bytes start.
-fn offset(block: u8) -> usize
-    requires { 0 < block }
-    ensures { result ≡ 16 * (block - 1) }
+fn offset(block: Block) -> usize
+    requires { (0 < block.0) × (block.0 < 256) }
+    ensures { result ≡ 16 * (block.0 - 1) }
 {
-    BLOCK_SIZE * (usize::from(block) - 1)
+    block.address(BLOCK_SIZE).0 - BLOCK_SIZE
 }
 
 // The bytes of the blocks, one after the other.
@@ -35,7 +36,7 @@ pub(crate) fn put_blocks(message: &[u8], blocks: &[u8], out: &mut [u8])
     ensures { out.new ≡ blocks_bytes message.now blocks.now ++ drop (16 * length blocks.now) out.old }
 {
     for (j, block) in blocks.iter().enumerate() {
-        let part = &message[offset(*block)..];
+        let part = &message[offset(Block(usize::from(*block)))..];
         out[BLOCK_SIZE * j..BLOCK_SIZE * (j + 1)].copy_from_slice(&fill_block(part));
     }
 }

@@ -16,7 +16,7 @@ pub fn write(image: &[u8], message: &[u8], idm: &[u8; 8], list: &mut [u8]) -> Re
     let information = read::attribute_information(image)?;
     space::check(information, message.len())?;
     let mut blocks = ArrayVec::new();
-    changed::blocks_to_write(image, message, &mut blocks);
+    changed::collect(image, message, &mut blocks);
     let width = information.nbw.min(commands::MOST_BLOCKS);
     let turns = blocks.len().div_ceil(width);
     let planned = WriteList {

@@ -17,9 +17,9 @@ loop-k-preserved c =
     let n : 16 * l.k + 16 - 16 * l.k ≡ 16 = omega arith in
     let size : length block ≡ 16 = length-take-le 16 (drop (16 * l.k) p.blockdata.now) (omega (arith, length-drop (16 * l.k) p.blockdata.now, p.whole, c.loop-k-test.true)) in
     let place : at ≡ 16 * number (get_or p.elements.now l.k []) = omega (arith, c.address-at.ensures, c.from.ensures) in
-    let stored : put_mid at (at + 16 - at) l.image c.copy_from_slice.new.self ≡ sets l.image (16 * number (get_or p.elements.now l.k [])) block
-    = put_sets at (at + 16 - at) block c.copy_from_slice.new.self l.image
-    (c.copy_from_slice.ensures.after ∙ ap (λ m. take m (drop (16 * l.k) p.blockdata.now)) n) (omega (arith, size))
+    let stored : put_mid at (at + 16 - at) l.image c.copy_from_slice-in-loop-k.new.self ≡ sets l.image (16 * number (get_or p.elements.now l.k [])) block
+    = put_sets at (at + 16 - at) block c.copy_from_slice-in-loop-k.new.self l.image
+    (c.copy_from_slice-in-loop-k.ensures.after ∙ c.copy_from_slice.ensures.after ∙ ap (λ m. take m (drop (16 * l.k) p.blockdata.now)) n) (omega (arith, size))
     (omega (arith, size, place, l.auto.image, c.requires l.k c.loop-k-test.true))
     ∙ ap (λ a. sets l.image a block) place in
     l.invariant

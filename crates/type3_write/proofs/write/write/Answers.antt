@@ -32,7 +32,7 @@ invariant_of-planned c =
     let bs = c.as_slice.result.now in
     let w = c.min-width.result in
     let t = c.div_ceil-turns.result in
-    let which = c.as_slice.ensures.value ∙ c.blocks_to_write.ensures in
+    let which = c.as_slice.ensures.value ∙ c.collect.ensures in
     let turns = c.div_ceil-turns.ensures ∙ ap (λ n. div_ceil n w) (c.len.ensures.value ∙ ap length (sym c.as_slice.ensures.value)) in
     let g = planned a.idm.now i m bs information.information w t (search rules) information.ensures.known (sym c.in_ok-check.ensures) which c.min-width.ensures turns
     (omega (arith, c.type_inv.image 12)) (omega (arith, c.type_inv.image 13)) in
@@ -54,7 +54,7 @@ returns-then-list-length c =
     let bs = c.as_slice.result.now in
     let w = c.min-width.result in
     let t = c.div_ceil-turns.result in
-    let which = c.as_slice.ensures.value ∙ c.blocks_to_write.ensures in
+    let which = c.as_slice.ensures.value ∙ c.collect.ensures in
     let turns = c.div_ceil-turns.ensures ∙ ap (λ n. div_ceil n w) (c.len.ensures.value ∙ ap length (sym c.as_slice.ensures.value)) in
     let g = planned a.idm.now i m bs information.information w t (search rules) information.ensures.known (sym c.in_ok-check.ensures) which c.min-width.ensures turns
     (omega (arith, c.type_inv.image 12)) (omega (arith, c.type_inv.image 13)) in
@@ -71,7 +71,7 @@ returns c =
     let bs = c.as_slice.result.now in
     let w = c.min-width.result in
     let t = c.div_ceil-turns.result in
-    let which = c.as_slice.ensures.value ∙ c.blocks_to_write.ensures in
+    let which = c.as_slice.ensures.value ∙ c.collect.ensures in
     let turns = c.div_ceil-turns.ensures ∙ ap (λ n. div_ceil n w) (c.len.ensures.value ∙ ap length (sym c.as_slice.ensures.value)) in
     let g = planned a.idm.now i m bs information.information w t (search rules) information.ensures.known (sym c.in_ok-check.ensures) which c.min-width.ensures turns
     (omega (arith, c.type_inv.image 12)) (omega (arith, c.type_inv.image 13)) in

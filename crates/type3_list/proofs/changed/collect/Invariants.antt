@@ -6,7 +6,7 @@ use Rattle.std.specs.Iterator.Adapters.{enumerate_source, enumerate_count}
 use Rattle.tag.specs.Views.Picked.{picked}
 use Rattle.type3.specs.Update.{blocks_for}
 use Rattle.type3_list.specs.Views.Blocks.{is_changed}
-use Rattle.type3_list.proofs.changed.blocks_to_write.Given as goal
+use Rattle.type3_list.proofs.changed.collect.Given as goal
 
 abbrev pub invariant-loop-before : goal.invariant-loop-before
 invariant-loop-before l =
