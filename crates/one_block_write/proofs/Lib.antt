@@ -3,3 +3,4 @@ pub mod Laying
 pub mod Guarding
 pub mod Plans
 pub mod Picking
+pub mod Ends

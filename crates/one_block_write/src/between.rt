@@ -1,6 +1,6 @@
 // Which blocks a list writes between the guard block's two commands: all but the guard block and those that hold their new bytes.
 
-ghost use Rattle.std.specs.Prelude.{◌≡◌, ◌/◌, ◌<◌, length};
+ghost use Rattle.std.specs.Prelude.{◌≡◌, ◌*◌, ◌/◌, ◌<◌, ◌≤◌, length};
 ghost use Rattle.tag.specs.Bytes.{same};
 ghost use Rattle.tag.specs.Plan.{between_by};
 ghost use Rattle.one_block_write.specs.Views.Listing.{chosen};
@@ -12,18 +12,31 @@ use tag::Block;
 // The most blocks that a list writes: a byte names each of them.
 const MOST_BLOCKS: usize = 256;
 
-// Whether two blocks hold the same bytes. Blocks of four bytes are compared as arrays, which is one comparison of words: `==` of slices
-// is a call, and takes longer for so few bytes.
+// Whether two slices of one length, from N to 2 * N bytes, are the same: their first N bytes, and their last N.
+fn same_ends<const N: usize>(a: &[u8], b: &[u8]) -> bool
+    requires { (N ≤ length a.now) × (length a.now ≤ 2 * N) × (length b.now ≡ length a.now) }
+    ensures { result ≡ same a.now b.now }
+{
+    a.first_chunk::<N>() == b.first_chunk::<N>() && a.last_chunk::<N>() == b.last_chunk::<N>()
+}
+
+// Whether two blocks hold the same bytes. From four bytes on they are compared as arrays, which takes a comparison or two of words:
+// `==` of slices is a call, and a Type 6 tag with blocks of 16 bytes took more than twice as long.
 fn same_block(a: &[u8], b: &[u8]) -> bool
     ensures { result ≡ same a.now b.now }
 {
-    match (<[u8; 4]>::try_from(a), <[u8; 4]>::try_from(b)) {
-        (Ok(a), Ok(b)) => a == b,
+    match a.len() {
+        _ if a.len() != b.len() => false,
+        4 => a.as_array::<4>() == b.as_array::<4>(),
+        5..=8 => same_ends::<4>(a, b),
+        9..=16 => same_ends::<8>(a, b),
+        17..=32 => same_ends::<16>(a, b),
         _ => a == b,
     }
 }
 
-// Whether the list writes the block between the guard block's two commands.
+// Whether the list writes the block between the guard block's two commands. The bytes are compared first: most blocks of a tag that is
+// rewritten hold theirs, and one test is enough for those.
 fn is_between<U: BlockUpdate>(update: &U, block: Block) -> bool
     requires { block.0 < length (U.new_image update.now) / U.size update.now }
     ensures { result ≡ between_by (U.size update.now) (U.guard update.now) (U.image update.now) (U.new_image update.now) block.0 }
@@ -31,7 +44,7 @@ fn is_between<U: BlockUpdate>(update: &U, block: Block) -> bool
     let size = update.block_size();
     let at = block.address(size).0;
     let held = &update.image()[at..at + size];
-    block != update.guard() && !same_block(held, &update.new_image()[at..at + size])
+    !same_block(held, &update.new_image()[at..at + size]) && block != update.guard()
 }
 
 // The numbers of the blocks to write, rising.

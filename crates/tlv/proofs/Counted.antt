@@ -1,16 +1,16 @@
 -- Skip tables by the areas that they skip: one area more, two runs of areas one after the other, and what no area changes.
 -- Assumes nothing.
 use mathlib.Core.Path.{◌≡◌, refl, ap, ◌∙◌}
+use mathlib.Core.Bool.{true}
 use mathlib.Core.List.{List}
 use Prim.Native.Nat.{ℕ, zero, suc, ◌+◌, ◌<◌, ◌≤◌}
 use native.Mathlib.Decide.{dec_lt}
 use native.Mathlib.Omega.{arith}
-use lib.ListN.{length, get_or}
+use lib.ListN.{length}
 use Rattle.tag.specs.Bytes.{byte, run}
-use Rattle.tag.proofs.Runs.{run-nth}
-use Rattle.tlv.specs.Views.Table.{unskipped}
+use Rattle.tlv.specs.Views.Table.{unskipped, none_skipped}
 use Rattle.tlv.specs.Views.Counted.{OneMore, Added, TableOf}
-use Rattle.tlv.proofs.Skipping.{unskipped-all}
+use Rattle.tlv.proofs.Skipping.{unskipped-all, none-all}
 
 pub none-added : (first end : ℕ) (t : List ℕ) → Added first end 0 t t
 unfolding Added
@@ -69,5 +69,6 @@ pub none-declared : (end : ℕ) (t : List ℕ) → TableOf end 0 t → (a n : �
 unfolding Added
 none-declared end t none a n = ap (λ s. unskipped s a n) none ∙ unskipped-all (length t) a n
 
-pub none-nth : (end : ℕ) (t : List ℕ) → TableOf end 0 t → (a n k d : ℕ) → k < n → get_or (unskipped t a n) k d ≡ a + k
-none-nth end t none a n k d l = ap (λ us. get_or us k d) (none-declared end t none a n) ∙ run-nth n a k d l
+pub none_free : (end : ℕ) (t : List ℕ) → TableOf end 0 t → (a n : ℕ) → none_skipped t a n ≡ true
+unfolding Added
+none_free end t none a n = ap (λ s. none_skipped s a n) none ∙ none-all (length t) a n

@@ -3,7 +3,7 @@
 -- Assumes nothing.
 use mathlib.Core.Path.{◌≡◌, refl, sym, ap, ◌∙◌}
 use mathlib.Core.Bool.{Bool, true, false, not, ◌&&◌, and_assoc}
-use mathlib.Core.List.{List, [], ◌∷◌}
+use mathlib.Core.List.{List, [], ◌∷◌, ◌++◌}
 use Prim.Native.Nat.{ℕ, zero, suc, ◌+◌, ◌-◌, ◌<◌, ◌≤◌}
 use native.Mathlib.Omega.{arith}
 use borrow.Author.Tests.{ne_eqb}
@@ -168,6 +168,24 @@ unfolding unskipped
 unskipped-all m a zero = refl
 unskipped-all m a (suc n) =
     rw (zeros m a, unskipped) (ap (λ us. a ∷ us) (unskipped-all m (suc a) n))
+
+pub none-all : (m a n : ℕ) → none_skipped (replicate m 0) a n ≡ true
+unfolding none_skipped
+none-all m a zero = refl
+none-all m a (suc n) = rw (zeros m a, none-all m (suc a) n)
+
+-- addresses none of which is skipped come one after another, and then the rest
+pub unskipped-run : (t : List ℕ) (a n k : ℕ) → none_skipped t a n ≡ true → unskipped t a (n + k) ≡ run a n ++ unskipped t (a + n) k
+unfolding unskipped none_skipped
+unskipped-run t a zero k h =
+    let z : 0 + k ≡ k = omega arith in
+    let y : a + 0 ≡ a = omega arith in
+    rw (z, y)
+unskipped-run t a (suc n) k h =
+    let s : suc n + k ≡ suc (n + k) = omega arith in
+    let f : a + suc n ≡ suc a + n = omega arith in
+    rw (s, f, and_l (eqb (byte t a) 0) (none_skipped t (suc a) n) h, unskipped)
+    (ap (λ us. a ∷ us) (unskipped-run t (suc a) n k (and_r (eqb (byte t a) 0) (none_skipped t (suc a) n) h)))
 
 -- a table that grows by an area
 pub skipped-more : (t u : List ℕ) (r : Area) (a n : ℕ)

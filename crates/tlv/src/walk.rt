@@ -3,7 +3,7 @@
 // Image and table are arguments: each step copies a `Walk`, and a table that is written can't be a field of it.
 // Which table goes with the walk is a clause, `Within`: the table changes, and the walk is copied.
 
-ghost use Rattle.std.specs.Prelude.{◌≡◌, ◌≤◌, length, get_or};
+ghost use Rattle.std.specs.Prelude.{◌≡◌, ◌-◌, ◌≤◌, length, get_or};
 ghost use Rattle.tlv.specs.Walk.{take_byte};
 
 use crate::table;
@@ -18,6 +18,7 @@ pub struct Walk {
 }
 
 impl Walk {
+    ghost use Rattle.tlv.specs.Views.Table.{none_skipped};
     ghost use Rattle.tlv.specs.Views.Walks.{ahead, Within, taken_as, TakenPlaced};
 
     // The walk over the data area from `first` up to `end`, before its first byte.
@@ -52,9 +53,16 @@ impl Walk {
         Some((image[place.0], place, self.moved_to(Address(place.0 + 1))))
     }
 
-    // The usable address that comes after `k` others, or the end if there are at most `k`. Without areas nothing is skipped. With
-    // some, mostly nothing is skipped on the way there, so the code tests that first: one sweep is quicker than going from each usable
-    // address to the next.
+    // Whether the next `n` addresses are all usable. Without areas nothing is skipped. With some, mostly nothing is skipped on the way,
+    // and one sweep over them is quicker than going from each usable address to the next.
+    pub fn is_free(self, n: usize, table: &[u16]) -> bool
+        requires { Within table.now self × (n ≤ self.end.0 - self.at.0) }
+        ensures { result ≡ none_skipped table.now self.at.0 n }
+    {
+        self.areas == 0 || table::none_skipped(table, self.at, Address(self.at.0 + n))
+    }
+
+    // The usable address that comes after `k` others, or the end if there are at most `k`.
     // The end stands for none, as in `table::search`.
     pub fn nth(self, k: usize, table: &[u16]) -> Address
         requires { Within table.now self }
@@ -64,9 +72,8 @@ impl Walk {
         if self.end.0 - self.at.0 <= k {
             return self.end;
         }
-        let direct = Address(self.at.0 + k);
-        if self.areas == 0 || table::none_skipped(table, self.at, Address(direct.0 + 1)) {
-            return direct;
+        if self.is_free(k + 1, table) {
+            return Address(self.at.0 + k);
         }
         let mut at = table::next_usable(table, self.at, self.end);
         // Not through `take_byte`: it needs an image, and is slower in such loops (D53).

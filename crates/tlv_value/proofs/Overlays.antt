@@ -1,13 +1,21 @@
--- Overlays at addresses that rise: the order of the stores does not matter, so bytes may be set one after the other.
+-- Overlays at addresses that rise: the order of the stores does not matter, so bytes may be set one after the other. Where no address is
+-- skipped on the way, they are stored as they lie.
 -- Assumes nothing.
 use mathlib.Core.Path.{◌≡◌, refl, sym, ap, ◌∙◌}
+use mathlib.Core.Bool.{true}
 use mathlib.Core.List.{List, [], ◌∷◌, ◌++◌}
-use Prim.Native.Nat.{ℕ, suc, ◌+◌, ◌<◌}
+use Prim.Native.Nat.{ℕ, suc, ◌+◌, ◌-◌, ◌<◌, ◌≤◌}
 use native.Mathlib.Numerals.{add-one}
+use native.Mathlib.Omega.{arith}
 use lib.ListN.{length, get_or, set, drop}
-use lib.Seq.{drop-nil, drop-cons}
-use Rattle.tag.specs.Bytes.{overlay}
+use lib.Seq.{sets, drop-nil, drop-cons, drop-append_seam}
+use Rattle.tag.specs.Bytes.{run, overlay}
 use Rattle.tag.proofs.Addresses.{Above, Rising, above-drop, above-rising, rising-drop, overlay-set}
+use Rattle.tag.proofs.Runs.{length_run}
+use Rattle.tag.proofs.Storing.{overlay-run}
+use Rattle.tlv.specs.Views.Table.{unskipped, none_skipped}
+use Rattle.tlv.proofs.Skipping.{unskipped-run}
+use Rattle.tlv.proofs.Usable.{from}
 
 pub overlay-none : (us i : List ℕ) → overlay us [] i ≡ i
 overlay-none [] i = refl
@@ -36,3 +44,31 @@ module _ (hi : ℕ) where
       third ∙ rw (q, second, p, first)
       (sym (overlay-append us x (y ++ z) i h
       ∙ overlay-append (drop (length x) us) y z (overlay us x i) (rising-drop hi (length x) us h)))
+
+-- ---- addresses that come one after another
+
+overlay-front : (xs us vs i : List ℕ) → length xs ≡ length vs → overlay (xs ++ us) vs i ≡ overlay xs vs i
+overlay-front [] us [] i h = overlay-none us i
+overlay-front [] us (v ∷ vs) i h = absurd (omega arith)
+overlay-front (x ∷ xs) us [] i h = absurd (omega arith)
+overlay-front (x ∷ xs) us (v ∷ vs) i h = ap (λ j. set j x v) (overlay-front xs us vs i (omega arith))
+
+-- the first n usable addresses from a on, none of which is skipped
+module _ (t : List ℕ) (a n e : ℕ) (room : n ≤ e - a) (free : none_skipped t a n ≡ true) where
+  first : from t a e ≡ run a n ++ from t (a + n) e
+  first =
+      let d : e - a ≡ n + (e - (a + n)) = omega arith in
+      ap (unskipped t a) d ∙ unskipped-run t a n (e - (a + n)) free
+
+  pub overlay_free : (vs i : List ℕ) → length vs ≡ n → overlay (from t a e) vs i ≡ sets i a vs
+  overlay_free vs i l =
+      ap (λ us. overlay us vs i) first
+      ∙ overlay-front (run a n) (from t (a + n) e) vs i (length_run n a ∙ sym l)
+      ∙ ap (λ n. overlay (run a n) vs i) (sym l)
+      ∙ overlay-run vs i a
+
+  pub drop_free : drop n (from t a e) ≡ from t (a + n) e
+  drop_free =
+      ap (drop n) first
+      ∙ ap (λ k. drop k (run a n ++ from t (a + n) e)) (sym (length_run n a))
+      ∙ drop-append_seam (run a n) (from t (a + n) e)

@@ -8,7 +8,7 @@ ghost use Rattle.tlv.specs.Views.Table.{unskipped};
 ghost use Rattle.tlv.specs.Views.Walks.{ahead, Within, Along};
 ghost use Rattle.tlv_value.specs.Views.Values.{measured, value_as, ValueRoom};
 
-use tag::Address;
+use tag::{Address, slices};
 use tlv::table;
 use tlv::walk::Walk;
 
@@ -86,6 +86,13 @@ pub fn set_bytes(walk: Walk, bytes: &[u8], table: &[u16], image: &mut [u8]) -> W
     ensures past { ahead table.now result ≡ drop (length bytes.now) (ahead table.now walk) }
     ensures placed { Along table.now walk result }
 {
+    let n = bytes.len();
+    // Mostly nothing is skipped on the way, and the bytes lie one after another: with one store for each address, writing 1,000 of them
+    // took three times as long.
+    if n <= walk.end.0 - walk.at.0 && walk.is_free(n, table) {
+        slices::store(bytes, walk.at.0, image);
+        return walk.moved_to(Address(walk.at.0 + n));
+    }
     let mut at = table::next_usable(table, walk.at, walk.end);
     // Tried, and slower: through `Walk::take_byte`, 2.27 µs for a message of 1,000 bytes in place of 1.73 µs (D53).
     for byte in bytes {

@@ -1,13 +1,30 @@
-use Rattle.std.proofs.Common.{◌≡◌, sym, ap, ◌∙◌, [], ◌∷◌, ◌+◌, ◌-◌, drop, length, arith, rules}
+use Rattle.std.proofs.Common.{◌≡◌, refl, sym, ap, ◌∙◌, [], ◌∷◌, ◌+◌, ◌-◌, drop, length, arith, rules}
 use lib.ListN.{drop_of_length-le}
 use lib.Seq.{drop-nil}
 use Rattle.tag.specs.Bytes.{overlay}
 use Rattle.tlv.proofs.Usable.{from, from-above, from_next, from_end}
-use Rattle.tlv_value.proofs.Overlays.{overlay-none, overlay-next}
+use Rattle.tlv_value.proofs.Overlays.{overlay-none, overlay-next, overlay_free, drop_free}
 use Rattle.tlv.proofs.Steps.{moved}
 use Rattle.tlv.proofs.Turns.{drop-next}
 use Rattle.tlv_value.proofs.value.set_bytes.Goals.{else-loop-byte-test, then-loop-byte-test+then-eq}
 use Rattle.tlv_value.proofs.value.set_bytes.Goals as goal
+
+-- nothing is skipped on the way
+pub returns-then-is_free-clause-sets : goal.returns-then-is_free-clause-sets
+returns-then-is_free-clause-sets c =
+    let a = c.args in
+    c.store.ensures ∙ sym (overlay_free a.table.now a.walk.at.0 (length a.bytes.now) a.walk.end.0 c.if-n-walk.true (sym c.is_free.ensures ∙ c.if-is_free.true) a.bytes.now a.image.now refl)
+
+pub returns-then-is_free-clause-past : goal.returns-then-is_free-clause-past
+returns-then-is_free-clause-past c =
+    let a = c.args in
+    rw (c.moved_to.ensures.0, c.moved_to.ensures.1)
+    (sym (drop_free a.table.now a.walk.at.0 (length a.bytes.now) a.walk.end.0 c.if-n-walk.true (sym c.is_free.ensures ∙ c.if-is_free.true)))
+
+pub returns-then-is_free-clause-placed : goal.returns-then-is_free-clause-placed
+returns-then-is_free-clause-placed c =
+    let e = c.moved_to.ensures in
+    moved c.requires.1 (omega (arith, e.0)) (omega (arith, c.requires.1.ordered, c.if-n-walk.true, e.0, e.1)) e.1 e.2
 
 pub loop-byte-preserved : goal.loop-byte-preserved
 loop-byte-preserved c =
@@ -65,7 +82,7 @@ returns-clause-past c =
           let u : from t l.at.0 e ≡ [] = from_end t l.at.0 e (omega arith) in
           rw u (drop-nil (n - l.byte-index))
     ] in
-    rw (c.moved_to.ensures.0, c.moved_to.ensures.1) (sym rest ∙ l.invariant.past ∙ ap (drop n) (sym c.next_usable-at.ensures.left))
+    rw (c.moved_to-2.ensures.0, c.moved_to-2.ensures.1) (sym rest ∙ l.invariant.past ∙ ap (drop n) (sym c.next_usable-at.ensures.left))
 
 pub returns-clause-placed : goal.returns-clause-placed
-returns-clause-placed c = moved c.requires.1 (omega (arith, c.loop-byte.invariant.farther, c.moved_to.ensures.0)) (omega (arith, c.loop-byte.invariant.here.within, c.moved_to.ensures.0, c.moved_to.ensures.1)) c.moved_to.ensures.1 c.moved_to.ensures.2
+returns-clause-placed c = moved c.requires.1 (omega (arith, c.loop-byte.invariant.farther, c.moved_to-2.ensures.0)) (omega (arith, c.loop-byte.invariant.here.within, c.moved_to-2.ensures.0, c.moved_to-2.ensures.1)) c.moved_to-2.ensures.1 c.moved_to-2.ensures.2

@@ -1,13 +1,10 @@
-use Rattle.std.proofs.Common.{◌≡◌, true, [], ◌∷◌, suc, ◌+◌, ◌-◌, ◌≤◌, sym, ap, subst, ◌∙◌, length, get_or, arith, rules}
+use Rattle.std.proofs.Common.{◌≡◌, true, [], ◌∷◌, suc, ◌+◌, ◌-◌, ◌≤◌, sym, ap, ◌∙◌, length, get_or, arith, rules}
 use lib.ListN.{get_or-eq_default}
 use Rattle.tlv.specs.Views.Table.{none_skipped}
 use Rattle.tlv.specs.Views.Walks.{ahead}
-use Rattle.tlv.specs.Views.Counted.{TableOf}
 use Rattle.tlv.proofs.Skipping.{unskipped-few, unskipped-nth}
-use Rattle.tlv.proofs.Counted.{none-nth}
 use Rattle.tlv.proofs.Usable.{from, from_next, from_end, from_here}
 use Rattle.tlv.proofs.Turns.{get_or-next}
-use Rattle.tlv.proofs.walk.Walk.nth.Goals.{then-self-eq0-via-then-self-eq0, then-self-eq0-via-else-self-eq0+then-none_skipped}
 use Rattle.tlv.proofs.walk.Walk.nth.Goals as goal
 
 pub returns-then-self-k-clause-is : goal.returns-then-self-k-clause-is
@@ -16,22 +13,16 @@ returns-then-self-k-clause-is c =
     let few : length (ahead a.table.now a.self) ≤ a.self.end.0 - a.self.at.0 = unskipped-few a.table.now a.self.at.0 (a.self.end.0 - a.self.at.0) in
     sym (get_or-eq_default (ahead a.table.now a.self) a.self.end.0 (omega (arith, few)))
 
--- no area is declared, or none that skips an address on the way
-pub returns-then-self-eq0-clause-is : goal.returns-then-self-eq0-clause-is
-returns-then-self-eq0-clause-is c =
+-- nothing is skipped on the way
+pub returns-then-is_free-clause-is : goal.returns-then-is_free-clause-is
+returns-then-is_free-clause-is c =
     let a = c.args in
     let t = a.table.now in
     let w = a.self in
-    elim c.then-self-eq0.branch [
-      | then-self-eq0-via-then-self-eq0 b ↦
-          let none = subst (λ n. TableOf w.end.0 n t) b.if-self-eq0.true c.requires.declared in
-          sym (none-nth w.end.0 t none w.at.0 (w.end.0 - w.at.0) a.k w.end.0 (omega arith))
-      | then-self-eq0-via-else-self-eq0+then-none_skipped b ↦
-          let s : w.at.0 + a.k + 1 - w.at.0 ≡ suc a.k = omega arith in
-          let free : none_skipped t w.at.0 (suc a.k) ≡ true
-          = ap (none_skipped t w.at.0) (sym s) ∙ sym b.none_skipped.ensures ∙ b.if-none_skipped.true in
-          sym (unskipped-nth t w.at.0 a.k (w.end.0 - w.at.0) w.end.0 (omega arith) free)
-    ]
+    let s : a.k + 1 ≡ suc a.k = omega arith in
+    let free : none_skipped t w.at.0 (suc a.k) ≡ true
+    = ap (none_skipped t w.at.0) (sym s) ∙ sym c.is_free.ensures ∙ c.if-is_free.true in
+    sym (unskipped-nth t w.at.0 a.k (w.end.0 - w.at.0) w.end.0 (omega arith) free)
 
 pub returns-then-eq-clause-is : goal.returns-then-eq-clause-is
 returns-then-eq-clause-is c =
