@@ -6,8 +6,9 @@ use mathlib.Core.List.{List}
 use Prim.Native.Nat.{ℕ, zero, suc, ◌+◌, ◌<◌, ◌≤◌}
 use native.Mathlib.Decide.{dec_lt}
 use native.Mathlib.Omega.{arith}
-use lib.ListN.{length}
+use lib.ListN.{length, get_or, replicate, length-replicate}
 use Rattle.tag.specs.Bytes.{byte, run}
+use Rattle.tag.proofs.Runs.{run-nth}
 use Rattle.tlv.specs.Views.Table.{unskipped, none_skipped}
 use Rattle.tlv.specs.Views.Counted.{OneMore, Added, TableOf}
 use Rattle.tlv.proofs.Skipping.{unskipped-all, none-all}
@@ -64,10 +65,25 @@ module _ (first end : ℕ) where
   added-after zero t u a x l = ap (λ s. byte s x) a
   added-after (suc n) t u a x l = one-after a.2 x l ∙ added-after n t a.0 a.1 x l
 
+-- ---- a table that was all zeros
+
+-- before the first area
+pub blank-areas : (end m : ℕ) → TableOf end 0 (replicate m 0)
+blank-areas end m = rw (length-replicate {A = ℕ} m 0) (none-added 0 end (replicate m 0))
+
+-- after more of them
+pub areas-added : (first end n m : ℕ) (t u : List ℕ) → TableOf end n t → Added first end m t u → TableOf end (n + m) u
+areas-added first end n m t u made more =
+    let all : Added 0 end m t u = added-from end m t u (omega arith) more in
+    rw (added-length 0 end m t u all) (added_more 0 end n m (replicate (length t) 0) t u made all)
+
 -- with no area declared nothing is skipped
 pub none-declared : (end : ℕ) (t : List ℕ) → TableOf end 0 t → (a n : ℕ) → unskipped t a n ≡ run a n
 unfolding Added
 none-declared end t none a n = ap (λ s. unskipped s a n) none ∙ unskipped-all (length t) a n
+
+pub none-nth : (end : ℕ) (t : List ℕ) → TableOf end 0 t → (a n k d : ℕ) → k < n → get_or (unskipped t a n) k d ≡ a + k
+none-nth end t none a n k d l = ap (λ us. get_or us k d) (none-declared end t none a n) ∙ run-nth n a k d l
 
 pub none_free : (end : ℕ) (t : List ℕ) → TableOf end 0 t → (a n : ℕ) → none_skipped t a n ≡ true
 unfolding Added

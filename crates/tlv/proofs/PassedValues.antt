@@ -10,14 +10,14 @@ use lib.ListN.{length, get_or}
 use Rattle.tlv.specs.declared.walk.Walk.{Walk}
 use Rattle.tag.specs.Refusals.{bad_length}
 use Rattle.tlv.specs.Walk.{len, more, stop, pass_value}
-use Rattle.tlv.specs.Views.Walks.{ahead, Within}
+use Rattle.tlv.specs.Views.Walks.{ahead}
 use Rattle.tlv.proofs.Skipping.{unskipped-past}
 use Rattle.tlv.proofs.Usable.{from, ahead-rising}
 use Rattle.tlv.proofs.Rising.{nth_inside, nth-outside}
 
-module _ (t : List ℕ) (w : Walk) (n z : ℕ) (inside : Within t w) (some : 1 ≤ n) (nth : z ≡ get_or (ahead t w) (n - 1) w.end.0) where
+module _ (t : List ℕ) (w : Walk) (n z : ℕ) (ordered : w.at.0 ≤ w.end.0) (some : 1 ≤ n) (nth : z ≡ get_or (ahead t w) (n - 1) w.end.0) where
   pub fewer-ahead : z ≡ w.end.0 → length (ahead t w) < n
-  fewer-ahead q = nth-outside w.end.0 n (ahead t w) (ahead-rising t w inside.ordered) some (sym nth ∙ q)
+  fewer-ahead q = nth-outside w.end.0 n (ahead t w) (ahead-rising t w ordered) some (sym nth ∙ q)
 
   pub enough-ahead : (z ≡ w.end.0 → ⊥) → n ≤ length (ahead t w)
   enough-ahead there = nth_inside w.end.0 n (ahead t w) (λ q. there (nth ∙ q))
@@ -31,7 +31,7 @@ module _ (t : List ℕ) (w : Walk) (n z : ℕ) (inside : Within t w) (some : 1 �
   unfolding pass_value
   passed-past there =
       let h : suc (n - 1) ≡ n = omega arith in
-      let e : w.at.0 + (w.end.0 - w.at.0) ≡ w.end.0 = omega (arith, inside.ordered) in
+      let e : w.at.0 + (w.end.0 - w.at.0) ≡ w.end.0 = omega (arith, ordered) in
       let p : n - 1 < length (ahead t w) = omega (arith, enough-ahead there) in
       rw (le-leb n (length (ahead t w)) (enough-ahead there), nth)
       (ap more (rw (e, h) at (unskipped-past t w.at.0 (n - 1) (w.end.0 - w.at.0) w.end.0 p)))

@@ -2,16 +2,20 @@
 -- Assumes nothing.
 use mathlib.Core.Path.{◌≡◌, refl, ◌∙◌}
 use mathlib.Core.List.{List}
-use Prim.Native.Nat.{ℕ, suc, ◌+◌, ◌<◌, ◌≤◌}
+use Prim.Native.Nat.{ℕ, ◌+◌, ◌<◌, ◌≤◌}
 use native.Mathlib.Omega.{arith}
-use lib.ListN.{length, replicate}
+use lib.ListN.{length}
 use Rattle.std.specs.Prelude.{Result, Ok, Err}
 use Rattle.tag.specs.declared.refusals.Refusal.{Refusal}
 use Rattle.tlv.specs.declared.walk.Walk.{Walk}
-use Rattle.tlv.specs.Views.Counted.{OneMore}
+use Rattle.tlv.specs.Views.Counted.{OneMore, Added, TableOf}
 use Rattle.tlv.specs.Views.Passing.{PassedPlaced}
-use Rattle.tlv.specs.Views.Walks.{Within, Onward, Along}
-use Rattle.tlv.proofs.Counted.{none-added, one-added, one_from, added-from, added_more}
+use Rattle.tlv.specs.Views.Walks.{Within, InTable, Moved, Onward, Along}
+use Rattle.tlv.proofs.Counted.{none-added, one-added, added-from, added_more, areas-added}
+
+-- the table stays that of as many areas as the walk counts
+pub counted-on : (s t : List ℕ) (n : ℕ) (v w : Walk) → w.end.0 ≡ v.end.0 → w.areas ≡ v.areas + n → Added v.at.0 v.end.0 n s t → TableOf v.end.0 v.areas s → TableOf w.end.0 w.areas t
+counted-on s t n v w e counted added made = rw (e, counted) (areas-added v.at.0 v.end.0 v.areas n s t made added)
 
 -- no step
 pub stay : {t : List ℕ} {w : Walk} → Within t w → Along t w w
@@ -27,6 +31,16 @@ moved {t} {v} p l o e n = record {
   added = none-added v.at.0 v.end.0 t;
 }
 
+-- the same, with what is said of any table
+pub moved_on : {t : List ℕ} {v w : Walk} → Within t v → Moved v w → Along t v w
+moved_on p m = moved p m.farther m.ordered m.same_end m.same_areas
+
+pub stays-in_table : {t : List ℕ} {v w : Walk} → InTable t v → Moved v w → InTable t w
+stays-in_table p m = record { ordered = m.ordered; in_table = omega (arith, p.in_table, m.same_end); made = p.made }
+
+pub within-in_table : {t : List ℕ} {w : Walk} → Within t w → InTable t w
+within-in_table {t} {w} p = record { ordered = p.ordered; in_table = p.in_table; made = (w.end.0, (w.areas, p.declared)) }
+
 -- one area declared
 pub declared-one : {t u : List ℕ} {v w : Walk} → Within t v → v.areas < v.at.0 → OneMore v.at.0 v.end.0 t u → w.at.0 ≡ v.at.0 → w.end.0 ≡ v.end.0 → w.areas ≡ v.areas + 1 → Onward t u 1 v w
 declared-one {t} {u} {v} {w} p l o a e n = record {
@@ -35,19 +49,19 @@ declared-one {t} {u} {v} {w} p l o a e n = record {
     in_table = omega (arith, p.in_table, size);
     short = omega (arith, p.short, size);
     few = omega arith;
-    declared = rw (e, more, size) (one-added v.areas (replicate (length t) 0) p.declared (one_from (omega arith) o));
+    declared = counted-on t u 1 v w e n one p.declared;
   };
   farther = omega arith;
   same_end = e;
   counted = n;
-  added = one-added 0 t (none-added v.at.0 v.end.0 t) o;
+  added = one;
 }
   where
     size : length u ≡ length t
     size = o.skips.same_length
 
-    more : w.areas ≡ suc v.areas
-    more = omega arith
+    one : Added v.at.0 v.end.0 1 t u
+    one = one-added 0 t (none-added v.at.0 v.end.0 t) o
 
 -- two steps
 pub onward : {s t x : List ℕ} {n m : ℕ} {u v w : Walk} → Onward s t n u v → Onward t x m v w → Onward s x (n + m) u w

@@ -2,8 +2,8 @@
 
 ghost use Rattle.std.specs.Prelude.{◌≡◌, ◌≤◌, length};
 ghost use Rattle.tlv.specs.Walk.{len, long_of, length_of, pass_value};
-ghost use Rattle.tlv.specs.Views.Walks.{ahead, Within};
-ghost use Rattle.tlv.specs.Views.Passing.{field_as, FieldPlaced, passed_as, PassedPlaced};
+ghost use Rattle.tlv.specs.Views.Walks.{ahead, Within, InTable};
+ghost use Rattle.tlv.specs.Views.Passing.{field_as, FieldMoved, FieldPlaced, passed_as, PassedPlaced};
 
 use crate::walk::Walk;
 use tag::{Address, Refusal};
@@ -12,9 +12,10 @@ impl Walk {
     // The number in the two bytes after FFh, high first: 255 to 65,534. And the walk past them.
     #[tactic(auto, unfolding(crate::specs::Walk::long_by))]
     fn take_long(self, image: &[u8], table: &[u16]) -> Option<(usize, Walk)>
-        requires { (self.end.0 ≤ length image.now) × Within table.now self }
+        requires { (self.end.0 ≤ length image.now) × InTable table.now self }
         ensures is { field_as table.now result ≡ long_of image.now (ahead table.now self) }
-        ensures placed { FieldPlaced table.now self result }
+        ensures moved { FieldMoved self result }
+        ensures placed { Within table.now self → FieldPlaced table.now self result }
     {
         let (high, _, walk) = self.take_byte(image, table)?;
         let (low, _, walk) = walk.take_byte(image, table)?;
@@ -28,9 +29,10 @@ impl Walk {
     // The number in a length field, one byte 00h to FEh or three, and the walk past it. None: a bad field.
     #[tactic(auto, unfolding(crate::specs::Walk::length_by))]
     pub fn take_length(self, image: &[u8], table: &[u16]) -> Option<(usize, Walk)>
-        requires { (self.end.0 ≤ length image.now) × Within table.now self }
+        requires { (self.end.0 ≤ length image.now) × InTable table.now self }
         ensures is { field_as table.now result ≡ length_of image.now (ahead table.now self) }
-        ensures placed { FieldPlaced table.now self result }
+        ensures moved { FieldMoved self result }
+        ensures placed { Within table.now self → FieldPlaced table.now self result }
     {
         let (byte, _, walk) = self.take_byte(image, table)?;
         if byte == 0xFF {

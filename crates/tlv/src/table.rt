@@ -4,7 +4,7 @@
 ghost use Rattle.std.specs.Prelude.{◌≡◌, ℕ, ◌+◌, ◌-◌, ◌<◌, ◌≤◌, length, get_or};
 ghost use Rattle.tlv.specs.Views.Table.{unskipped, none_skipped};
 ghost use Rattle.tlv.specs.Views.Areas.{SkipsSet};
-ghost use Rattle.tlv.specs.Views.Counted.{TableOf, TableOfAreas};
+ghost use Rattle.tlv.specs.Views.Counted.{TableOf, MadeByAreas};
 ghost use Rattle.tlv.specs.Views.Search.{tests};
 
 use tag::Address;
@@ -21,7 +21,7 @@ pub struct Searched {
 // whole area at once. The ends that it meets rise, so no area serves twice: it tests at most one address more than areas were declared.
 // `end` stands for none: a caller moves its walk there too, so each would undo an Option.
 pub fn search(table: &[u16], at: Address, end: Address) -> Searched
-    requires { (at.0 ≤ end.0) × (end.0 ≤ length table.now) × TableOfAreas end.0 table.now }
+    requires { (at.0 ≤ end.0) × (end.0 ≤ length table.now) × MadeByAreas table.now }
     ensures within { (at.0 ≤ result.address.0) × (result.address.0 ≤ end.0) }
     ensures left { unskipped table.now at.0 (end.0 - at.0) ≡ unskipped table.now result.address.0 (end.0 - result.address.0) }
     ensures free { result.address.0 < end.0 → get_or table.now result.address.0 0 ≡ 0 }
@@ -50,7 +50,7 @@ pub fn search(table: &[u16], at: Address, end: Address) -> Searched
 // The same without the count, for callers that need the address alone.
 // `end` stands for none, as in `search`.
 pub fn next_usable(table: &[u16], at: Address, end: Address) -> Address
-    requires { (at.0 ≤ end.0) × (end.0 ≤ length table.now) × TableOfAreas end.0 table.now }
+    requires { (at.0 ≤ end.0) × (end.0 ≤ length table.now) × MadeByAreas table.now }
     ensures within { (at.0 ≤ result.0) × (result.0 ≤ end.0) }
     ensures left { unskipped table.now at.0 (end.0 - at.0) ≡ unskipped table.now result.0 (end.0 - result.0) }
     ensures free { result.0 < end.0 → get_or table.now result.0 0 ≡ 0 }

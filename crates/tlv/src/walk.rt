@@ -19,7 +19,7 @@ pub struct Walk {
 
 impl Walk {
     ghost use Rattle.tlv.specs.Views.Table.{none_skipped};
-    ghost use Rattle.tlv.specs.Views.Walks.{ahead, Within, taken_as, TakenPlaced};
+    ghost use Rattle.tlv.specs.Views.Walks.{ahead, Within, InTable, taken_as, TakenMoved, TakenPlaced};
 
     // The walk over the data area from `first` up to `end`, before its first byte.
     pub fn new(first: Address, end: Address) -> Walk
@@ -42,9 +42,10 @@ impl Walk {
 
     // The next usable byte: its value, its address, and the walk past it; or none is left.
     pub(crate) fn take_byte(self, image: &[u8], table: &[u16]) -> Option<(u8, Address, Walk)>
-        requires { (self.end.0 ≤ length image.now) × Within table.now self }
+        requires { (self.end.0 ≤ length image.now) × InTable table.now self }
         ensures is { taken_as table.now result ≡ take_byte image.now (ahead table.now self) }
-        ensures placed { TakenPlaced table.now self result }
+        ensures moved { TakenMoved self result }
+        ensures placed { Within table.now self → TakenPlaced table.now self result }
     {
         let place = table::next_usable(table, self.at, self.end);
         if place == self.end {

@@ -15,17 +15,17 @@ use Rattle.tag.proofs.Keeping.{equal-same, equal-none, equal-split, outside-diff
 use Rattle.tag.proofs.Logic.{and_l, and_r}
 use Rattle.tlv.specs.declared.walk.Walk.{Walk}
 use Rattle.tlv.specs.Views.Table.{none_skipped, usable_in}
-use Rattle.tlv.specs.Views.Walks.{ahead, Within}
+use Rattle.tlv.specs.Views.Walks.{ahead}
 use Rattle.tlv.proofs.Usable.{set-usable}
 use Rattle.tlv_tag.specs.declared.extent.Extent.{Extent}
 use Rattle.tlv_tag.specs.Views.Update.{tlv_bytes_length}
 use Rattle.tlv_tag.specs.Views.Kept.{Bounded}
 
 -- the bytes set lie below the usable address that comes after as many others
-pub set_below : (t : List ℕ) (w : Walk) → Within t w → (n k z : ℕ) → k ≡ tlv_bytes_length n → z ≡ get_or (ahead t w) k w.end.0
+pub set_below : (t : List ℕ) (w : Walk) → w.at.0 ≤ w.end.0 → (n k z : ℕ) → k ≡ tlv_bytes_length n → z ≡ get_or (ahead t w) k w.end.0
     → (vs : List ℕ) (a : ℕ) → length vs ≡ tlv_bytes_length n → is_set (ahead t w) vs a ≡ usable_in t w.at.0 z a
-set_below t w p n k z f e vs a l =
-    set-usable t w.at.0 (w.end.0 - w.at.0) w.end.0 (omega (arith, p.ordered)) vs a
+set_below t w ordered n k z f e vs a l =
+    set-usable t w.at.0 (w.end.0 - w.at.0) w.end.0 (omega (arith, ordered)) vs a
     ∙ ap (λ s. usable_in t w.at.0 s a) (ap (λ x. get_or (ahead t w) x w.end.0) (l ∙ sym f) ∙ sym e)
 
 -- if none is skipped, each is usable

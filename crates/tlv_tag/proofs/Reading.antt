@@ -12,7 +12,14 @@ use lib.Seq.{length-take-le}
 use Rattle.tag.specs.Bytes.{byte, consecutive, overwrite}
 use Rattle.tag.specs.Reading.{message, reads, Answer, refusal, answer, answer_of, gathered_into}
 use Rattle.tlv_value.specs.Views.Values.{at, measured}
+use Rattle.tlv.proofs.Steps.{within-in_table}
+use Rattle.tlv_tag.specs.declared.read.Located.{Located}
 use Rattle.tlv_tag.specs.Message.{report_of}
+use Rattle.tlv_tag.specs.Views.Reading.{Placed, ValueHeld}
+
+-- where the table is that of the areas before the message TLV
+pub value-held : {i t : List ℕ} {l : Located} → Placed i t l → ValueHeld i t l
+value-held p = record { in_image = omega (arith, p.in_image, p.same_end); in_table = within-in_table p.value_within; held = p.held }
 
 report-measured : (b : Bool) (c : ℕ) (i us : List ℕ) (n : ℕ) → 1 ≤ n → n ≤ length us
     → report_of b c i (take n us) ≡ record {

@@ -10,7 +10,7 @@ ghost use Rattle.tlv.specs.Walk.{length_of};
 ghost use Rattle.tlv.specs.Views.Walks.{ahead, Within};
 ghost use Rattle.tlv_tag.specs.Message.{locate_by, report_of};
 ghost use Rattle.tlv_tag.specs.Views.BlankArea.{BlankArea};
-ghost use Rattle.tlv_tag.specs.Views.Reading.{area_located, located_as, Held, value_addresses, Placed, LocatedAt, LocatedPlaced};
+ghost use Rattle.tlv_tag.specs.Views.Reading.{area_located, located_as, Held, value_addresses, ValueHeld, LocatedAt, LocatedPlaced};
 
 use tag::{Address, Content, Refusal, Report};
 use tlv::walk::Walk;
@@ -87,7 +87,7 @@ impl Located {
         writable: bool,
         capacity: usize,
     ) -> Result<Report, Refusal>
-        requires { Placed image.now table.now self }
+        requires { ValueHeld image.now table.now self }
         ensures { ReadOf (reads (report_of writable capacity image.now (value_addresses table.now self))) gathered.old result gathered.new }
     {
         let report = Report {

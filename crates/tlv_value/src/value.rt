@@ -5,7 +5,7 @@
 ghost use Rattle.std.specs.Prelude.{◌≡◌, map, ◌-◌, ◌<◌, ◌≤◌, length, take, drop};
 ghost use Rattle.tag.specs.Bytes.{byte, overlay, overwrite};
 ghost use Rattle.tlv.specs.Views.Table.{unskipped};
-ghost use Rattle.tlv.specs.Views.Walks.{ahead, Within, Along};
+ghost use Rattle.tlv.specs.Views.Walks.{ahead, Within, InTable, Along};
 ghost use Rattle.tlv_value.specs.Views.Values.{measured, value_as, ValueRoom};
 
 use tag::{Address, slices};
@@ -65,7 +65,7 @@ pub fn measure(walk: Walk, n: usize, table: &[u16]) -> Option<Value>
 
 // Copies the next `n` usable bytes, or as many as there are, to the front of `out`.
 pub fn gather(walk: Walk, n: usize, image: &[u8], table: &[u16], out: &mut [u8])
-    requires { (walk.end.0 ≤ length image.now) × Within table.now walk × (n ≤ length out.old) }
+    requires { (walk.end.0 ≤ length image.now) × InTable table.now walk × (n ≤ length out.old) }
     ensures { out.new ≡ overwrite (map (byte image.now) (take n (ahead table.now walk))) out.old }
 {
     let mut at = table::next_usable(table, walk.at, walk.end);

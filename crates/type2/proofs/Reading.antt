@@ -14,6 +14,7 @@ use Rattle.tlv.specs.Areas.{allowed_area}
 use Rattle.tlv.specs.Walk.{find}
 use Rattle.tlv_tag.specs.Message.{refuse, located, locate_from, locate_after, locate, capacity_in, report_of, reading_of, reading}
 use Rattle.tlv_tag.specs.Views.Reading.{area_located}
+use Rattle.tlv_tag.proofs.Reading.{value-held}
 use Rattle.type2.specs.Memory.{memory}
 use Rattle.type2.specs.Type2.{type2}
 use Rattle.type2.specs.Views.Container.{Inside}
@@ -43,7 +44,7 @@ pub reading_located : (i : List ℕ) {us ms : List ℕ} → located us ms ≡ lo
 unfolding reading
 reading_located i e = ap (reading_of (memory.writable i) i) (sym e)
 
-pub ruleset by_location = (reading_refused, reading_located)
+pub ruleset by_location = (reading_refused, reading_located, value-held)
 
 -- with the capacity 0
 pub reading_held : (i : List ℕ) {us ms : List ℕ} → located us ms ≡ locate memory i

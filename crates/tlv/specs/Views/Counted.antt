@@ -27,3 +27,7 @@ TableOf end n table = Added 0 end n (replicate (length table) 0) table
 -- a table that areas made, however many
 abbrev pub TableOfAreas : ℕ → List ℕ → Type 0
 TableOfAreas end table = (n : ℕ) × TableOf end n table
+
+-- the same, wherever the data area ends that the areas lie in
+abbrev pub MadeByAreas : List ℕ → Type 0
+MadeByAreas table = (end : ℕ) × TableOfAreas end table

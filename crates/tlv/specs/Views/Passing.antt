@@ -6,13 +6,17 @@ use Rattle.tlv.specs.declared.walk.Walk.{Walk}
 use Rattle.tag.specs.declared.refusals.Refusal.{Refusal}
 use Rattle.tag.specs.Answers.{number_of}
 use Rattle.tlv.specs.Walk.{Length, bad, len, Passed, more, stop}
-use Rattle.tlv.specs.Views.Walks.{ahead, Onward, Along}
+use Rattle.tlv.specs.Views.Walks.{ahead, Moved, Onward, Along}
 
 -- ---- length fields
 
 abbrev pub field_as : List ℕ → Option (ℕ × Walk) → Length
 field_as table None = bad
 field_as table (Some p) = len p.0 (ahead table p.1)
+
+abbrev pub FieldMoved : Walk → Option (ℕ × Walk) → Type 0
+FieldMoved v None = Unit {0}
+FieldMoved v (Some p) = Moved v p.1 × (p.0 ≤ 65534)
 
 abbrev pub FieldPlaced : List ℕ → Walk → Option (ℕ × Walk) → Type 0
 FieldPlaced table v None = Unit {0}

@@ -9,7 +9,7 @@ use Rattle.tag.specs.Answers.{number_of}
 use Rattle.tlv.specs.Areas.{allowed_area}
 use Rattle.tlv.specs.Walk.{find}
 use Rattle.tlv.specs.declared.walk.Walk.{Walk}
-use Rattle.tlv.specs.Views.Walks.{ahead, Within}
+use Rattle.tlv.specs.Views.Walks.{ahead, Within, InTable}
 use Rattle.tlv_value.specs.Views.Values.{at, measured}
 use Rattle.tlv_tag.specs.declared.read.Located as code
 use Rattle.tlv_tag.specs.Message.{Located, refuse, located, locate_from}
@@ -45,6 +45,12 @@ pub record Placed (image table : List ℕ) (l : code.Located) : Type 0 where
   pub value_within : Within table l.value
   pub same_end : l.value.end.0 ≡ l.field.end.0
   pub some_room : 0 < length (ahead table l.field)
+  pub held : Held (ahead table l.value) (size l.content) l.content
+
+-- its value lies inside the image, and inside a table that areas made, and the content is the value's own
+pub record ValueHeld (image table : List ℕ) (l : code.Located) : Type 0 where
+  pub in_image : l.value.end.0 ≤ length image
+  pub in_table : InTable table l.value
   pub held : Held (ahead table l.value) (size l.content) l.content
 
 -- the walk past its type byte is w

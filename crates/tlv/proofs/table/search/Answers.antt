@@ -33,7 +33,7 @@ returns-then-entry-eq0-clause-few c = λ n made. omega (arith, c.loop-a.invarian
 pub loop-a-smaller : goal.loop-a-smaller
 loop-a-smaller c =
     let made = c.requires.2 in
-    let L = leading c.args.end.0 made.0 c.args.table.now made.1 in
+    let L = leading made.0 made.1.0 c.args.table.now made.1.1 in
     omega (arith, L.on c.loop-a.a (omega arith), c.from-a.ensures)
 
 pub loop-a-preserved : goal.loop-a-preserved
@@ -43,7 +43,7 @@ loop-a-preserved c =
     let e = a.end.0 in
     let l = c.loop-a in
     let made = c.requires.2 in
-    let L = leading e made.0 t made.1 in
+    let L = leading made.0 made.1.0 t made.1.1 in
     let skipped : 0 < byte t l.a = omega arith in
     let on : l.a < byte t l.a = L.on l.a skipped in
     let f : e - a.at.0 - l.tested ≡ suc (e - a.at.0 - (l.tested + 1)) = omega arith in

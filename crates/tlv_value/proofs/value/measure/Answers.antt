@@ -6,11 +6,11 @@ use Rattle.tlv_value.proofs.value.measure.Goals as goal
 
 pub returns-then-eq-clause-is : goal.returns-then-eq-clause-is
 returns-then-eq-clause-is c =
-    measured-short c.args.table.now c.args.walk c.args.n c.nth-last.result.0 c.requires.1 c.requires.0 c.nth-last.ensures.is (search rules)
+    measured-short c.args.table.now c.args.walk c.args.n c.nth-last.result.0 c.requires.1.ordered c.requires.0 c.nth-last.ensures.is (search rules)
 
 pub returns-then-eq-clause-room : goal.returns-then-eq-clause-room
 returns-then-eq-clause-room c =
-    fewer-ahead c.args.table.now c.args.walk c.args.n c.nth-last.result.0 c.requires.1 c.requires.0 c.nth-last.ensures.is (search rules)
+    fewer-ahead c.args.table.now c.args.walk c.args.n c.nth-last.result.0 c.requires.1.ordered c.requires.0 c.nth-last.ensures.is (search rules)
 
 pub overflow_add-result : goal.overflow_add-result
 overflow_add-result c =
@@ -18,7 +18,7 @@ overflow_add-result c =
     let z = c.nth-last in
     let f = c.next_usable-address in
     let p : At a.table.now f.result.0 a.walk.end.0 = record { within = omega arith; free = f.ensures.free } in
-    omega (arith, measured-spread a.table.now a.walk a.n z.result.0 c.requires.1 c.requires.0 z.ensures.is f.result.0 (search rules) p f.ensures.left)
+    omega (arith, measured-spread a.table.now a.walk a.n z.result.0 c.requires.1.ordered c.requires.0 z.ensures.is f.result.0 (search rules) p f.ensures.left)
 
 pub returns-clause-is : goal.returns-clause-is
 returns-clause-is c =
@@ -26,4 +26,4 @@ returns-clause-is c =
     let z = c.nth-last in
     let f = c.next_usable-address in
     let p : At a.table.now f.result.0 a.walk.end.0 = record { within = omega arith; free = f.ensures.free } in
-    measured-at a.table.now a.walk a.n z.result.0 c.requires.1 c.requires.0 z.ensures.is f.result.0 (search rules) p f.ensures.left
+    measured-at a.table.now a.walk a.n z.result.0 c.requires.1.ordered c.requires.0 z.ensures.is f.result.0 (search rules) p f.ensures.left

@@ -40,7 +40,7 @@ overflow_add-at c = let apart : (c.loop.at.0 ≡ c.args.self.end.0 → ⊥) = se
 pub next_usable-at-requires-in-loop : goal.next_usable-at-requires-in-loop
 next_usable-at-requires-in-loop c =
     let apart : (c.loop.at.0 ≡ c.args.self.end.0 → ⊥) = search rules in
-    (omega (arith, c.loop.invariant.here.within), c.requires.in_table, (_, c.requires.declared))
+    (omega (arith, c.loop.invariant.here.within), c.requires.in_table, (_, (_, c.requires.declared)))
 
 pub loop-preserved : goal.loop-preserved
 loop-preserved c =

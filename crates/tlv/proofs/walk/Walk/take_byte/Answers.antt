@@ -2,7 +2,7 @@ use Rattle.std.proofs.Common.{◌≡◌, ◌∷◌, ◌+◌, ◌-◌, sym, ap, �
 use Rattle.tlv.specs.Walk.{take_byte}
 use Rattle.tlv.specs.Views.Table.{unskipped}
 use Rattle.tlv.proofs.Skipping.{unskipped-take, unskipped-end}
-use Rattle.tlv.proofs.Steps.{moved}
+use Rattle.tlv.proofs.Steps.{moved_on}
 use Rattle.tlv.proofs.walk.Walk.take_byte.Goals as goal
 
 pub returns-then-eq-clause-is : goal.returns-then-eq-clause-is
@@ -26,9 +26,13 @@ returns-clause-is c =
     ∙ ap (λ n. f ∷ unskipped t (f + 1) n) k in
     rw (c.moved_to.ensures.0, c.moved_to.ensures.1) (sym (ap (take_byte a.image.now) u))
 
-pub returns-clause-placed : goal.returns-clause-placed
-returns-clause-placed c =
+pub returns-clause-moved : goal.returns-clause-moved
+returns-clause-moved c =
     let f = c.next_usable-place.result.0 in
     let e = c.args.self.end.0 in
     let apart : (f ≡ e → ⊥) = search rules in
-    (moved c.requires.1 (omega (arith, c.moved_to.ensures.0)) (omega (arith, c.moved_to.ensures.0, c.moved_to.ensures.1)) c.moved_to.ensures.1 c.moved_to.ensures.2, omega arith, omega (arith, c.moved_to.ensures.0))
+    let m = c.moved_to.ensures in
+    (record { farther = omega (arith, m.0); ordered = omega (arith, m.0, m.1); same_end = m.1; same_areas = m.2 }, omega arith, omega (arith, m.0))
+
+pub returns-clause-placed : goal.returns-clause-placed
+returns-clause-placed c = λ inside. let m = returns-clause-moved c in (moved_on inside m.0, m.1, m.2)
