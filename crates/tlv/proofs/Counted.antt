@@ -31,6 +31,14 @@ unfolding Added
 added-from end zero t u l a = a
 added-from end (suc n) t u l a = (a.0, added-from end n t a.0 l a.1, one_from l a.2)
 
+pub one_until : {first end high : ℕ} {t u : List ℕ} → end ≤ high → OneMore first end t u → OneMore first high t u
+one_until l o = record { from = o.from; to = o.to; late = o.late; inside = omega (arith, o.inside); skips = o.skips }
+
+pub added-until : {end high : ℕ} (first n : ℕ) (t u : List ℕ) → end ≤ high → Added first end n t u → Added first high n t u
+unfolding Added
+added-until first zero t u l a = a
+added-until first (suc n) t u l a = (a.0, added-until first n t a.0 l a.1, one_until l a.2)
+
 module _ (first end : ℕ) where
   -- ---- more areas after the first ones
 

@@ -9,4 +9,6 @@ pub mod kept;
 pub mod prepare;
 pub mod read;
 pub mod space;
+#[cfg(test)]
+mod tests;
 mod update;
