@@ -1,7 +1,8 @@
 // The walk over the TLVs of a data area. Each method takes the place reached by value and hands it back moved on.
 //
 // Image and table are arguments: each step copies a `Walk`, and a table that is written can't be a field of it.
-// Which table goes with the walk is a clause, `Within`: the table changes, and the walk is copied.
+// Which table goes with the walk is a clause, `Within`, or `InTable` where it does not matter how many areas the walk has counted: the
+// table changes, and the walk is copied.
 
 ghost use Rattle.std.specs.Prelude.{◌≡◌, ◌-◌, ◌≤◌, length, get_or};
 ghost use Rattle.tlv.specs.Walk.{take_byte};

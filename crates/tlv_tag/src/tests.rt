@@ -73,7 +73,7 @@ fn value_by_any_count(rt: HostRuntime) -> Result<(), Fail> {
     Ok(())
 }
 
-// Its three bytes lie on both sides of the area.
+// The three bytes of the length lie on both sides of the area.
 #[test]
 fn long_length_by_any_count(rt: HostRuntime) -> Result<(), Fail> {
     let mut image = [0; 320];
