@@ -23,21 +23,20 @@ one-added n t {first} {end} {s} {u} a o = (s, a, o)
 
 -- ---- the addresses that count
 
+pub one_wider : {first low end high : ℕ} {t u : List ℕ} → low ≤ first → end ≤ high → OneMore first end t u → OneMore low high t u
+one_wider l h o = record { from = o.from; to = o.to; late = omega (arith, o.late); inside = omega (arith, o.inside); skips = o.skips }
+
+pub added-wider : {first low end high : ℕ} (n : ℕ) (t u : List ℕ) → low ≤ first → end ≤ high → Added first end n t u → Added low high n t u
+unfolding Added
+added-wider zero t u l h a = a
+added-wider (suc n) t u l h a = (a.0, added-wider n t a.0 l h a.1, one_wider l h a.2)
+
+-- the end stays
 pub one_from : {first low end : ℕ} {t u : List ℕ} → low ≤ first → OneMore first end t u → OneMore low end t u
-one_from l o = record { from = o.from; to = o.to; late = omega (arith, o.late); inside = o.inside; skips = o.skips }
+one_from l o = one_wider l (omega arith) o
 
 pub added-from : {first low : ℕ} (end n : ℕ) (t u : List ℕ) → low ≤ first → Added first end n t u → Added low end n t u
-unfolding Added
-added-from end zero t u l a = a
-added-from end (suc n) t u l a = (a.0, added-from end n t a.0 l a.1, one_from l a.2)
-
-pub one_until : {first end high : ℕ} {t u : List ℕ} → end ≤ high → OneMore first end t u → OneMore first high t u
-one_until l o = record { from = o.from; to = o.to; late = o.late; inside = omega (arith, o.inside); skips = o.skips }
-
-pub added-until : {end high : ℕ} (first n : ℕ) (t u : List ℕ) → end ≤ high → Added first end n t u → Added first high n t u
-unfolding Added
-added-until first zero t u l a = a
-added-until first (suc n) t u l a = (a.0, added-until first n t a.0 l a.1, one_until l a.2)
+added-from end n t u l a = added-wider n t u l (omega arith) a
 
 module _ (first end : ℕ) where
   -- ---- more areas after the first ones

@@ -15,12 +15,12 @@ use Rattle.tlv.proofs.Skipping.{unskipped-past}
 use Rattle.tlv.proofs.Usable.{from, ahead-rising}
 use Rattle.tlv.proofs.Rising.{nth_inside, nth-outside}
 
+pub enough-ahead : (t : List ℕ) (w : Walk) (n z : ℕ) → z ≡ get_or (ahead t w) (n - 1) w.end.0 → (z ≡ w.end.0 → ⊥) → n ≤ length (ahead t w)
+enough-ahead t w n z nth there = nth_inside w.end.0 n (ahead t w) (λ q. there (nth ∙ q))
+
 module _ (t : List ℕ) (w : Walk) (n z : ℕ) (ordered : w.at.0 ≤ w.end.0) (some : 1 ≤ n) (nth : z ≡ get_or (ahead t w) (n - 1) w.end.0) where
   pub fewer-ahead : z ≡ w.end.0 → length (ahead t w) < n
   fewer-ahead q = nth-outside w.end.0 n (ahead t w) (ahead-rising t w ordered) some (sym nth ∙ q)
-
-  pub enough-ahead : (z ≡ w.end.0 → ⊥) → n ≤ length (ahead t w)
-  enough-ahead there = nth_inside w.end.0 n (ahead t w) (λ q. there (nth ∙ q))
 
   -- the value passed over
   pub passed-short : z ≡ w.end.0 → stop bad_length ≡ pass_value (len n (ahead t w))
@@ -32,6 +32,7 @@ module _ (t : List ℕ) (w : Walk) (n z : ℕ) (ordered : w.at.0 ≤ w.end.0) (s
   passed-past there =
       let h : suc (n - 1) ≡ n = omega arith in
       let e : w.at.0 + (w.end.0 - w.at.0) ≡ w.end.0 = omega (arith, ordered) in
-      let p : n - 1 < length (ahead t w) = omega (arith, enough-ahead there) in
-      rw (le-leb n (length (ahead t w)) (enough-ahead there), nth)
+      let enough : n ≤ length (ahead t w) = enough-ahead t w n z nth there in
+      let p : n - 1 < length (ahead t w) = omega arith in
+      rw (le-leb n (length (ahead t w)) enough, nth)
       (ap more (rw (e, h) at (unskipped-past t w.at.0 (n - 1) (w.end.0 - w.at.0) w.end.0 p)))

@@ -31,13 +31,11 @@ moved {t} {v} p l o e n = record {
   added = none-added v.at.0 v.end.0 t;
 }
 
--- the same, with what is said of any table
+-- the same, from what is known of a step whatever the walk counts
 pub moved_on : {t : List ℕ} {v w : Walk} → Within t v → Moved v w → Along t v w
 moved_on p m = moved p m.farther m.ordered m.same_end m.same_areas
 
-pub stays-in_table : {t : List ℕ} {v w : Walk} → InTable t v → Moved v w → InTable t w
-stays-in_table p m = record { ordered = m.ordered; in_table = omega (arith, p.in_table, m.same_end); made = p.made }
-
+-- the count left out
 pub within-in_table : {t : List ℕ} {w : Walk} → Within t w → InTable t w
 within-in_table {t} {w} p = record { ordered = p.ordered; in_table = p.in_table; made = (w.end.0, (w.areas, p.declared)) }
 

@@ -22,14 +22,14 @@ module _ (t : List ℕ) (w : Walk) (n z : ℕ) (ordered : w.at.0 ≤ w.end.0) (s
   module _ (f : ℕ) (there : z ≡ w.end.0 → ⊥) (first : At t f w.end.0) (same : ahead t w ≡ from t f w.end.0) where
     measured-first : get_or (ahead t w) 0 0 ≡ f
     measured-first =
-        ap (λ us. get_or us 0 0) same ∙ from_first t f w.end.0 0 first (omega (arith, ap length same, enough-ahead t w n z ordered some nth there))
+        ap (λ us. get_or us 0 0) same ∙ from_first t f w.end.0 0 first (omega (arith, ap length same, enough-ahead t w n z nth there))
 
     pub measured-spread : f + (n - 1) ≤ z
     measured-spread =
-        omega (arith, nth, measured-first, nth-spread w.end.0 n (ahead t w) (ahead-rising t w ordered) some (enough-ahead t w n z ordered some nth there))
+        omega (arith, nth, measured-first, nth-spread w.end.0 n (ahead t w) (ahead-rising t w ordered) some (enough-ahead t w n z nth there))
 
     pub measured-at : at f (ltb (f + (n - 1)) z) ≡ measured n (ahead t w)
     unfolding measured
     measured-at =
-        rw (← measured-first, nth, le-leb n (length (ahead t w)) (enough-ahead t w n z ordered some nth there))
-        (ap (at (get_or (ahead t w) 0 0)) (nth-consecutive w.end.0 n (ahead t w) (ahead-rising t w ordered) some (enough-ahead t w n z ordered some nth there)))
+        rw (← measured-first, nth, le-leb n (length (ahead t w)) (enough-ahead t w n z nth there))
+        (ap (at (get_or (ahead t w) 0 0)) (nth-consecutive w.end.0 n (ahead t w) (ahead-rising t w ordered) some (enough-ahead t w n z nth there)))
